@@ -10,8 +10,7 @@ use Rattle.sctp_tx_queue.specs.Settings.{Changed}
 use Rattle.sctp_tx_outstanding.specs.Item.{Item, is_fast, should_be_retransmitted}
 use Rattle.sctp_tx_outstanding.specs.OutstandingData.{Items}
 use Rattle.sctp_tx_outstanding.specs.Resending.{Resent, size_in, allowance, again_of, fast_turn, queued_turn, turn_of, apply_turn, resent_below}
-use Rattle.sctp_tx.specs.declared.retransmission_queue.windows.Windows.{Windows}
-use Rattle.sctp_tx.specs.Windows.{maybe_exit_fast_recovery, update_rwnd, grown_by, avoidance, is_open}
+use Rattle.sctp_tx.specs.Windows.{Windows, maybe_exit_fast_recovery, update_rwnd, is_open}
 use Rattle.sctp_tx.specs.RetransmissionQueue.{Sender, sender, sender_if, timed_out_sender, grown_if, recovering_if, windows_after}
 use Rattle.sctp_tx.specs.Resent.{may_send_new, resent, resent_fast, resent_by, start_t3_if, start_t3_if_sent, send_fast}
 use Rattle.sctp_tx.specs.ForwardPoints.{abandon_expired, most_of}
@@ -36,16 +35,8 @@ room_stays s t h room = omega (arith, h.mtu, room)
 
 -- ---- windows
 
-avoids : (b : Bool) (sum : ℕ) (w : Windows) → (avoidance b sum w).mtu ≡ w.mtu
-avoids true sum w = refl
-avoids false sum w = refl
-
-grows_by : (b : Bool) (before acked : ℕ) (w : Windows) → (grown_by b before acked w).mtu ≡ w.mtu
-grows_by true before acked w = refl
-grows_by false before acked w = avoids _ _ w
-
 grows_if : (b : Bool) (before acked : ℕ) (w : Windows) → (grown_if b before acked w).mtu ≡ w.mtu
-grows_if true before acked w = grows_by (nat_le w.cwnd w.ssthresh) before acked w
+grows_if true before acked w = refl
 grows_if false before acked w = refl
 
 recovers_if : (b : Bool) (exit : ℕ) (w : Windows) → (recovering_if b exit w).mtu ≡ w.mtu

@@ -12,7 +12,7 @@ use Rattle.sctp_state.specs.Events.{Event, Emitted, SendPacket, OnError, OnStrea
 use Rattle.sctp_tx_queue.specs.SendQueue.{Queue, stream}
 use Rattle.sctp_tx_queue.specs.Settings.{set_priority, set_low_threshold, with_priority, with_threshold}
 use Rattle.sctp_tx_outstanding.specs.OutstandingData.{Items, Outstanding, no_items}
-use Rattle.sctp_tx.specs.declared.retransmission_queue.windows.Windows.{Windows}
+use Rattle.sctp_tx.specs.Windows.{Windows}
 use Rattle.sctp_rx.specs.ReassemblyQueue.{defer, reset}
 use Rattle.proof_protocol.specs.State.{Message, count}
 use Rattle.proof_protocol.specs.Resets.{Epochs}

@@ -8,8 +8,7 @@ use Rattle.sctp_tx_outstanding.specs.OutstandingData.{Outstanding}
 use Rattle.sctp_tx_outstanding.specs.Resending.{Resent, resend, empty_packet}
 use Rattle.sctp_tx_queue.specs.SendQueue.{Streams, Queue}
 use Rattle.sctp_tx_queue.specs.Settings.{Changed}
-use Rattle.sctp_tx.specs.declared.retransmission_queue.windows.Windows.{Windows}
-use Rattle.sctp_tx.specs.Windows.{consume_rwnd}
+use Rattle.sctp_tx.specs.Windows.{Windows, consume_rwnd}
 use Rattle.sctp_tx.specs.RetransmissionQueue.{Sender}
 use Rattle.sctp_tx.specs.Resent.{may_send_new}
 use Rattle.sctp_tx.specs.Sending as fragments

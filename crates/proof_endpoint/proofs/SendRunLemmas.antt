@@ -20,8 +20,7 @@ use Rattle.sctp_tx_outstanding.specs.OutstandingData.{first_sent}
 use Rattle.sctp_tx_outstanding.specs.Resending.{resend, empty_packet}
 use Rattle.sctp_tx_queue.specs.SendQueue.{Queue, expiry_of}
 use Rattle.sctp_tx_queue.specs.Produced.{Turn}
-use Rattle.sctp_tx.specs.declared.retransmission_queue.windows.Windows.{Windows}
-use Rattle.sctp_tx.specs.Windows.{at_first, consume_rwnd}
+use Rattle.sctp_tx.specs.Windows.{Windows, at_first, consume_rwnd}
 use Rattle.sctp_tx.specs.RetransmissionQueue.{Sender}
 use Rattle.sctp_tx.specs.Sending as fragments
 use Rattle.sctp_tx.specs.Sending.{filling, fill, take_turn, timed_filling}

@@ -1,3 +1,4 @@
+pub mod CongestionLemmas
 pub mod FitLemmas
 pub mod FlightLemmas
 pub mod IdleLemmas

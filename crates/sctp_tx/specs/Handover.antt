@@ -5,7 +5,7 @@ use Rattle.sctp_state.specs.Handover.{Transmission}
 use Rattle.sctp_state.specs.Timer.{stop}
 use Rattle.sctp_tx_outstanding.specs.OutstandingData.{Outstanding, waiting_items}
 use Rattle.sctp_tx_outstanding.specs.Handover as items
-use Rattle.sctp_tx.specs.declared.retransmission_queue.windows.Windows.{Windows}
+use Rattle.sctp_tx.specs.Windows.{Windows}
 use Rattle.sctp_tx.specs.RetransmissionQueue.{Sender}
 
 -- ---- what stands in the way: items count where none may be handed over

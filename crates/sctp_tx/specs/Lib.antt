@@ -1,3 +1,4 @@
+pub mod CongestionControl
 pub mod Flight
 pub mod ForwardPoints
 pub mod Handover

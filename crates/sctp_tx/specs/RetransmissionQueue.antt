@@ -9,10 +9,9 @@ use Rattle.sctp_state.specs.declared.timer.BackoffAlgorithm.TheVariants.{Exponen
 use Rattle.sctp_tx_outstanding.specs.OutstandingData.{Outstanding, Items, no_items, next_number, flight_bytes, flight_payload, flight_items}
 use Rattle.sctp_tx_outstanding.specs.Losses.{Step}
 use Rattle.sctp_tx_outstanding.specs.Sack.{receive_sack, acked_bytes, sample}
-use Rattle.sctp_tx.specs.declared.retransmission_queue.windows.Windows.{Windows}
 use Rattle.sctp_tx.specs.declared.retransmission_queue.HandleSackResult as given
 use Rattle.sctp_tx.specs.declared.retransmission_queue.HandleSackResult.TheVariants as results
-use Rattle.sctp_tx.specs.Windows.{at_first, grow, recovering, timed_out, maybe_exit_fast_recovery, is_open, update_rwnd, saturate_u64}
+use Rattle.sctp_tx.specs.Windows.{Windows, at_first, grow, recovering, timed_out, maybe_exit_fast_recovery, is_open, update_rwnd, saturate_u64}
 
 pub record Sender : Type 0 where
   pub outstanding : Outstanding

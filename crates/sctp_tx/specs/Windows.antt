@@ -1,70 +1,71 @@
--- The windows of a sender: how much it may have in flight (RFC 9260 sections 6.1, 7.2). Bytes, but for the exit.
-use Rattle.std.specs.Prelude.{ℕ, ◌+◌, ◌-◌, ◌*◌, ◌/◌, ◌^◌, ◌||◌, nat_le, nat_lt, min, max, Bool, true, false, Option, Some, None}
+-- The windows of a sender: how much it may have in flight (RFC 9260 section 6.1). Bytes, but for the exit.
+use Rattle.std.specs.Prelude.{ℕ, ◌-◌, ◌*◌, ◌||◌, nat_le, nat_lt, min, Bool, true, false, Option}
 use Rattle.sctp_state.specs.Options.{Options}
-use Rattle.sctp_tx.specs.declared.retransmission_queue.windows.Windows.{Windows}
+use Rattle.sctp_tx.specs.declared.retransmission_queue.congestion_control.CongestionControl.{CongestionControl}
+use Rattle.sctp_tx.specs.CongestionControl as control
+pub use Rattle.sctp_tx.specs.CongestionControl.{saturate_u64}
 
--- counts stop at the greatest number of their type
-abbrev pub saturate_u64 : ℕ → ℕ
-saturate_u64 n = min n (2 ^ 64 - 1)
+pub record Windows : Type 0 where
+  pub mtu : ℕ
+  pub least_cwnd : ℕ  -- a loss leaves at least so large a congestion window
+  pub unfragmented_cwnd : ℕ  -- below this congestion window new fragments may be smaller than a packet
+  pub cwnd : ℕ
+  pub ssthresh : ℕ
+  pub rwnd : ℕ  -- what the peer's window has left
+  pub partial_bytes_acked : ℕ
+  pub fast_recovery_exit : Option ℕ
+
+abbrev pub windows_of : CongestionControl → (rwnd unfragmented_cwnd : ℕ) → Windows
+windows_of c rwnd unfragmented_cwnd = record {
+  mtu = c.mtu;
+  least_cwnd = c.least_cwnd;
+  unfragmented_cwnd = unfragmented_cwnd;
+  cwnd = c.cwnd;
+  ssthresh = c.ssthresh;
+  rwnd = rwnd;
+  partial_bytes_acked = c.partial_bytes_acked;
+  fast_recovery_exit = c.fast_recovery_exit;
+}
 
 -- the peer's first a_rwnd is both its window and the threshold
 abbrev pub at_first : Options → ℕ → Windows
-at_first o a_rwnd = record {
-  mtu = o.mtu;
-  least_cwnd = o.cwnd_mtus_min * o.mtu;
-  unfragmented_cwnd = o.avoid_fragmentation_cwnd_mtus * o.mtu;
-  cwnd = o.cwnd_mtus_initial * o.mtu;
-  ssthresh = a_rwnd;
-  rwnd = a_rwnd;
-  partial_bytes_acked = 0;
-  fast_recovery_exit = None;
+at_first o a_rwnd = windows_of (control.at_first o a_rwnd) a_rwnd (o.avoid_fragmentation_cwnd_mtus * o.mtu)
+
+-- ---- congestion control: what it does is stated of its own part
+
+abbrev pub congestion_of : Windows → CongestionControl
+congestion_of w = record {
+  mtu = w.mtu;
+  least_cwnd = w.least_cwnd;
+  cwnd = w.cwnd;
+  ssthresh = w.ssthresh;
+  partial_bytes_acked = w.partial_bytes_acked;
+  fast_recovery_exit = w.fast_recovery_exit;
 }
 
--- ---- growth, where the cumulative TSN moved outside fast recovery; `before` was unacknowledged, `acked` newly is not
-
--- slow start (section 7.2.1): only where the window was in use
-abbrev pub slow_start : (is_used : Bool) → (acked : ℕ) → Windows → ℕ
-slow_start true acked w = saturate_u64 (w.cwnd + min acked w.mtu)
-slow_start false acked w = w.cwnd
-
--- congestion avoidance (section 7.2.2): an mtu for each whole window that is acknowledged
-abbrev pub avoidance : (is_whole : Bool) → (sum : ℕ) → Windows → Windows
-avoidance true sum w = record w { cwnd = saturate_u64 (w.cwnd + w.mtu); partial_bytes_acked = sum - w.cwnd }
-avoidance false sum w = record w { partial_bytes_acked = sum }
-
-abbrev pub grown_by : (is_slow : Bool) → (before acked : ℕ) → Windows → Windows
-grown_by true before acked w = record w { cwnd = slow_start (nat_le w.cwnd (before + w.mtu)) acked w }
-grown_by false before acked w = let sum = saturate_u64 (w.partial_bytes_acked + acked) in avoidance (nat_le w.cwnd sum) sum w
+-- the packet's size and the least window stay
+abbrev pub controlled : (CongestionControl → CongestionControl) → Windows → Windows
+controlled rule w = let c = rule (congestion_of w) in record w {
+  cwnd = c.cwnd;
+  ssthresh = c.ssthresh;
+  partial_bytes_acked = c.partial_bytes_acked;
+  fast_recovery_exit = c.fast_recovery_exit;
+}
 
 abbrev pub grow : (before acked : ℕ) → Windows → Windows
-grow before acked w = grown_by (nat_le w.cwnd w.ssthresh) before acked w
+grow before acked w = controlled (control.grow before acked) w
 
--- ---- losses (section 7.2.3, 7.2.4)
-
-abbrev pub halved_cwnd : Windows → ℕ
-halved_cwnd w = max (w.cwnd / 2) w.least_cwnd
-
--- a third report that an item is missing: until this TSN is acknowledged
 abbrev pub recovering : (exit : ℕ) → Windows → Windows
-recovering exit w = record w { ssthresh = halved_cwnd w; cwnd = halved_cwnd w; fast_recovery_exit = Some exit }
+recovering exit w = controlled (control.recovering exit) w
 
 abbrev pub timed_out : Windows → Windows
-timed_out w = record w { ssthresh = halved_cwnd w; cwnd = w.mtu }
-
--- whether fast recovery is over, or there is none, once all up to this number is acknowledged
-abbrev pub is_over : (cumulative : ℕ) → Option ℕ → Bool
-is_over cumulative None = true
-is_over cumulative (Some exit) = nat_le exit cumulative
+timed_out w = controlled control.timed_out w
 
 abbrev pub is_open : (cumulative : ℕ) → Windows → Bool
-is_open cumulative w = is_over cumulative w.fast_recovery_exit
-
-abbrev pub exit_unless : Bool → Option ℕ → Option ℕ
-exit_unless true exit = None
-exit_unless false exit = exit
+is_open cumulative w = control.is_open cumulative (congestion_of w)
 
 abbrev pub maybe_exit_fast_recovery : (cumulative : ℕ) → Windows → Windows
-maybe_exit_fast_recovery cumulative w = record w { fast_recovery_exit = exit_unless (is_open cumulative w) w.fast_recovery_exit }
+maybe_exit_fast_recovery cumulative w = controlled (control.maybe_exit_fast_recovery cumulative) w
 
 -- ---- the peer's window
 

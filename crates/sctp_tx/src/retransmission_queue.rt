@@ -22,6 +22,7 @@ ghost use Rattle.sctp_tx.specs.Taken.{taken_all};
 ghost use Rattle.sctp_tx_outstanding.specs.Views.{chunk_of};
 ghost use Rattle.sctp_chunk.specs.Views.{fragment_tree};
 
+mod congestion_control;
 mod handover;
 mod windows;
 
@@ -134,20 +135,20 @@ impl RetransmissionQueue {
     pub fn cwnd(&self) -> usize
         ensures { result ≡ self.now.windows.cwnd }
     {
-        self.windows.cwnd
+        self.windows.cwnd()
     }
 
     pub fn set_cwnd(&mut self, cwnd: usize)
         ensures { self.new ≡ record self.old { windows = record self.old.windows { cwnd = cwnd } } }
     {
-        self.windows.cwnd = cwnd;
+        self.windows.set_cwnd(cwnd);
     }
 
     /// What the peer's window has left, in bytes.
     pub fn rwnd(&self) -> usize
         ensures { result ≡ self.now.windows.rwnd }
     {
-        self.windows.rwnd
+        self.windows.rwnd()
     }
 
     /// How many packets had an item that was sent again.
@@ -347,7 +348,7 @@ impl RetransmissionQueue {
     pub fn create_forward_tsn(&self) -> Result<Chunk, AllocError>
         ensures { IfOk result (λ chunk. chunk_tree chunk ≡ forward_chunk self.now) }
     {
-        let most = (self.windows.mtu / 4 * 4).saturating_sub(COMMON_HEADER_SIZE);
+        let most = (self.windows.mtu() / 4 * 4).saturating_sub(COMMON_HEADER_SIZE);
         if self.outstanding.is_interleaved() {
             Ok(Chunk::IForwardTsn(self.outstanding.create_iforward_tsn(most)?))
         } else {
@@ -490,8 +491,8 @@ impl RetransmissionQueue {
             return Ok((false, 0));
         }
         let flight = self.outstanding.unacked_packet_bytes();
-        let room = max_bytes.min(self.windows.cwnd.saturating_sub(flight));
-        let rwnd = self.windows.rwnd;
+        let room = max_bytes.min(self.windows.cwnd().saturating_sub(flight));
+        let rwnd = self.windows.rwnd();
         let chunks = self.outstanding.get_chunks_to_be_retransmitted(room, rwnd)?;
         take_each(&chunks, form, packet)?;
         let bytes = self.count_resent(&chunks);

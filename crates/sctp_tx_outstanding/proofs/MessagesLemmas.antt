@@ -147,19 +147,7 @@ of_changed message x (suc p) (i ∷ is) (suc k) = of_changed message x p is k
 pub finds_changed : (f : Messages) (x : Change) (p : ℕ) (is : List Item) → Finds f is → Finds f (change_at p (apply_change x) is)
 finds_changed f x p is known = λ yes m n few. known yes m n few ∙ sym (as_alike f.first (λ k. is_of_at m k is) (λ k. is_of_at m k (change_at p (apply_change x) is)) (of_changed m x p is) n)
 
-laid_id : (b : Bool) (i : Item) → (cond b (abandon i) i).number ≡ i.number
-laid_id true i = refl
-laid_id false i = refl
-
-of_laid : (message number : ℕ) (is : List Item) (k : ℕ) → is_of_at message k (map (abandon_if_of number) is) ≡ is_of_at message k is
-of_laid message number [] k = refl
-of_laid message number (i ∷ is) zero = ap (λ n. n == message) (laid_id (is_of number i) i)
-of_laid message number (i ∷ is) (suc k) = of_laid message number is k
-
-pub finds_laid : (f : Messages) (number : ℕ) (is : List Item) → Finds f is → Finds f (map (abandon_if_of number) is)
-finds_laid f number is known = λ yes m n few. known yes m n few ∙ sym (as_alike f.first (λ k. is_of_at m k is) (λ k. is_of_at m k (map (abandon_if_of number) is)) (of_laid m number is) n)
-
--- ---- one more is known, and the first one leaves
+-- ---- one more is known
 
 pub finds_next : (old new : Messages) (is : List Item) (k : ℕ) (i : Item) → k < length is → i ≡ slice_index_or is k i
     → ((js : List Item) (j : Item) → length js ≡ k → j.number ≡ i.number → Finds old js → Finds new (js ++ j ∷ [])) → Finds old (take k is) → Finds new (take (k + 1) is)
@@ -171,14 +159,6 @@ finds_past f is k h known = subst (λ (xs : List Item). Finds f xs) (take_all k 
 
 pub finds_all : (f : Messages) (is : List Item) (k : ℕ) → length is ≤ k → Finds f (take k is) → Finds f is
 finds_all f is k h known = subst (λ (xs : List Item). Finds f xs) (take_all k is h) known
-
-pub finds_empty : (f : Messages) (is : List Item) → length is ≤ 0 → Finds f is → Finds f (drop 1 is)
-finds_empty f [] h known = known
-finds_empty f (x ∷ is) h known = absurd (omega (arith, h))
-
-pub finds_left : (old new : Messages) (is : List Item) (i : Item) → 0 < length is → i ≡ slice_index_or is 0 i → ((j : Item) (js : List Item) → j.number ≡ i.number → Finds old (j ∷ js) → Finds new js) → Finds old is → Finds new (drop 1 is)
-finds_left old new [] i h at leaves known = absurd (omega (arith, h))
-finds_left old new (x ∷ is) i h at leaves known = leaves x is (ap (λ (y : Item). y.number) (sym at)) known
 
 -- ---- from one of a message to the next
 
@@ -233,18 +213,31 @@ laid_more number (suc more) p n is e h =
     let is_next : n ≡ suc (more + p) = omega (arith, e) in
     ap (λ k. laid k number is) is_next ∙ (laid_past number (more + p) is (h (more + p) (omega arith) (omega (arith, e))) ∙ laid_more number more p (more + p) is refl (none_less number p n (more + p) is (omega (arith, e)) h))
 
+laid_id : (b : Bool) (i : Item) → (cond b (abandon i) i).number ≡ i.number
+laid_id true i = refl
+laid_id false i = refl
+
+of_laid : (message p number : ℕ) (is : List Item) (k : ℕ) → is_of_at message k (laid p number is) ≡ is_of_at message k is
+of_laid message zero number is k = refl
+of_laid message (suc p) number [] k = refl
+of_laid message (suc p) number (i ∷ is) zero = ap (λ n. n == message) (laid_id (is_of number i) i)
+of_laid message (suc p) number (i ∷ is) (suc k) = of_laid message p number is k
+
+none_laid : (number p from to : ℕ) (is now : List Item) → now ≡ laid p number is → NoneIsOf number from to now → NoneIsOf number from to is
+none_laid number p from to is now e h = λ k above below. sym (ap (λ js. is_of_at number k js) e ∙ of_laid number p number is k) ∙ h k above below
+
 -- up to the next one of the message nothing changes
-pub laid_on : (number p n : ℕ) (is now : List Item) → now ≡ laid p number is → p ≤ n → NoneIsOf number p n is → now ≡ laid n number is
-laid_on number p n is now e le h = e ∙ sym (laid_more number (n - p) p n is (omega (arith, le)) h)
+pub laid_on : (number p n : ℕ) (is now : List Item) → now ≡ laid p number is → p ≤ n → NoneIsOf number p n now → now ≡ laid n number is
+laid_on number p n is now e le h = e ∙ sym (laid_more number (n - p) p n is (omega (arith, le)) (none_laid number p p n is now e h))
 
 pub laid_next : (number k : ℕ) (is now after : List Item) → now ≡ laid k number is → after ≡ change_at k (abandon_if_of number) now → after ≡ laid (k + 1) number is
 laid_next number k is now after e step =
     let one : suc k ≡ k + 1 = omega arith in
     step ∙ (ap (λ js. change_at k (abandon_if_of number) js) e ∙ (laid_one number k is ∙ ap (λ n. laid n number is) one))
 
-pub laid_done : (number p n : ℕ) (is now : List Item) → now ≡ laid p number is → length is ≤ n → p ≤ length is → NoneIsOf number p n is → now ≡ map (abandon_if_of number) is
+pub laid_done : (number p n : ℕ) (is now : List Item) → now ≡ laid p number is → length is ≤ n → p ≤ length is → NoneIsOf number p n now → now ≡ map (abandon_if_of number) is
 laid_done number p n is now e le within h =
-    laid_on number p (length is) is now e within (none_less number p n (length is) is le h) ∙ all is
+    laid_on number p (length is) is now e within (none_less number p n (length is) now le h) ∙ all is
   where
     all : (is : List Item) → laid (length is) number is ≡ map (abandon_if_of number) is
     all [] = refl

@@ -372,16 +372,6 @@ knows_pushed h is i e known = λ yes.
     let more : length (is ++ i ∷ []) ≡ length is + 1 = length_more is i in
     record { runs = old.runs; small = old.small; within = omega (arith, more, old.within); rest = rest_pushed h.runs.items h.offset is i e old.within old.rest }
 
-length_laid : (number : ℕ) (is : List Item) → length (map (abandon_if_of number) is) ≡ length is
-length_laid number [] = refl
-length_laid number (i ∷ is) = ap (λ n. suc n) (length_laid number is)
-
-pub knows_laid : (h : LastBlocks) (number : ℕ) (is : List Item) → Knows h is → Knows h (map (abandon_if_of number) is)
-knows_laid h number is known = λ yes.
-    let old : AreAsBlocksSaid h is = known yes in
-    let same = length_laid number is in
-    record { runs = old.runs; small = old.small; within = omega (arith, same, old.within); rest = rest_laid h.runs.items h.offset number is old.rest }
-
 -- ---- one block more is the same
 
 both : (m n k l : ℕ) → ((m == n) && (k == l)) ≡ true → (m ≡ n) × (k ≡ l)

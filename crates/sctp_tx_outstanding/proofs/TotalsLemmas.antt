@@ -5,7 +5,6 @@ use Rattle.std.proofs.lemmas.List.Sums.{sum_by-cons, sum_by_push}
 use Rattle.std.proofs.lemmas.List.Elements.{All-head, All-tail, All-cons, All-nil, All-append}
 use Rattle.sctp_tx_outstanding.specs.declared.totals.Totals.{Totals}
 use Rattle.sctp_tx_outstanding.specs.declared.kept.Change.{Change}
-use Rattle.sctp_tx_outstanding.specs.declared.kept.Change.TheVariants as changes
 use Rattle.sctp_tx_outstanding.specs.Item.{Item, chunk_size, header_size, is_outstanding, should_be_retransmitted, is_fast, NotBefore, never}
 use Rattle.sctp_tx_outstanding.specs.Change.{apply_change}
 use Rattle.sctp_tx_outstanding.specs.OutstandingData.{change_at, when, packet_part, payload_part, flight_part, queued_part, fast_part}

@@ -4,6 +4,7 @@ pub mod Entries
 pub mod Expiries
 pub mod Forward
 pub mod Handover
+pub mod Indexes
 pub mod LastBlocks
 pub mod Interrupted
 pub mod Item

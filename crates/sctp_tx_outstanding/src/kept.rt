@@ -1,4 +1,4 @@
-//! The kept items, with their totals.
+//! The kept items, with their indexes.
 
 ghost use Rattle.std.specs.Prelude.{◌≡◌, ◌==◌, ◌+◌, Some, map, min, option_map, slice_get, nat_lt, sum_by, ◌<◌, ◌≤◌, ◌∷◌, ◌++◌, [], length, drop, take, OnOk, OnErr, IfSome, IfNone};
 ghost use Rattle.sctp_tx_outstanding.specs.Change.{apply_change};
@@ -6,25 +6,25 @@ ghost use Rattle.std.specs.List.{All};
 ghost use Rattle.sctp_tx_outstanding.specs.Item.{NotBefore, earliest_of, never};
 ghost use Rattle.sctp_tx_outstanding.specs.Expiries.{Expects, FindsDue};
 ghost use Rattle.sctp_tx_outstanding.specs.OutstandingData.{change_at, abandon_if_of, last_of, later_at, without_payload, packet_part, payload_part, flight_part, queued_part, fast_part};
-ghost use Rattle.sctp_tx_outstanding.specs.Totals.{AreTotals, Exchanges};
+ghost use Rattle.sctp_tx_outstanding.specs.Totals.{Exchanges};
 ghost use Rattle.sctp_tx_outstanding.specs.Losses.{expires, placeholder};
 ghost use Rattle.sctp_tx_outstanding.specs.Views.{last_tree};
 ghost use Rattle.sctp_tx_outstanding.specs.LastBlocks.{Rest, RestBelow, RestFrom};
 ghost use Rattle.sctp_tx_outstanding.specs.Sack.{all_leaving_events};
-ghost use Rattle.sctp_tx_outstanding.specs.Messages.{Finds};
-ghost use Rattle.sctp_tx_outstanding.specs.Waiting.{HasSize, Lists, NoneWaits};
+ghost use Rattle.sctp_tx_outstanding.specs.Messages.{Finds, NoneIsOf};
+ghost use Rattle.sctp_tx_outstanding.specs.Waiting.{NoneWaits};
 ghost use Rattle.sctp_state.specs.Events.{emit_events, Grown};
 
 mod handover;
 
 use crate::emitting::emit_left;
 use crate::expiries::{Due, Expiries};
+use crate::indexes::Indexes;
 use crate::item::{Item, header_size};
-use crate::last_blocks::{LastBlocks, alike, reach};
+use crate::last_blocks::{alike, reach};
 use crate::messages::Messages;
 use crate::sack::highest_end;
 use crate::totals::Totals;
-use crate::waiting::Waiting;
 use sctp_chunk::{Data, GapAckBlock, are_runs};
 use sctp_serial::{Fsn, Mid, OutgoingMessageId, PpId, SocketTime, Ssn, StreamKey};
 use sctp_state::Events;
@@ -244,215 +244,23 @@ fn change_item(
     (old, new)
 }
 
-/// The bytes of the payload of the item at the place.
-fn payload_at(items: &VecDeque<Item>, place: usize) -> usize
-    ensures { HasSize place result items.now.items }
-{
-    match items.get(place) {
-        Some(item) => item.payload_size(),
-        None => 0,
-    }
-}
-
-/// Changes the item at the place, if there is one.
-fn change_one(
-    items: &mut VecDeque<Item>,
-    totals: &mut Totals,
-    waiting: &mut Waiting,
-    expiries: &mut Expiries,
-    is_interleaved: bool,
-    place: usize,
-    change: Change,
-)
-    requires totals { AreTotals is_interleaved items.old.items totals.old }
-    requires waiting { Lists waiting.old items.old.items }
-    requires expiries { Expects expiries.old items.old.items }
-    ensures items { items.new.items ≡ change_at place (apply_change change) items.old.items }
-    ensures totals { AreTotals is_interleaved items.new.items totals.new }
-    ensures waiting { Lists waiting.new items.new.items }
-    ensures expiries { Expects expiries.new items.new.items }
-{
-    // (read for its bound)
-    let _count = items.len();
-    let (old, new) = change_item(items, is_interleaved, place, change);
-    *totals = totals.exchanged(old, new);
-    expiries.renew(place, old.earliest, new.earliest);
-    if old.queued == new.queued {
-        return;
-    }
-    let size = payload_at(items, place);
-    waiting.follow(place, size, old.queued > 0, new.queued > 0);
-}
-
-/// Adds an item behind the others. Without memory nothing changes.
-fn push_item(
-    items: &mut VecDeque<Item>,
-    totals: &mut Totals,
-    waiting: &mut Waiting,
-    expiries: &mut Expiries,
-    is_interleaved: bool,
-    item: Item,
-) -> Result<(), AllocError>
-    requires totals { AreTotals is_interleaved items.old.items totals.old }
-    requires waiting { Lists waiting.old items.old.items }
-    requires expiries { Expects expiries.old items.old.items }
-    ensures ok { OnOk result (items.new.items ≡ items.old.items ++ item ∷ []) }
-    ensures totals { AreTotals is_interleaved items.new.items totals.new }
-    ensures waiting { Lists waiting.new items.new.items }
-    ensures expiries { Expects expiries.new items.new.items }
-    ensures err { OnErr result (items.new.items ≡ items.old.items) }
-{
-    let size = item.payload_size();
-    let part = Totals::of(&item, is_interleaved);
-    let waits = item.should_be_retransmitted();
-    let place = items.len();
-    items.push_back(item)?;
-    waiting.follow(place, size, false, waits);
-    expiries.renew(place, u128::MAX, part.earliest);
-    // (read for its bound)
-    let _count = items.len();
-    *totals = totals.exchanged(Totals::nothing(), part);
-    Ok(())
-}
-
-/// The first item is about to leave.
-fn leave_first(items: &VecDeque<Item>, messages: &mut Messages)
-    requires { Finds messages.old items.now.items }
-    ensures { Finds messages.new (drop 1 items.now.items) }
-{
-    let Some(item) = items.get(0) else {
-        return;
-    };
-    messages.leave(item.message_id());
-}
-
-/// Takes the first item out.
-fn pop_item(
-    items: &mut VecDeque<Item>,
-    totals: &mut Totals,
-    waiting: &mut Waiting,
-    expiries: &mut Expiries,
-    is_interleaved: bool,
-) -> Option<Item>
-    requires totals { AreTotals is_interleaved items.old.items totals.old }
-    requires waiting { Lists waiting.old items.old.items }
-    requires expiries { Expects expiries.old items.old.items }
-    ensures first { IfSome result (λ i. items.old.items ≡ i ∷ items.new.items) }
-    ensures none { IfNone result (items.old.items ≡ []) }
-    ensures rest { items.new.items ≡ drop 1 items.old.items }
-    ensures totals { AreTotals is_interleaved items.new.items totals.new }
-    ensures waiting { Lists waiting.new items.new.items }
-    ensures expiries { Expects expiries.new items.new.items }
-{
-    let item = items.pop_front()?;
-    waiting.pass(item.should_be_retransmitted());
-    let part = Totals::of(&item, is_interleaved);
-    expiries.leave(part.earliest);
-    // (read for its bound)
-    let _count = items.len();
-    *totals = totals.exchanged(part, Totals::nothing());
-    Some(item)
-}
-
-/// Gives up the item at the place, where it is one of the message.
-fn abandon_at(
-    items: &mut VecDeque<Item>,
-    totals: &mut Totals,
-    waiting: &mut Waiting,
-    expiries: &mut Expiries,
-    is_interleaved: bool,
-    place: usize,
-    message_id: OutgoingMessageId,
-)
-    requires totals { AreTotals is_interleaved items.old.items totals.old }
-    requires waiting { Lists waiting.old items.old.items }
-    requires expiries { Expects expiries.old items.old.items }
-    ensures items { items.new.items ≡ change_at place (abandon_if_of message_id.0) items.old.items }
-    ensures totals { AreTotals is_interleaved items.new.items totals.new }
-    ensures waiting { Lists waiting.new items.new.items }
-    ensures expiries { Expects expiries.new items.new.items }
-{
-    let Some(item) = items.get(place) else {
-        return;
-    };
-    if item.message_id().0 != message_id.0 {
-        return;
-    }
-    change_one(
-        items,
-        totals,
-        waiting,
-        expiries,
-        is_interleaved,
-        place,
-        Change::Abandon,
-    );
-}
-
-/// Gives up all items of a message.
-fn abandon_all(
-    items: &mut VecDeque<Item>,
-    totals: &mut Totals,
-    waiting: &mut Waiting,
-    expiries: &mut Expiries,
-    messages: &Messages,
-    is_interleaved: bool,
-    message_id: OutgoingMessageId,
-)
-    requires totals { AreTotals is_interleaved items.old.items totals.old }
-    requires waiting { Lists waiting.old items.old.items }
-    requires expiries { Expects expiries.old items.old.items }
-    requires messages { Finds messages.now items.old.items }
-    ensures items { items.new.items ≡ map (abandon_if_of message_id.0) items.old.items }
-    ensures totals { AreTotals is_interleaved items.new.items totals.new }
-    ensures waiting { Lists waiting.new items.new.items }
-    ensures expiries { Expects expiries.new items.new.items }
-{
-    let count = items.len();
-    let mut place = 0;
-    while place < count {
-        let next = messages.next(message_id, place);
-        if count <= next {
-            return;
-        }
-        abandon_at(
-            items,
-            totals,
-            waiting,
-            expiries,
-            is_interleaved,
-            next,
-            message_id,
-        );
-        place = next + 1;
-    }
-}
-
-/// The kept items, with the running totals over them.
+/// The kept items, with their indexes.
 #[derive(Drop)]
 pub struct Kept {
     is_interleaved: bool,
     items: VecDeque<Item>,
-    totals: Totals,
-    last_blocks: LastBlocks,
-    waiting: Waiting,
-    messages: Messages,
-    expiries: Expiries,
+    indexes: Indexes,
 }
 
 impl Model for Kept {
     ghost use Rattle.sctp_tx_outstanding.specs.OutstandingData.{Kept};
-    ghost use Rattle.sctp_tx_outstanding.specs.Totals.{AreTotals};
-    ghost use Rattle.sctp_tx_outstanding.specs.LastBlocks.{Knows};
-    ghost use Rattle.sctp_tx_outstanding.specs.Waiting.{Lists};
-    ghost use Rattle.sctp_tx_outstanding.specs.Messages.{Finds};
-    ghost use Rattle.sctp_tx_outstanding.specs.Expiries.{Expects};
+    ghost use Rattle.sctp_tx_outstanding.specs.Indexes.{AreIndexes};
 
     ghost Value = { Kept };
 
     ghost view = { λ k. record { is_interleaved = k.is_interleaved; items = k.items.items } };
 
-    ghost invariant = { λ k. AreTotals k.is_interleaved k.items.items k.totals × (Knows k.last_blocks k.items.items × (Lists k.waiting k.items.items × (Finds k.messages k.items.items × Expects k.expiries k.items.items))) };
+    ghost invariant = { λ k. AreIndexes k.is_interleaved k.items.items k.indexes };
 }
 
 impl Kept {
@@ -467,11 +275,7 @@ impl Kept {
         Kept {
             is_interleaved,
             items: VecDeque::new(alloc),
-            totals: Totals::nothing(),
-            last_blocks: LastBlocks::new(alloc),
-            waiting: Waiting::new(alloc),
-            messages: Messages::new(alloc),
-            expiries: Expiries::new(alloc),
+            indexes: Indexes::new(alloc),
         }
     }
 
@@ -498,35 +302,35 @@ impl Kept {
     pub(crate) fn flight_bytes(&self) -> u128
         ensures { result ≡ sum_by (packet_part self.now.is_interleaved) self.now.items }
     {
-        self.totals.packet_bytes
+        self.indexes.totals.packet_bytes
     }
 
     /// The bytes of their payloads.
     pub(crate) fn flight_payload(&self) -> u128
         ensures { result ≡ sum_by payload_part self.now.items }
     {
-        self.totals.payload_bytes
+        self.indexes.totals.payload_bytes
     }
 
     /// How many items are in flight or missing.
     pub(crate) fn flights(&self) -> usize
         ensures { result ≡ sum_by flight_part self.now.items }
     {
-        self.totals.flights
+        self.indexes.totals.flights
     }
 
     /// Whether an item is to be sent again.
     pub(crate) fn has_queued(&self) -> bool
         ensures { result ≡ nat_lt 0 (sum_by queued_part self.now.items) }
     {
-        self.totals.queued > 0
+        self.indexes.totals.queued > 0
     }
 
     /// Whether an item is to be sent again by the packet that ignores the congestion window.
     pub(crate) fn has_fast(&self) -> bool
         ensures { result ≡ nat_lt 0 (sum_by fast_part self.now.items) }
     {
-        self.totals.fast > 0
+        self.indexes.totals.fast > 0
     }
 
     /// The place from this one on up to which no item waits to be sent again.
@@ -534,27 +338,31 @@ impl Kept {
         ensures onward { place ≤ result }
         ensures none { NoneWaits place result self.now.items }
     {
-        self.waiting.next(place)
+        self.indexes.waiting.next(place)
     }
 
     /// No item that waits to be sent again has a chunk of fewer bytes.
     pub(crate) fn least_waiting(&self) -> usize
         ensures { All (λ i. should_be_retransmitted i ≡ true → result ≤ chunk_size self.now.is_interleaved i) self.now.items }
     {
-        header_size(self.is_interleaved) + self.waiting.least.min(1 << 32)
+        header_size(self.is_interleaved) + self.indexes.waiting.least.min(1 << 32)
     }
 
     /// How many of the first items are already as these blocks say.
     pub(crate) fn front_as_in(&self, blocks: &[GapAckBlock]) -> usize
         ensures { RestBelow blocks.now result 1 self.now.items }
     {
-        if !self.last_blocks.is_known {
+        if !self.indexes.last_blocks.is_known {
             return 0;
         }
         if !are_runs(0, blocks) {
             return 0;
         }
-        alike(&self.last_blocks.runs, self.last_blocks.offset, blocks)
+        alike(
+            &self.indexes.last_blocks.runs,
+            self.indexes.last_blocks.offset,
+            blocks,
+        )
     }
 
     /// Behind how many of the first items all are already as these blocks say.
@@ -563,10 +371,14 @@ impl Kept {
         ensures within { result ≤ length self.now.items }
     {
         let len = self.items.len();
-        if !self.last_blocks.is_known {
+        if !self.indexes.last_blocks.is_known {
             return len;
         }
-        let end = reach(&self.last_blocks.runs, self.last_blocks.offset, blocks);
+        let end = reach(
+            &self.indexes.last_blocks.runs,
+            self.indexes.last_blocks.offset,
+            blocks,
+        );
         if end < len { end } else { len }
     }
 
@@ -576,46 +388,37 @@ impl Kept {
         ensures { self.new ≡ self.old }
     {
         let is_within = highest_end(blocks) as usize <= self.items.len();
-        self.last_blocks.remember_blocks(blocks, is_within);
+        self.indexes.last_blocks.remember_blocks(blocks, is_within);
     }
 
     /// Whether an item that is missing or lost may have expired.
     pub(crate) fn may_expire(&self, now: SocketTime) -> bool
         ensures { result ≡ false → All (λ i. expires now i ≡ false) self.now.items }
     {
-        self.totals.earliest <= now.as_nanos()
+        self.indexes.totals.earliest <= now.as_nanos()
     }
 
     /// Looks up when the first item expires, so that none is looked at before.
     pub(crate) fn find_earliest(&mut self)
         ensures { self.new ≡ self.old }
     {
-        expect_all(&self.items, &mut self.expiries);
-        self.totals.earliest = first_expiry(&self.items, &self.expiries);
+        expect_all(&self.items, &mut self.indexes.expiries);
+        self.indexes.totals.earliest = first_expiry(&self.items, &self.indexes.expiries);
     }
 
     /// The places of the items that expire by now.
     pub(crate) fn due(&self, alloc: Global, now: SocketTime) -> Due
         ensures { FindsDue result now self.now.items }
     {
-        self.expiries.due(alloc, now, self.items.len())
+        self.indexes.expiries.due(alloc, now, self.items.len())
     }
 
     /// Changes the item at the place, if there is one.
     pub(crate) fn change(&mut self, place: usize, how: Change)
         ensures { self.new ≡ record self.old { items = change_at place (apply_change how) self.old.items } }
     {
-        change_one(
-            &mut self.items,
-            &mut self.totals,
-            &mut self.waiting,
-            &mut self.expiries,
-            self.is_interleaved,
-            place,
-            how,
-        );
-        self.last_blocks.see(how);
-        self.waiting.count(self.totals.queued);
+        let parts = change_item(&mut self.items, self.is_interleaved, place, how);
+        self.indexes.follow(&self.items, place, how, parts);
     }
 
     /// Adds an item behind the others. Without memory nothing changes.
@@ -623,19 +426,8 @@ impl Kept {
         ensures ok { OnOk result (self.new ≡ record self.old { items = self.old.items ++ item ∷ [] }) }
         ensures err { OnErr result (self.new ≡ self.old) }
     {
-        let acked = item.is_acked();
-        let message_id = item.message_id();
-        let place = self.items.len();
-        push_item(
-            &mut self.items,
-            &mut self.totals,
-            &mut self.waiting,
-            &mut self.expiries,
-            self.is_interleaved,
-            item,
-        )?;
-        self.last_blocks.take(acked);
-        self.messages.add(message_id, place);
+        self.items.push_back(item)?;
+        self.indexes.insert(&self.items, self.is_interleaved);
         Ok(())
     }
 
@@ -645,15 +437,9 @@ impl Kept {
         ensures none { IfNone result (self.old.items ≡ []) }
         ensures rest { self.new ≡ record self.old { items = drop 1 self.old.items } }
     {
-        self.last_blocks.pass();
-        leave_first(&self.items, &mut self.messages);
-        pop_item(
-            &mut self.items,
-            &mut self.totals,
-            &mut self.waiting,
-            &mut self.expiries,
-            self.is_interleaved,
-        )
+        let item = self.items.pop_front()?;
+        self.indexes.remove(&item, &self.items, self.is_interleaved);
+        Some(item)
     }
 
     /// Emits what is due as the first items leave.
@@ -668,30 +454,59 @@ impl Kept {
     pub(crate) fn last_of(&self, message_id: OutgoingMessageId) -> Option<LastFragment>
         ensures { option_map last_tree result ≡ last_of message_id.0 self.now.items }
     {
-        find_last(&self.items, &self.messages, message_id)
+        find_last(&self.items, &self.indexes.messages, message_id)
     }
 
     /// Looks up which items are of which message, so that none of another is looked at.
     pub(crate) fn find_messages(&mut self)
         ensures { self.new ≡ self.old }
     {
-        list_all(&self.items, &mut self.messages);
-        self.messages.hold(self.items.len());
+        list_all(&self.items, &mut self.indexes.messages);
+        self.indexes.messages.hold(self.items.len());
+    }
+
+    /// The place from this one on up to which no item is of the message.
+    fn next_of(&self, message_id: OutgoingMessageId, place: usize) -> usize
+        ensures onward { place ≤ result }
+        ensures none { NoneIsOf message_id.0 place result self.now.items }
+    {
+        self.indexes.messages.next(message_id, place)
     }
 
     /// Gives up all items of a message.
     pub(crate) fn abandon(&mut self, message_id: OutgoingMessageId)
         ensures { self.new ≡ record self.old { items = map (abandon_if_of message_id.0) self.old.items } }
     {
-        abandon_all(
-            &mut self.items,
-            &mut self.totals,
-            &mut self.waiting,
-            &mut self.expiries,
-            &self.messages,
-            self.is_interleaved,
-            message_id,
-        );
+        abandon_all(self, message_id);
+    }
+}
+
+/// Gives up the item at the place, where it is one of the message.
+fn abandon_at(kept: &mut Kept, place: usize, message_id: OutgoingMessageId)
+    ensures { kept.new ≡ record kept.old { items = change_at place (abandon_if_of message_id.0) kept.old.items } }
+{
+    let Some(item) = kept.get(place) else {
+        return;
+    };
+    if item.message_id().0 != message_id.0 {
+        return;
+    }
+    kept.change(place, Change::Abandon);
+}
+
+/// Gives up all items of a message.
+fn abandon_all(kept: &mut Kept, message_id: OutgoingMessageId)
+    ensures { kept.new ≡ record kept.old { items = map (abandon_if_of message_id.0) kept.old.items } }
+{
+    let count = kept.len();
+    let mut place = 0;
+    while place < count {
+        let next = kept.next_of(message_id, place);
+        if count <= next {
+            return;
+        }
+        abandon_at(kept, next, message_id);
+        place = next + 1;
     }
 }
 

@@ -3,6 +3,7 @@
 
 mod emitting;
 mod expiries;
+mod indexes;
 pub mod item;
 pub mod kept;
 mod last_blocks;

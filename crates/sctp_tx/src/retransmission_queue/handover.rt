@@ -4,12 +4,10 @@ ghost use Rattle.std.specs.Prelude.{◌≡◌, min, is_some, IsTrue, OnOk, OnErr
 ghost use Rattle.sctp_state.specs.Handover.{handover_state_of, transmission_of};
 ghost use Rattle.sctp_state.specs.Validity.{is_valid_state};
 ghost use Rattle.sctp_state.specs.declared.api.handover.HandoverSocketState.TheVariants.{Connected};
-ghost use Rattle.sctp_tx.specs.Handover.{readiness, saturate_u32, handed_over, restore, windows_from};
+ghost use Rattle.sctp_tx.specs.Handover.{readiness, saturate_u32, handed_over, restore};
 
 use crate::retransmission_queue::RetransmissionQueue;
-use crate::retransmission_queue::windows::Windows;
 use sctp_serial::SocketTime;
-use sctp_state::api::handover::HandoverTransmission;
 use sctp_state::{HandoverReadiness, SocketHandoverState};
 use std::alloc::AllocError;
 
@@ -17,22 +15,6 @@ fn bounded(bytes: usize) -> u32
     ensures { result ≡ saturate_u32 bytes }
 {
     bytes.min(u32::MAX as usize) as u32
-}
-
-/// The windows of a record. There is no fast recovery.
-fn windows_from(tx: &HandoverTransmission, old: Windows) -> Windows
-    ensures { result ≡ windows_from (transmission_of tx.now) old }
-{
-    Windows {
-        mtu: old.mtu,
-        least_cwnd: old.least_cwnd,
-        unfragmented_cwnd: old.unfragmented_cwnd,
-        cwnd: tx.cwnd as usize,
-        ssthresh: tx.ssthresh as usize,
-        rwnd: tx.rwnd as usize,
-        partial_bytes_acked: tx.partial_bytes_acked as usize,
-        fast_recovery_exit: None,
-    }
 }
 
 impl RetransmissionQueue {
@@ -43,7 +25,7 @@ impl RetransmissionQueue {
     {
         let is_kept = is_strict && !self.outstanding.is_empty();
         let is_waiting = is_strict && self.outstanding.has_data_to_be_retransmitted();
-        let is_recovering = self.windows.fast_recovery_exit.is_some();
+        let is_recovering = self.windows.is_recovering();
         (HandoverReadiness::RETRANSMISSION_QUEUE_OUTSTANDING_DATA & is_kept)
             | (HandoverReadiness::RETRANSMISSION_QUEUE_FAST_RECOVERY & is_recovering)
             | (HandoverReadiness::RETRANSMISSION_QUEUE_NOT_EMPTY & is_waiting)
@@ -60,10 +42,10 @@ impl RetransmissionQueue {
         ensures err { OnErr result (state.new ≡ state.old) }
     {
         self.outstanding.add_to_handover_state(now, state)?;
-        state.tx.cwnd = bounded(self.windows.cwnd);
-        state.tx.rwnd = bounded(self.windows.rwnd);
-        state.tx.ssthresh = bounded(self.windows.ssthresh);
-        state.tx.partial_bytes_acked = bounded(self.windows.partial_bytes_acked);
+        state.tx.cwnd = bounded(self.windows.cwnd());
+        state.tx.rwnd = bounded(self.windows.rwnd());
+        state.tx.ssthresh = bounded(self.windows.ssthresh());
+        state.tx.partial_bytes_acked = bounded(self.windows.partial_bytes_acked());
         Ok(())
     }
 
@@ -80,7 +62,7 @@ impl RetransmissionQueue {
         ensures err { OnErr result (self.new ≡ self.old) }
     {
         self.outstanding.restore_from_state(now, state)?;
-        self.windows = windows_from(&state.tx, self.windows);
+        self.windows.restore(&state.tx);
         self.t3_rtx.stop();
         Ok(())
     }

@@ -1,30 +1,32 @@
-//! The windows of a sender: how much it may have in flight (RFC 9260 sections 6.1, 7.2).
+//! The windows of a sender: how much it may have in flight (RFC 9260 section 6.1).
 
-ghost use Rattle.std.specs.Prelude.{◌≡◌, ◌+◌, nat_le};
+ghost use Rattle.std.specs.Prelude.{◌≡◌, is_some};
+ghost use Rattle.sctp_state.specs.Handover.{transmission_of};
 ghost use Rattle.sctp_state.specs.Options.{options_of, IsValid};
-ghost use Rattle.sctp_tx.specs.Windows.{at_first, grow, slow_start, avoidance, halved_cwnd, recovering, timed_out, maybe_exit_fast_recovery, is_open, update_rwnd, consume_rwnd, room, may_send};
+ghost use Rattle.sctp_tx.specs.Handover.{windows_from};
+ghost use Rattle.sctp_tx.specs.Windows.{at_first, grow, recovering, timed_out, maybe_exit_fast_recovery, is_open, update_rwnd, consume_rwnd, room, may_send};
 
+use crate::retransmission_queue::congestion_control::CongestionControl;
 use sctp_state::Options;
+use sctp_state::api::handover::HandoverTransmission;
+use std::marker::Model;
 
-/// Sizes are in bytes. They stop at the greatest number of their type.
-#[derive(Clone, Copy, Debug, PartialEq, Eq)]
+/// What congestion control allows, and what the peer does. Sizes are in bytes. They stop at the greatest number of their type.
+#[derive(Drop)]
 pub struct Windows {
-    /// The largest packet.
-    pub mtu: usize,
-    /// A loss leaves at least so large a congestion window.
-    pub least_cwnd: usize,
-    /// Below this congestion window new fragments may be smaller than a packet.
-    pub unfragmented_cwnd: usize,
-    /// The congestion window.
-    pub cwnd: usize,
-    /// Up to this congestion window, slow start.
-    pub ssthresh: usize,
+    pub congestion: CongestionControl,
     /// What the peer's window has left.
     pub rwnd: usize,
-    /// What was acknowledged towards the next growth in congestion avoidance.
-    pub partial_bytes_acked: usize,
-    /// Fast recovery, until this TSN, unwrapped, is acknowledged.
-    pub fast_recovery_exit: Option<u128>,
+    /// Below this congestion window new fragments may be smaller than a packet.
+    pub unfragmented_cwnd: usize,
+}
+
+impl Model for Windows {
+    ghost use Rattle.sctp_tx.specs.Windows.{Windows, windows_of};
+
+    ghost Value = { Windows };
+
+    ghost view = { λ w. windows_of w.congestion w.rwnd w.unfragmented_cwnd };
 }
 
 impl Windows {
@@ -34,87 +36,88 @@ impl Windows {
         ensures { result ≡ at_first (options_of options.now) a_rwnd }
     {
         Windows {
-            mtu: options.mtu,
-            least_cwnd: options.cwnd_mtus_min * options.mtu,
-            unfragmented_cwnd: options.avoid_fragmentation_cwnd_mtus * options.mtu,
-            cwnd: options.cwnd_mtus_initial * options.mtu,
-            ssthresh: a_rwnd as usize,
+            congestion: CongestionControl::new(options, a_rwnd as usize),
             rwnd: a_rwnd as usize,
-            partial_bytes_acked: 0,
-            fast_recovery_exit: None,
+            unfragmented_cwnd: options.avoid_fragmentation_cwnd_mtus * options.mtu,
         }
+    }
+
+    /// The largest packet.
+    pub fn mtu(&self) -> usize
+        ensures { result ≡ self.now.mtu }
+    {
+        self.congestion.mtu
+    }
+
+    pub fn cwnd(&self) -> usize
+        ensures { result ≡ self.now.cwnd }
+    {
+        self.congestion.cwnd
+    }
+
+    pub fn set_cwnd(&mut self, cwnd: usize)
+        ensures { self.new ≡ record self.old { cwnd = cwnd } }
+    {
+        self.congestion.cwnd = cwnd;
+    }
+
+    pub fn ssthresh(&self) -> usize
+        ensures { result ≡ self.now.ssthresh }
+    {
+        self.congestion.ssthresh
+    }
+
+    pub fn partial_bytes_acked(&self) -> usize
+        ensures { result ≡ self.now.partial_bytes_acked }
+    {
+        self.congestion.partial_bytes_acked
+    }
+
+    pub fn rwnd(&self) -> usize
+        ensures { result ≡ self.now.rwnd }
+    {
+        self.rwnd
+    }
+
+    pub fn is_recovering(&self) -> bool
+        ensures { result ≡ is_some self.now.fast_recovery_exit }
+    {
+        self.congestion.fast_recovery_exit.is_some()
+    }
+
+    /// Whether there is no fast recovery once all TSNs up to this one, unwrapped, are acknowledged.
+    pub fn is_open_at(&self, cumulative: u64) -> bool
+        ensures { result ≡ is_open cumulative self.now }
+    {
+        self.congestion.is_open_at(cumulative)
     }
 
     /// The cumulative TSN moved outside fast recovery: `before` bytes were unacknowledged, of which `acked` newly aren't.
     pub fn grow(&mut self, before: usize, acked: usize)
         ensures { self.new ≡ grow before acked self.old }
     {
-        if self.cwnd <= self.ssthresh {
-            self.start_slowly(before, acked);
-        } else {
-            self.avoid_congestion(self.partial_bytes_acked.saturating_add(acked));
-        }
-    }
-
-    fn start_slowly(&mut self, before: usize, acked: usize)
-        ensures { self.new ≡ record self.old { cwnd = slow_start (nat_le self.old.cwnd (before + self.old.mtu)) acked self.old } }
-    {
-        if self.cwnd <= before.saturating_add(self.mtu) {
-            self.cwnd = self.cwnd.saturating_add(acked.min(self.mtu));
-        }
-    }
-
-    fn avoid_congestion(&mut self, sum: usize)
-        ensures { self.new ≡ avoidance (nat_le self.old.cwnd sum) sum self.old }
-    {
-        if self.cwnd <= sum {
-            self.partial_bytes_acked = sum - self.cwnd;
-            self.cwnd = self.cwnd.saturating_add(self.mtu);
-        } else {
-            self.partial_bytes_acked = sum;
-        }
-    }
-
-    fn halved(&self) -> usize
-        ensures { result ≡ halved_cwnd self.now }
-    {
-        (self.cwnd / 2).max(self.least_cwnd)
+        self.congestion.grow(before, acked);
     }
 
     /// An item was reported missing for the third time outside fast recovery, which lasts until `exit` is acknowledged.
     pub fn recover(&mut self, exit: u128)
         ensures { self.new ≡ recovering exit self.old }
     {
-        self.ssthresh = self.halved();
-        self.cwnd = self.ssthresh;
-        self.fast_recovery_exit = Some(exit);
+        self.congestion.recover(exit);
     }
 
     /// The timer of retransmissions expired.
     pub fn time_out(&mut self)
         ensures { self.new ≡ timed_out self.old }
     {
-        self.ssthresh = self.halved();
-        self.cwnd = self.mtu;
+        self.congestion.time_out();
     }
 
     /// All TSNs up to this one, unwrapped, are acknowledged.
     pub fn maybe_exit_fast_recovery(&mut self, cumulative: u64)
         ensures { self.new ≡ maybe_exit_fast_recovery cumulative self.old }
     {
-        if self.is_open_at(cumulative) {
-            self.fast_recovery_exit = None;
-        }
-    }
-
-    /// Whether there is no fast recovery once all TSNs up to this one are acknowledged.
-    pub fn is_open_at(&self, cumulative: u64) -> bool
-        ensures { result ≡ is_open cumulative self.now }
-    {
-        match self.fast_recovery_exit {
-            Some(exit) => exit <= cumulative as u128,
-            None => true,
-        }
+        self.congestion.maybe_exit_fast_recovery(cumulative);
     }
 
     /// The peer advertised its window, while so much payload was unacknowledged.
@@ -135,7 +138,7 @@ impl Windows {
     pub fn room(&self, is_quiet: bool, flight: usize) -> usize
         ensures { result ≡ room is_quiet flight self.now }
     {
-        let left = self.cwnd.saturating_sub(flight);
+        let left = self.congestion.cwnd.saturating_sub(flight);
         if is_quiet { left } else { left.min(self.rwnd) }
     }
 
@@ -143,6 +146,18 @@ impl Windows {
     pub fn may_send(&self, is_quiet: bool, flight: usize) -> bool
         ensures { result ≡ may_send is_quiet flight self.now }
     {
-        self.cwnd < self.unfragmented_cwnd || self.mtu <= self.room(is_quiet, flight)
+        self.congestion.cwnd < self.unfragmented_cwnd
+            || self.congestion.mtu <= self.room(is_quiet, flight)
+    }
+
+    /// Takes up the windows of a record. There is no fast recovery.
+    pub fn restore(&mut self, tx: &HandoverTransmission)
+        ensures { self.new ≡ windows_from (transmission_of tx.now) self.old }
+    {
+        self.congestion.cwnd = tx.cwnd as usize;
+        self.congestion.ssthresh = tx.ssthresh as usize;
+        self.congestion.partial_bytes_acked = tx.partial_bytes_acked as usize;
+        self.congestion.fast_recovery_exit = None;
+        self.rwnd = tx.rwnd as usize;
     }
 }

@@ -44,8 +44,10 @@ pub returns-in_err-chunks-clause-err : goal.returns-in_err-chunks-clause-err
 returns-in_err-chunks-clause-err g c =
     let v : Sender = record { outstanding = c.self.inside.outstanding; windows = c.self.inside.windows; t3 = c.self.inside.t3_rtx; rtx_packets = c.self.inside.rtx_packets_count; rtx_bytes = c.self.inside.rtx_bytes_count } in
     let room : c.min-room.result ≡ min c.args.max_bytes (v.windows.cwnd - flight v) = search rules in
+    let some : SomeResent false (empty_packet c.min-room.result v.windows.rwnd v.outstanding) c.get_chunks_to_be_retransmitted.new.self =
+    subst (λ (n : ℕ). SomeResent false (empty_packet c.min-room.result n v.outstanding) c.get_chunks_to_be_retransmitted.new.self) c.rwnd-rwnd.ensures c.in_err-chunks.ensures.err in
     let h : PartlyResent c.args.max_bytes v (record v { outstanding = c.get_chunks_to_be_retransmitted.new.self }) =
-    record { items = subst (λ (n : ℕ). SomeResent false (empty_packet n v.windows.rwnd v.outstanding) c.get_chunks_to_be_retransmitted.new.self) room c.in_err-chunks.ensures.err; alone = refl } in
+    record { items = subst (λ (n : ℕ). SomeResent false (empty_packet n v.windows.rwnd v.outstanding) c.get_chunks_to_be_retransmitted.new.self) room some; alone = refl } in
     on_err _ (PartlyResent c.args.max_bytes c.args.self.now (record v { outstanding = c.get_chunks_to_be_retransmitted.new.self }))
     (subst (λ (t : Sender). PartlyResent c.args.max_bytes t (record v { outstanding = c.get_chunks_to_be_retransmitted.new.self })) c.self.view_is h)
 
@@ -54,7 +56,8 @@ pub returns-in_err-take_each-clause-err : goal.returns-in_err-take_each-clause-e
 returns-in_err-take_each-clause-err g c =
     let v : Sender = record { outstanding = c.self.inside.outstanding; windows = c.self.inside.windows; t3 = c.self.inside.t3_rtx; rtx_packets = c.self.inside.rtx_packets_count; rtx_bytes = c.self.inside.rtx_bytes_count } in
     let room : c.min-room.result ≡ min c.args.max_bytes (v.windows.cwnd - flight v) = search rules in
-    let all : SomeResent false (empty_packet c.min-room.result v.windows.rwnd v.outstanding) c.get_chunks_to_be_retransmitted.new.self = (length v.outstanding.items.kept, c.in_ok-chunks.ensures.items) in
+    let all : SomeResent false (empty_packet c.min-room.result v.windows.rwnd v.outstanding) c.get_chunks_to_be_retransmitted.new.self =
+    subst (λ (n : ℕ). SomeResent false (empty_packet c.min-room.result n v.outstanding) c.get_chunks_to_be_retransmitted.new.self) c.rwnd-rwnd.ensures (length v.outstanding.items.kept, c.in_ok-chunks.ensures.items) in
     let h : PartlyResent c.args.max_bytes v (record v { outstanding = c.get_chunks_to_be_retransmitted.new.self }) =
     record { items = subst (λ (n : ℕ). SomeResent false (empty_packet n v.windows.rwnd v.outstanding) c.get_chunks_to_be_retransmitted.new.self) room all; alone = refl } in
     on_err _ (PartlyResent c.args.max_bytes c.args.self.now (record v { outstanding = c.get_chunks_to_be_retransmitted.new.self }))

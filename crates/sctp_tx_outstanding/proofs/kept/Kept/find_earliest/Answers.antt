@@ -2,15 +2,20 @@ use Rattle.sctp_tx_outstanding.proofs.kept.Kept.find_earliest.Goals as goal
 
 pub invariant_of-self : goal.invariant_of-self
 invariant_of-self c =
-    let before = c.self.invariant.0 in (
-      record {
-        packet = before.packet;
-        payload = before.payload;
-        flights = before.flights;
-        queued = before.queued;
-        fast = before.fast;
+    let before = c.self.invariant in
+    let totals = before.totals in
+    record {
+      totals = record {
+        packet = totals.packet;
+        payload = totals.payload;
+        flights = totals.flights;
+        queued = totals.queued;
+        fast = totals.fast;
         earliest = c.first_expiry-self-inside.ensures;
-        small = before.small;
-      },
-      (c.self.invariant.1.0, (c.self.invariant.1.1.0, (c.self.invariant.1.1.1.0, c.expect_all.ensures))),
-    )
+        small = totals.small;
+      };
+      last_blocks = before.last_blocks;
+      waiting = before.waiting;
+      messages = before.messages;
+      expiries = c.expect_all.ensures;
+    }

@@ -9,6 +9,6 @@ use Rattle.sctp_tx_outstanding.proofs.kept.Kept.may_expire.Goals as goal
 pub returns : goal.returns
 returns c = λ e.
     let now = c.args.now in
-    let earliest = c.self.inside.totals.earliest in
+    let earliest = c.self.inside.indexes.totals.earliest in
     let before : now < earliest = grind (arith, nat_tests) in
-    subst (λ (k : Kept). All (λ i. expires now i ≡ false) k.items) c.self.view_is (none_expires now earliest c.self.inside.items.items before c.self.invariant.0.earliest)
+    subst (λ (k : Kept). All (λ i. expires now i ≡ false) k.items) c.self.view_is (none_expires now earliest c.self.inside.items.items before c.self.invariant.totals.earliest)

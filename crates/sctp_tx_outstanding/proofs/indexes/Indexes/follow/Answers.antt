@@ -1,0 +1,31 @@
+use Rattle.std.proofs.Common.{◌<◌, ◌^◌, List, ap, subst, sym, length, arith}
+use Rattle.sctp_tx_outstanding.specs.Item.{Item}
+use Rattle.sctp_tx_outstanding.specs.Change.{apply_change}
+use Rattle.sctp_tx_outstanding.specs.OutstandingData.{change_at}
+use Rattle.sctp_tx_outstanding.specs.LastBlocks.{Knows}
+use Rattle.sctp_tx_outstanding.specs.Messages.{Finds}
+use Rattle.sctp_tx_outstanding.specs.Expiries.{Expects}
+use Rattle.sctp_tx_outstanding.specs.Totals.{replace_part, AreTotals}
+use Rattle.sctp_tx_outstanding.proofs.TotalsLemmas.{totals_changed, totals_as, length_change}
+use Rattle.sctp_tx_outstanding.proofs.MessagesLemmas.{finds_changed}
+use Rattle.sctp_tx_outstanding.proofs.ExpiriesLemmas.{moves_changed}
+use Rattle.sctp_tx_outstanding.proofs.indexes.Indexes.follow.Goals as goal
+
+pub returns : goal.returns
+returns c = λ m is changed parts before.
+    let how = c.args.how in
+    let k = c.args.place in
+    let old = c.args.parts.0 in
+    let new = c.args.parts.1 in
+    let all = c.args.items.now.items in
+    let js = change_at k (apply_change how) is in
+    let few : length is < 2 ^ 64 = omega (arith, ap (λ (xs : List Item). length xs) changed, length_change k (apply_change how) is) in
+    let totals : AreTotals m all c.exchanged-self.result =
+    totals_as m js all (replace_part old new c.args.self.now.totals) c.exchanged-self.result (totals_changed m k how is old new c.args.self.now.totals before.totals few parts) changed c.exchanged-self.ensures in
+    record {
+      totals = totals;
+      last_blocks = subst (λ (xs : List Item). Knows c.see.new.self xs) (sym changed) (c.see.ensures k is before.last_blocks);
+      waiting = c.count.ensures all totals.queued (c.follow_waiting.ensures m how is changed parts before.waiting);
+      messages = subst (λ (xs : List Item). Finds c.args.self.now.messages xs) (sym changed) (finds_changed c.args.self.now.messages how k is before.messages);
+      expiries = subst (λ (xs : List Item). Expects c.renew.new.self xs) (sym changed) (c.renew.ensures is js (moves_changed m how k is old new parts) before.expiries);
+    }

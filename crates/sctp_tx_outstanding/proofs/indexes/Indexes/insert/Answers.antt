@@ -1,0 +1,49 @@
+use Rattle.std.proofs.Common.{◌<◌, ◌^◌, ◌≡◌, ◌≤◌, ◌+◌, ◌-◌, ◌∷◌, ◌++◌, [], List, ap, sym, subst, ◌∙◌, length, take, rules, arith, refl}
+use Rattle.std.proofs.lemmas.List.{take_all, take_more, length-take-le}
+use Rattle.sctp_tx_outstanding.specs.declared.totals.Totals.{Totals}
+use Rattle.sctp_tx_outstanding.specs.Item.{Item, never}
+use Rattle.sctp_tx_outstanding.specs.Indexes.{AreIndexes}
+use Rattle.sctp_tx_outstanding.specs.Totals.{replace_part, nothing, parts}
+use Rattle.sctp_tx_outstanding.proofs.TotalsLemmas.{totals_pushed, totals_as}
+use Rattle.sctp_tx_outstanding.proofs.WaitingLemmas.{turns_pushed, stays_pushed}
+use Rattle.sctp_tx_outstanding.proofs.ExpiriesLemmas.{moves_pushed}
+use Rattle.sctp_tx_outstanding.proofs.indexes.Indexes.insert.Goals as goal
+
+pub returns-in_default : goal.returns-in_default
+returns-in_default c =
+    let items = c.args.items.now.items in
+    let none : length items ≤ c.saturating_sub-place.result = search rules in
+    let len : c.len.result ≡ length items = search rules in
+    subst (λ (js : List Item). AreIndexes c.args.is_interleaved js c.args.self.now) (take_all (length items - 1) items (omega (arith, none, len, c.saturating_sub-place.ensures))) c.requires
+
+pub returns : goal.returns
+returns c =
+    let m = c.args.is_interleaved in
+    let items = c.args.items.now.items in
+    let old = c.args.self.now in
+    let i = c.in-Some.item.now in
+    let place = c.saturating_sub-place.result in
+    let is = take place items in
+    let len : c.len.result ≡ length items = search rules in
+    let within : place < length items = search rules in
+    let last : place ≡ length items - 1 = omega (arith, len, c.saturating_sub-place.ensures) in
+    let before : AreIndexes m is old = subst (λ n. AreIndexes m (take n items) old) (sym last) c.requires in
+    let all : items ≡ is ++ i ∷ [] =
+    sym (take_all (place + 1) items (omega (arith, last))) ∙ (take_more items place i within ∙ ap (λ j. is ++ j ∷ []) (sym c.in-Some.ensures.lookup)) in
+    let count : length is ≡ place = length-take-le place items (omega (arith, within)) in
+    let few : length (is ++ i ∷ []) < 2 ^ 64 = omega (arith, len, ap (λ (js : List Item). length js) all) in
+    let size = c.payload_size.ensures in
+    let waits = c.should_be_retransmitted.ensures in
+    let earliest = ap (λ (t : Totals). t.earliest) c.of-part.ensures in
+    let exchanged : c.exchanged-self.result ≡ replace_part nothing (parts m i) old.totals =
+    c.exchanged-self.ensures ∙ (ap (λ (t : Totals). replace_part t c.of-part.result old.totals) c.nothing.ensures ∙ ap (λ (t : Totals). replace_part nothing t old.totals) c.of-part.ensures) in
+    subst (λ (js : List Item). AreIndexes m js (record { totals = c.exchanged-self.result; last_blocks = c.take.new.self; waiting = c.follow.new.self; messages = c.add.new.self; expiries = c.renew.new.self })) (sym all)
+    (record {
+      totals = totals_as m (is ++ i ∷ []) (is ++ i ∷ []) (replace_part nothing (parts m i) old.totals) c.exchanged-self.result
+          (totals_pushed m is i old.totals before.totals few (omega (arith, size.size, size.small))) refl exchanged;
+      last_blocks = c.take.ensures is i (sym c.is_acked.ensures) before.last_blocks;
+      waiting = c.follow.ensures is (is ++ i ∷ []) (turns_pushed old.waiting.first place is i c.should_be_retransmitted.result count waits)
+          (stays_pushed c.payload_size.result c.should_be_retransmitted.result is i waits size.size) before.waiting;
+      messages = c.add.ensures is i count (sym c.message_id.ensures) before.messages;
+      expiries = c.renew.ensures is (is ++ i ∷ []) (moves_pushed place never c.of-part.result.earliest is i count refl earliest) before.expiries;
+    })

@@ -1,0 +1,17 @@
+-- What is known of the kept items besides themselves.
+use Rattle.std.specs.Prelude.{Bool, List}
+use Rattle.sctp_tx_outstanding.specs.declared.indexes.Indexes.{Indexes}
+use Rattle.sctp_tx_outstanding.specs.Item.{Item}
+use Rattle.sctp_tx_outstanding.specs.Expiries.{Expects}
+use Rattle.sctp_tx_outstanding.specs.LastBlocks.{Knows}
+use Rattle.sctp_tx_outstanding.specs.Messages.{Finds}
+use Rattle.sctp_tx_outstanding.specs.Totals.{AreTotals}
+use Rattle.sctp_tx_outstanding.specs.Waiting.{Lists}
+
+-- each of the indexes is of these items
+pub record AreIndexes (is_interleaved : Bool) (is : List Item) (x : Indexes) : Type 0 where
+  pub totals : AreTotals is_interleaved is x.totals
+  pub last_blocks : Knows x.last_blocks is
+  pub waiting : Lists x.waiting is
+  pub messages : Finds x.messages is
+  pub expiries : Expects x.expiries is

@@ -1,0 +1,131 @@
+//! The indexes of the kept items.
+
+ghost use Rattle.std.specs.Prelude.{◌≡◌, ◌-◌, ◌∷◌, [], Bool, List, length, take};
+ghost use Rattle.sctp_tx_outstanding.specs.Item.{Item};
+ghost use Rattle.sctp_tx_outstanding.specs.Change.{apply_change};
+ghost use Rattle.sctp_tx_outstanding.specs.OutstandingData.{change_at};
+ghost use Rattle.sctp_tx_outstanding.specs.Totals.{Exchanges};
+ghost use Rattle.sctp_tx_outstanding.specs.Waiting.{HasSize, Lists};
+ghost use Rattle.sctp_tx_outstanding.specs.Indexes.{AreIndexes};
+
+use crate::expiries::Expiries;
+use crate::item::Item;
+use crate::kept::Change;
+use crate::last_blocks::LastBlocks;
+use crate::messages::Messages;
+use crate::totals::Totals;
+use crate::waiting::Waiting;
+use std::alloc::Global;
+use std::collections::VecDeque;
+
+/// What is known of the kept items, so that they needn't be looked at: sums over them, and the places of those that wait,
+/// expire, are of a message, or aren't as the last SACK's blocks say.
+#[derive(Drop)]
+pub struct Indexes {
+    pub totals: Totals,
+    pub last_blocks: LastBlocks,
+    pub waiting: Waiting,
+    pub messages: Messages,
+    pub expiries: Expiries,
+}
+
+/// The bytes of the payload of the item at the place.
+fn payload_at(items: &VecDeque<Item>, place: usize) -> usize
+    ensures { HasSize place result items.now.items }
+{
+    match items.get(place) {
+        Some(item) => item.payload_size(),
+        None => 0,
+    }
+}
+
+/// The item at the place changed, by which one part of the totals came for another: it may wait now, or no longer.
+fn follow_waiting(
+    waiting: &mut Waiting,
+    items: &VecDeque<Item>,
+    place: usize,
+    old: Totals,
+    new: Totals,
+)
+    ensures { (m : Bool) (how : Change) (is : List Item) → items.now.items ≡ change_at place (apply_change how) is → Exchanges m place how is old new
+        → Lists waiting.old is → Lists waiting.new items.now.items }
+{
+    if old.queued == new.queued {
+        return;
+    }
+    let size = payload_at(items, place);
+    waiting.follow(place, size, old.queued > 0, new.queued > 0);
+}
+
+impl Indexes {
+    /// Of no items. Takes no memory.
+    pub(crate) fn new(alloc: Global) -> Indexes
+        ensures { (m : Bool) → AreIndexes m [] result }
+    {
+        Indexes {
+            totals: Totals::nothing(),
+            last_blocks: LastBlocks::new(alloc),
+            waiting: Waiting::new(alloc),
+            messages: Messages::new(alloc),
+            expiries: Expiries::new(alloc),
+        }
+    }
+
+    /// The last of the items is new.
+    pub(crate) fn insert(&mut self, items: &VecDeque<Item>, is_interleaved: bool)
+        requires { AreIndexes is_interleaved (take (length items.now.items - 1) items.now.items) self.old }
+        ensures { AreIndexes is_interleaved items.now.items self.new }
+    {
+        let place = items.len().saturating_sub(1);
+        let Some(item) = items.get(place) else {
+            return;
+        };
+        let part = Totals::of(item, is_interleaved);
+        self.totals = self.totals.exchanged(Totals::nothing(), part);
+        self.last_blocks.take(item.is_acked());
+        self.waiting.follow(
+            place,
+            item.payload_size(),
+            false,
+            item.should_be_retransmitted(),
+        );
+        self.messages.add(item.message_id(), place);
+        self.expiries.renew(place, u128::MAX, part.earliest);
+    }
+
+    /// The first item has left, before the others.
+    pub(crate) fn remove(&mut self, item: &Item, others: &VecDeque<Item>, is_interleaved: bool)
+        requires { AreIndexes is_interleaved (item.now ∷ others.now.items) self.old }
+        ensures { AreIndexes is_interleaved others.now.items self.new }
+    {
+        // (read for its bound)
+        let _count = others.len();
+        let part = Totals::of(item, is_interleaved);
+        self.totals = self.totals.exchanged(part, Totals::nothing());
+        self.last_blocks.pass();
+        self.waiting.pass(item.should_be_retransmitted());
+        self.messages.leave(item.message_id());
+        self.expiries.leave(part.earliest);
+    }
+
+    /// The item at the place changed, by which one part of the totals came for another.
+    pub(crate) fn follow(
+        &mut self,
+        items: &VecDeque<Item>,
+        place: usize,
+        how: Change,
+        parts: (Totals, Totals),
+    )
+        ensures { (m : Bool) (is : List Item) → items.now.items ≡ change_at place (apply_change how) is → Exchanges m place how is parts.0 parts.1
+            → AreIndexes m is self.old → AreIndexes m items.now.items self.new }
+    {
+        // (read for its bound)
+        let _count = items.len();
+        let (old, new) = parts;
+        self.totals = self.totals.exchanged(old, new);
+        self.last_blocks.see(how);
+        follow_waiting(&mut self.waiting, items, place, old, new);
+        self.waiting.count(self.totals.queued);
+        self.expiries.renew(place, old.earliest, new.earliest);
+    }
+}
