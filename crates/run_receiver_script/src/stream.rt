@@ -10,9 +10,8 @@ use crate::receiver::show_next;
 use crate::words::{number, piece, value, word, yes_or_no};
 use sctp_packet::Data;
 use sctp_rx::{
-    InterleavedKey, ReadyMessages, ReassemblyKey, ReassemblyStream, TraditionalKey,
-    UnorderedInterleavedKey, interleaved_reassembly_streams as interleaved,
-    traditional_reassembly_streams as traditional,
+    InterleavedKey, OrderedStream, ReadyMessages, ReassemblyKey, ReassemblyStream, TraditionalKey,
+    UnorderedInterleavedKey, UnorderedStream,
 };
 use std::alloc::{AllocError, Global};
 
@@ -35,7 +34,7 @@ trait Stream: ReassemblyStream {
     fn drop_below(&mut self, first: Self::Key);
 }
 
-impl Stream for traditional::OrderedStream {
+impl Stream for OrderedStream<TraditionalKey> {
     fn number(&self) -> u128 {
         self.next()
     }
@@ -43,7 +42,7 @@ impl Stream for traditional::OrderedStream {
     fn drop_below(&mut self, _first: TraditionalKey) {}
 }
 
-impl Stream for interleaved::OrderedStream {
+impl Stream for OrderedStream<InterleavedKey> {
     fn number(&self) -> u128 {
         self.next()
     }
@@ -51,7 +50,7 @@ impl Stream for interleaved::OrderedStream {
     fn drop_below(&mut self, _first: InterleavedKey) {}
 }
 
-impl Stream for traditional::UnorderedStream {
+impl Stream for UnorderedStream<TraditionalKey> {
     fn number(&self) -> u128 {
         self.near() as u128
     }
@@ -61,7 +60,7 @@ impl Stream for traditional::UnorderedStream {
     }
 }
 
-impl Stream for interleaved::UnorderedStream {
+impl Stream for UnorderedStream<UnorderedInterleavedKey> {
     fn number(&self) -> u128 {
         self.near() as u128
     }
@@ -101,25 +100,25 @@ pub fn run_ordered(alloc: Global, line: &str, script: &str, output: &mut Output)
     match (word(line, 1), begin.is_empty()) {
         ("tsn", true) => run_on(
             alloc,
-            traditional::OrderedStream::new(alloc),
+            OrderedStream::<TraditionalKey>::new(alloc),
             script,
             output,
         ),
         ("fsn", true) => run_on(
             alloc,
-            interleaved::OrderedStream::new(alloc),
+            OrderedStream::<InterleavedKey>::new(alloc),
             script,
             output,
         ),
         ("tsn", _) => run_on(
             alloc,
-            traditional::OrderedStream::restored(alloc, next),
+            OrderedStream::<TraditionalKey>::restored(alloc, next),
             script,
             output,
         ),
         _ => run_on(
             alloc,
-            interleaved::OrderedStream::restored(alloc, next),
+            OrderedStream::<InterleavedKey>::restored(alloc, next),
             script,
             output,
         ),
@@ -131,13 +130,13 @@ pub fn run_unordered(alloc: Global, line: &str, script: &str, output: &mut Outpu
     match word(line, 1) {
         "tsn" => run_on(
             alloc,
-            traditional::UnorderedStream::new(alloc),
+            UnorderedStream::<TraditionalKey>::new(alloc),
             script,
             output,
         ),
         _ => run_on(
             alloc,
-            interleaved::UnorderedStream::new(alloc),
+            UnorderedStream::<UnorderedInterleavedKey>::new(alloc),
             script,
             output,
         ),

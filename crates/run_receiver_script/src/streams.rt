@@ -6,9 +6,7 @@ use crate::receiver::{Receiver, show_next, show_sums, take};
 use crate::stream::have_room;
 use crate::words::{bytes_of, entry, fragment, half, number, rest, stream_key, value, word};
 use sctp_packet::{Data, SkippedStream};
-use sctp_rx::{
-    InterleavedReassemblyStreams, ReadyMessages, ReassemblyStreams, TraditionalReassemblyStreams,
-};
+use sctp_rx::{ReadyMessages, ReassemblyStreams};
 use sctp_serial::{Message, PpId, StreamId, StreamKey};
 use std::alloc::{AllocError, Global};
 
@@ -23,45 +21,24 @@ struct Row {
 
 /// Streams, the messages that are ready, and the messages whose fragments may come.
 #[derive(Drop)]
-struct Streams<S> {
-    streams: S,
+struct Streams {
+    streams: ReassemblyStreams,
     ready: ReadyMessages,
     rows: Vec<Row>,
 }
 
 /// Takes the commands of a script on streams.
 pub fn run(alloc: Global, line: &str, script: &str, output: &mut Output) {
-    match word(line, 1) {
-        "traditional" => run_on(
-            alloc,
-            TraditionalReassemblyStreams::new(alloc),
-            script,
-            output,
-        ),
-        _ => run_on(
-            alloc,
-            InterleavedReassemblyStreams::new(alloc),
-            script,
-            output,
-        ),
-    }
-}
-
-fn run_on<S: ReassemblyStreams + Drop>(
-    alloc: Global,
-    streams: S,
-    script: &str,
-    output: &mut Output,
-) {
+    let is_interleaved = word(line, 1) != "traditional";
     let streams = Streams {
-        streams,
+        streams: ReassemblyStreams::new(alloc, is_interleaved),
         ready: ReadyMessages::new(alloc),
         rows: Vec::new(alloc),
     };
     play_each(alloc, streams, script, output);
 }
 
-impl<S: ReassemblyStreams> Receiver for Streams<S> {
+impl Receiver for Streams {
     fn add(&mut self, tsn: u64, fragment: Data) -> Result<(), AllocError> {
         let has_room = have_room(
             self.streams.queued_bytes(),
@@ -107,7 +84,7 @@ impl<S: ReassemblyStreams> Receiver for Streams<S> {
     }
 }
 
-impl<S: ReassemblyStreams> Player for Streams<S> {
+impl Player for Streams {
     /// `skip ENTRY`; `push STREAM HEX`: a message that is ready; `sizes`; `message STREAM NUMBER FIRST COUNT`: a message whose fragments may
     /// come; `come TSN ..`; and what a queue takes too.
     fn play(&mut self, alloc: Global, line: &str, output: &mut Output) {
@@ -122,7 +99,7 @@ impl<S: ReassemblyStreams> Player for Streams<S> {
     }
 }
 
-impl<S: ReassemblyStreams> Streams<S> {
+impl Streams {
     fn skip(&mut self, entry: SkippedStream, output: &mut Output) {
         if !have_room(self.streams.queued_bytes(), &self.ready, 0) {
             output.push_str("refused");

@@ -10,7 +10,15 @@ use Rattle.std.specs.BTreeMap.{insert_entry}
 use Rattle.std.proofs.lemmas.Bool.{leb-true, and_parts}
 use Rattle.std.proofs.lemmas.List.{take_more}
 use Rattle.std.proofs.lemmas.List.Sums.{sum_by-cons}
+use Rattle.sctp_serial.specs.Unwrapped.{origin}
+use Rattle.sctp_state.specs.declared.api.handover.HandoverOrderedStream.{HandoverOrderedStream}
+use Rattle.sctp_state.specs.declared.api.handover.HandoverUnorderedStream.{HandoverUnorderedStream}
+use Rattle.sctp_state.specs.Handover.{Receive}
 use Rattle.sctp_state.specs.Validity.{rises_from}
+use Rattle.sctp_fragments.specs.Held.{bytes_of}
+use Rattle.sctp_reassembly.specs.Delivery.{OrderedStream, UnorderedStream, fresh_unordered}
+use Rattle.sctp_reassembly.specs.ReassemblyStreams.{Streams, held_bytes, fragments_of}
+use Rattle.sctp_reassembly.specs.ReassemblyHandover.{streams_restored}
 
 module _ {S : Type 0} where
   -- each key is below n
@@ -53,3 +61,19 @@ module _ {R S : Type 0} (id : R → ℕ) (state : R → S) where
   pub weightless : (weight : S → ℕ) → ((r : R) → weight (state r) ≡ 0) → (rs : List R) → sum_by weight (values_of (entries rs)) ≡ 0
   weightless weight none [] = refl
   weightless weight none (r ∷ rs) = omega (arith, sum_by-cons weight (state r) (values_of (entries rs)), none r, weightless weight none rs)
+
+-- nothing is held
+module _ (rx : Receive) (ss : Streams) where
+  pub no_bytes_restored : held_bytes (streams_restored rx ss) ≡ 0
+  no_bytes_restored = omega (
+    arith,
+    weightless (λ (s : HandoverOrderedStream). s.id) (λ (s : HandoverOrderedStream). record { next = origin + s.next_ssn; held = [] }) (λ (s : OrderedStream). bytes_of s.held) (λ r. refl) rx.ordered_streams,
+    weightless (λ (s : HandoverUnorderedStream). s.id) (λ (s : HandoverUnorderedStream). fresh_unordered) (λ (s : UnorderedStream). bytes_of s.held) (λ r. refl) rx.unordered_streams,
+  )
+
+  pub no_fragments_restored : fragments_of (streams_restored rx ss) ≡ 0
+  no_fragments_restored = omega (
+    arith,
+    weightless (λ (s : HandoverOrderedStream). s.id) (λ (s : HandoverOrderedStream). record { next = origin + s.next_ssn; held = [] }) (λ (s : OrderedStream). length s.held) (λ r. refl) rx.ordered_streams,
+    weightless (λ (s : HandoverUnorderedStream). s.id) (λ (s : HandoverUnorderedStream). fresh_unordered) (λ (s : UnorderedStream). length s.held) (λ r. refl) rx.unordered_streams,
+  )

@@ -3,7 +3,6 @@
 
 mod counted;
 mod dropped;
-pub mod interleaved_reassembly_streams;
 pub mod interval_laws;
 pub mod interval_list;
 mod intervals;
@@ -20,14 +19,13 @@ pub mod settled_laws;
 mod sorted_skips;
 pub mod stream_id_set;
 mod stream_map;
-pub mod traditional_reassembly_streams;
 mod unordered_by_tsn;
 mod unordered_stream;
 mod unordered_streams;
 
-pub use interleaved_reassembly_streams::InterleavedReassemblyStreams;
 pub use interval_laws::messages_are_intervals;
 pub use interval_list::IntervalList;
+pub use ordered_stream::OrderedStream;
 pub use ready_laws::{
     complete_intervals_are_messages, forward_points_make_ready, held_fragments_make_messages,
     ordered_fragments_make_ready, unordered_fragments_make_ready,
@@ -46,4 +44,4 @@ pub use settled_laws::{
     restored_queues_are_settled,
 };
 pub use stream_id_set::StreamIdSet;
-pub use traditional_reassembly_streams::TraditionalReassemblyStreams;
+pub use unordered_stream::UnorderedStream;

@@ -11,7 +11,6 @@ ghost use Rattle.sctp_reassembly.specs.Delivery.{Extends};
 ghost use Rattle.sctp_reassembly.specs.ReassemblyHandover.{readiness, write_handover, restore};
 
 mod deferred;
-mod reassembly_mode;
 mod waiting;
 
 use crate::ordered_stream::FIRST;
@@ -19,7 +18,6 @@ use crate::ready_messages::ReadyMessages;
 use crate::reassembly_streams::ReassemblyStreams;
 use crate::sorted_skips::entries_in;
 use deferred::{Deferred, none_waits};
-use reassembly_mode::ReassemblyMode;
 use sctp_chunk::{Data, SkippedStream};
 use sctp_serial::{Message, SerialNumber, StreamId, Tsn};
 use sctp_state::{HandoverReadiness, SocketHandoverState};
@@ -41,7 +39,7 @@ pub struct ReassemblyQueue {
     max_fragments: usize,
     first: Option<Tsn>,
     near: u64,
-    streams: ReassemblyMode,
+    streams: ReassemblyStreams,
     deferred: Option<Deferred>,
     ready: ReadyMessages,
     ready_count: usize,
@@ -49,14 +47,13 @@ pub struct ReassemblyQueue {
 
 impl Model for ReassemblyQueue {
     ghost use Rattle.std.specs.Prelude.{option_map};
-    ghost use Rattle.sctp_reassembly.specs.ReassemblyMode.{streams_of};
     ghost use Rattle.sctp_reassembly.specs.ReassemblyQueue.{Reassembly, IsQueue};
 
     ghost Value = { Reassembly };
 
-    ghost view = { λ q. record { max_size = q.max_size; max_fragments = q.max_fragments; first = option_map (λ t. t.0) q.first; near = q.near; streams = streams_of q.streams; deferred = q.deferred; ready = q.ready; ready_count = q.ready_count } };
+    ghost view = { λ q. record { max_size = q.max_size; max_fragments = q.max_fragments; first = option_map (λ t. t.0) q.first; near = q.near; streams = q.streams; deferred = q.deferred; ready = q.ready; ready_count = q.ready_count } };
 
-    ghost invariant = { λ q. IsQueue (record { max_size = q.max_size; max_fragments = q.max_fragments; first = option_map (λ t. t.0) q.first; near = q.near; streams = streams_of q.streams; deferred = q.deferred; ready = q.ready; ready_count = q.ready_count }) };
+    ghost invariant = { λ q. IsQueue (record { max_size = q.max_size; max_fragments = q.max_fragments; first = option_map (λ t. t.0) q.first; near = q.near; streams = q.streams; deferred = q.deferred; ready = q.ready; ready_count = q.ready_count }) };
 }
 
 impl ReassemblyQueue {
@@ -76,7 +73,7 @@ impl ReassemblyQueue {
             max_fragments: usize::MAX,
             first: None,
             near: FIRST,
-            streams: ReassemblyMode::new(alloc, use_message_interleaving),
+            streams: ReassemblyStreams::new(alloc, use_message_interleaving),
             deferred: None,
             ready: ReadyMessages::new(alloc),
             ready_count: 0,

@@ -5,10 +5,10 @@ use Rattle.sctp_reassembly.proofs.InterruptedQueueLemmas.{passes_in_part}
 use Rattle.sctp_reassembly.proofs.reassembly_streams.ReassemblyStreams.handle_forward_tsn.Goals as goal
 
 pub returns-in_err-entries-clause-err : goal.returns-in_err-entries-clause-err
-returns-in_err-entries-clause-err g c = on_err c.from_residual.result (0, 0, record { streams = refl; messages = sym (append-nil c.args.ready.now) })
+returns-in_err-entries-clause-err c = on_err c.from_residual.result (0, 0, record { streams = refl; messages = sym (append-nil c.args.ready.now) })
 
 pub returns-clause-err : goal.returns-clause-err
-returns-clause-err g c =
+returns-clause-err c =
     on_err_weaker c.skip_each.result
-    (passes_in_part c.args.tsn c.args.skipped.now c.deref.result.now (g.Self.ReassemblyStreams.streams c.args.self.now) (g.Self.ReassemblyStreams.streams c.drop_to.new.self) (g.Self.ReassemblyStreams.streams c.skip_each.new.streams) c.args.ready.now c.skip_each.new.ready (c.deref.ensures.value ∙ c.in_ok-entries.ensures) c.drop_to.ensures.value)
+    (passes_in_part c.args.tsn c.args.skipped.now c.deref.result.now c.args.self.now c.drop_to.new.self c.skip_each.new.self c.args.ready.now c.skip_each.new.ready (c.deref.ensures.value ∙ c.in_ok-entries.ensures) c.drop_to.ensures.value)
     c.skip_each.ensures.err
