@@ -1,5 +1,5 @@
 -- Congestion control leaves the size of a packet and the least window as they are.
-use Rattle.std.proofs.Common.{◌≡◌, ℕ, Bool, true, false, Option, refl, ap, sym, subst, ◌∙◌}
+use Rattle.std.proofs.Common.{◌≡◌, ℕ, Bool, true, false, refl, ap, ◌∙◌}
 use Rattle.std.specs.Prelude.{nat_le}
 use Rattle.sctp_tx.specs.declared.retransmission_queue.congestion_control.CongestionControl.{CongestionControl}
 use Rattle.sctp_tx.specs.CongestionControl.{avoidance, grown_by}
