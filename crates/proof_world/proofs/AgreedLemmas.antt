@@ -21,7 +21,8 @@ use Rattle.proof_pair.proofs.AgreeWithinLemmas.{has_either}
 use Rattle.proof_pair.proofs.AgreeActionsLemmas.{ends_agree}
 use Rattle.spec_world.specs.Observations.{End, A, B, same_end, none_unless, same_association, Entry, Associated, EmittedPacket, EmittedEvent, GaveUp, BecameReady, Call, Connect, Shutdown, Close, Send, SendMany, TakeMessage, Reset, SetPriority, SetMaxMessageSize, SetLowThreshold, HandOver, connected_by, times_connected, held_after, held_from, held}
 use Rattle.spec_world.specs.World.{Side, World, Action, CallOf, Give, GiveForeign, AdvanceTime, MeetsForeignAt, given, withheld, Happens, Runs, side_of, other, packets_in, news_of, emitted_entries, given_up_entries, ready_entries, ready_before, ready_at, association, associated_if, association_entries, call_entry, after_call, time_entry, after_time, table_call}
-use Rattle.proof_world.specs.Traces.{ActionFits, IsInBytes, is_a, end_of, give_action, IsForeign, IsActionOf, AreActionsOf, emitted_in, initial_world}
+use Rattle.proof_world.specs.Reachable.{ActionFits, IsInBytes, initial_world}
+use Rattle.proof_world.specs.Traces.{is_a, end_of, give_action, IsForeign, IsActionOf, AreActionsOf, emitted_in}
 use Rattle.proof_world.specs.Agreed.{IsAgreed, WorldAgrees, WorldsAgree}
 use Rattle.proof_world.proofs.EventLemmas.{mapped, entries_both, same_itself, connected_emitted}
 use Rattle.proof_world.proofs.NewsLemmas.{emitted_both, held_both, connected_by_emitted}
@@ -414,11 +415,11 @@ none_yet [] behind e h = cc
 none_yet (b ∷ before) behind e h = cc
 
 pub worlds_agree : WorldsAgree
-worlds_agree w l distinct =
-    let c : Pair = start l.a l.b l.draws_a l.draws_b in
-    let r : Ran l.word_of_a l.word_of_b l.actions (initial_world l) w c no_histories =
-    ran l.word_of_a l.word_of_b l.actions (initial_world l) w c no_histories l.fit l.runs l.bytes (fresh_both l.a l.b l.draws_a l.draws_b l.word_of_a l.word_of_b l.fits_a l.fits_b) in
+worlds_agree origin actions w l distinct =
+    let c : Pair = start origin.a origin.b origin.draws_a origin.draws_b in
+    let r : Ran origin.word_of_a origin.word_of_b actions (initial_world origin) w c no_histories =
+    ran origin.word_of_a origin.word_of_b actions (initial_world origin) w c no_histories l.fit l.runs l.bytes (fresh_both origin.a origin.b origin.draws_a origin.draws_b origin.word_of_a origin.word_of_b l.fits_a l.fits_b) in
     r.agrees
-    (ends_agree l.a l.b l.draws_a l.draws_b r.trace (given_of l.a l.valid_a l.fits_a) (given_of l.b l.valid_b l.fits_b)
-    (allowed_all l.word_of_a l.word_of_b l.actions r.trace c r.are) (distinct r.trace r.are))
+    (ends_agree origin.a origin.b origin.draws_a origin.draws_b r.trace (given_of origin.a l.valid_a l.fits_a) (given_of origin.b l.valid_b l.fits_b)
+    (allowed_all origin.word_of_a origin.word_of_b actions r.trace c r.are) (distinct r.trace r.are))
     (λ x before behind e. none_yet before behind (connection x) e) (λ a h. absurd h) (λ a h. absurd h)

@@ -17,9 +17,10 @@ use Rattle.proof_delivery.specs.StreamEpochs.{failed_in}
 use Rattle.spec_world.specs.Observations.{End, A, B, Connect, Shutdown, Entry, Called, BecameReady, ready, handed_out}
 use Rattle.spec_world.specs.World.{World, Action, Runs, other, is_at_rest}
 use Rattle.spec_world.proofs.RunLemmas.{Runs_append}
-use Rattle.proof_world.specs.Traces.{ActionFits, IsInBytes, IsReachable, initial_world, is_a, end_of}
+use Rattle.proof_world.specs.Reachable.{ActionFits, IsInBytes, Origin, IsReachable, initial_world}
+use Rattle.proof_world.specs.Traces.{is_a, end_of}
 use Rattle.proof_world.specs.Consistent.{gets_init, got_init, NoEndingIsLogged, MayFollow, WorldKeepsRules, WorldEndsAreConsistent}
-use Rattle.proof_world.specs.Delivered.{AlongRun, sets_more, accepted_messages, emitted_events, given_up_places, ready_places, IsInItsEpoch, WorldDelivers, WorldIsInBounds}
+use Rattle.proof_world.specs.Delivered.{AlongRun, accepted_messages, emitted_events, given_up_places, ready_places, IsInItsEpoch, WorldDelivers, WorldIsInBounds}
 use Rattle.proof_world.specs.Composed.{WorldsCompose}
 use Rattle.proof_world.proofs.SidesLemmas.{any_more}
 use Rattle.proof_world.proofs.StandingLemmas.{times_more, stands_front}
@@ -32,23 +33,21 @@ use Rattle.proof_tx_refines.specs.Records.{are_distinct}
 use Rattle.proof_world.proofs.PointsLemmas.{IsDeliveredAt}
 use Rattle.proof_world.proofs.LastingLemmas.{first_pair, r, IsKept, trace_delivers, delivered_front, epochs_front, none_failed, none_failed_front, once, rests, prefix, step, prefix_then, none_ready_then, delivered_beside, none_failed_beside, delivered_own, none_failed_own, ends_delivering, b_parted, stands_first, behind_first, logged_first}
 use Rattle.proof_world.proofs.JustifiedLemmas.{worlds_justified}
+use Rattle.proof_world.proofs.EndedLemmas.{ended_handed}
+use Rattle.proof_world.proofs.FewLemmas.{few_in_bounds}
+use Rattle.proof_world.proofs.MtuLemmas.{new_short, runs_short}
+use Rattle.proof_world.proofs.ReadBackLemmas.{packets_read_back}
 use Rattle.proof_protocol.proofs.ToolsLemmas.{not_both}
 
-pub reachable_on : (w v : World) (actions : List Action) → IsReachable w → All ActionFits actions → Runs actions w v → IsInBytes v → IsReachable v
-reachable_on w v actions l fit r small = record {
-  a = l.a;
-  b = l.b;
-  draws_a = l.draws_a;
-  draws_b = l.draws_b;
-  word_of_a = l.word_of_a;
-  word_of_b = l.word_of_b;
+pub reachable_on : (origin : Origin) (before actions : List Action) (w v : World) → IsReachable origin before w → All ActionFits actions → Runs actions w v → IsInBytes v
+    → IsReachable origin (before ++ actions) v
+reachable_on origin before actions w v l fit r small = record {
   valid_a = l.valid_a;
   valid_b = l.valid_b;
   fits_a = l.fits_a;
   fits_b = l.fits_b;
-  actions = l.actions ++ actions;
-  fit = All-append ActionFits l.actions actions l.fit fit;
-  runs = Runs_append l.actions actions _ w v l.runs r;
+  fit = All-append ActionFits before actions l.fit fit;
+  runs = Runs_append before actions (initial_world origin) w v l.runs r;
   bytes = small;
 }
 
@@ -58,19 +57,13 @@ one P x h = All-cons P x [] h (All-nil P)
 -- ---- worlds on the way
 
 -- an earlier world, by the first actions
-abbrev reachable_before : (w u : World) (l : IsReachable w) (front : List Action) → All ActionFits front → Runs front (initial_world l) u → Extends u w → IsReachable u
-reachable_before w u l front fit r e = record {
-  a = l.a;
-  b = l.b;
-  draws_a = l.draws_a;
-  draws_b = l.draws_b;
-  word_of_a = l.word_of_a;
-  word_of_b = l.word_of_b;
+abbrev reachable_before : (origin : Origin) (actions : List Action) (w u : World) (l : IsReachable origin actions w) (front : List Action) → All ActionFits front
+    → Runs front (initial_world origin) u → Extends u w → IsReachable origin front u
+reachable_before origin actions w u l front fit r e = record {
   valid_a = l.valid_a;
   valid_b = l.valid_b;
   fits_a = l.fits_a;
   fits_b = l.fits_b;
-  actions = front;
   fit = fit;
   runs = r;
   bytes = in_bytes_before u w e l.bytes;
@@ -116,21 +109,21 @@ same_or_other B A = inr refl
 
 -- ---- until an association is over
 
-module _ (w : World) (l : IsReachable w) (rules : WorldKeepsRules w) where
-  up : UpToEnd l.actions (initial_world l) w l.runs
-  up = up_to_end l.actions (initial_world l) w l.fit l.runs (λ x. refl)
+module _ {origin : Origin} {actions : List Action} (w : World) (l : IsReachable origin actions w) (rules : WorldKeepsRules w) where
+  up : UpToEnd actions (initial_world origin) w l.runs
+  up = up_to_end actions (initial_world origin) w l.fit l.runs (λ x. refl)
 
   abbrev u : World
   u = up.world
 
-  abbrev reachable : IsReachable u
-  reachable = reachable_before w u l up.front up.fit up.before up.later
+  abbrev reachable : IsReachable origin up.front u
+  reachable = reachable_before origin actions w u l up.front up.fit up.before up.later
 
   u_rules : WorldKeepsRules u
   u_rules = rules_before u w up.later rules
 
   abbrev Over : Type 0
-  Over = IsOver l.actions (initial_world l) w l.runs up.front u up.before
+  Over = IsOver actions (initial_world origin) w l.runs up.front u up.before
 
   -- each beginning that stands is one of that world, or ends in the event behind it
   at_early : (P : List Entry → Type 0) (o : Over) → ((early late : List Entry) → u.log ≡ early ++ late → P early)
@@ -163,14 +156,13 @@ module _ (w : World) (l : IsReachable w) (rules : WorldKeepsRules w) where
 
   -- ---- what is delivered
 
-  module _ (k : WorldIsInBounds l.actions (initial_world l) w l.runs) where
+  module _ (k : WorldIsInBounds actions (initial_world origin) w l.runs) where
     kept_up_to_end : IsKept u reachable u_rules up.stands
     kept_up_to_end = record {
       windows = up.windows no_stamps k.windows;
       answered = up.requests none_asked k.resets.answered;
       few_resets = λ x. k.resets.few x u.log up.later.more up.later.logged up.stands;
       few = λ x. k.few x u.log up.later.more up.later.logged up.stands;
-      limits = up.none_such sets_more k.limits;
     }
 
     abbrev Given : End → Type 0
@@ -199,7 +191,7 @@ module _ (w : World) (l : IsReachable w) (rules : WorldKeepsRules w) where
 
     given : (x : End) (from : Given x) → ((early late : List Entry) → w.log ≡ early ++ late → NoEndingIsLogged early → IsDeliveredAt x from.places early)
         → ((early late : List Entry) → w.log ≡ early ++ late → NoEndingIsLogged early → LastIsInItsEpoch x from early)
-        → WorldDelivers x l.actions (initial_world l) w l.runs
+        → WorldDelivers x actions (initial_world origin) w l.runs
     given x from each in_epochs = record {
       places = from.places;
       fits = λ early late e st. (each early late e st).fits;
@@ -230,10 +222,10 @@ module _ (w : World) (l : IsReachable w) (rules : WorldKeepsRules w) where
         (step u reachable u_rules up.stands o.action o.next w o.fits o.happens o.ends o.later rules).turn (first_pair u reachable u_rules up.stands)
     ends_then then o =
         ends_delivering u reachable u_rules up.stands o.action o.next w o.fits o.happens o.ends o.later rules then kept_up_to_end
-        (o.timely no_stamps k.windows) (o.none_such sets_more k.limits) (few_then o)
+        (o.timely no_stamps k.windows) (few_then o)
 
     -- by the end whose event it is
-    by_own : MessagesAreDeliveredThen → (o : Over) → WorldDelivers (end_of o.action) l.actions (initial_world l) w l.runs
+    by_own : MessagesAreDeliveredThen → (o : Over) → WorldDelivers (end_of o.action) actions (initial_world origin) w l.runs
     by_own then o =
         let from = ends_then then o in
         given (end_of o.action) from.delivers
@@ -242,7 +234,7 @@ module _ (w : World) (l : IsReachable w) (rules : WorldKeepsRules w) where
         delivered_own u reachable u_rules up.stands o.action o.next w o.fits o.happens o.ends o.later rules more behind e st from (whole_front (end_of o.action) from.delivers)))
         (epochs_then o (end_of o.action) from.delivers)
 
-    by_other : MessagesAreDelivered → (o : Over) → WorldDelivers (other (end_of o.action)) l.actions (initial_world l) w l.runs
+    by_other : MessagesAreDelivered → (o : Over) → WorldDelivers (other (end_of o.action)) actions (initial_world origin) w l.runs
     by_other law o =
         let from : Given (other (end_of o.action)) = trace_delivers u reachable u_rules up.stands law kept_up_to_end (other (end_of o.action)) in
         given (other (end_of o.action)) from
@@ -251,7 +243,7 @@ module _ (w : World) (l : IsReachable w) (rules : WorldKeepsRules w) where
         delivered_beside u reachable u_rules up.stands o.action o.next w o.fits o.happens o.ends o.later rules more behind e st from.places (whole_front (other (end_of o.action)) from)))
         (epochs_then o (other (end_of o.action)) from)
 
-    pub delivers_then : MessagesAreDelivered → MessagesAreDeliveredThen → (x : End) → WorldDelivers x l.actions (initial_world l) w l.runs
+    pub delivers_then : MessagesAreDelivered → MessagesAreDeliveredThen → (x : End) → WorldDelivers x actions (initial_world origin) w l.runs
     delivers_then law then x =
         elim up.over [
           | inl same ↦
@@ -260,8 +252,8 @@ module _ (w : World) (l : IsReachable w) (rules : WorldKeepsRules w) where
               (λ early late e st. epochs_before x from early late (ap (λ (z : World). z.log) (sym same) ∙ e))
           | inr o ↦
               elim (same_or_other x (end_of o.action)) [
-                | inl own ↦ subst (λ (y : End). WorldDelivers y l.actions (initial_world l) w l.runs) (sym own) (by_own then o)
-                | inr beside ↦ subst (λ (y : End). WorldDelivers y l.actions (initial_world l) w l.runs) (sym beside) (by_other law o)
+                | inl own ↦ subst (λ (y : End). WorldDelivers y actions (initial_world origin) w l.runs) (sym own) (by_own then o)
+                | inr beside ↦ subst (λ (y : End). WorldDelivers y actions (initial_world origin) w l.runs) (sym beside) (by_other law o)
               ]
         ]
 
@@ -300,13 +292,18 @@ module _ (w : World) (l : IsReachable w) (rules : WorldKeepsRules w) where
         ]
 
 pub compose : MessagesAreDelivered → NoResetIsRefused → MessagesAreDeliveredThen → WorldsCompose
-compose law refuses then w l = record {
+compose law refuses then origin actions w l = record {
   consistent = λ rules.
-      along_reachable (λ z. NoEndingIsLogged z.log → WorldEndsAreConsistent l.a l.b z) (initial_world l) [] l.actions (initial_world l) w refl l.runs (All-nil ActionFits) l.fit
+      along_reachable (λ z. NoEndingIsLogged z.log → WorldEndsAreConsistent origin.a origin.b z) (initial_world origin) [] actions (initial_world origin) w refl l.runs (All-nil ActionFits) l.fit
       (λ front y fit before later stands.
-      are_consistent ends_consistent y (reachable_before w y l front fit before later) (record { follows = rules_before y w later rules; stands = stands }));
+      are_consistent ends_consistent origin front y (reachable_before origin actions w y l front fit before later) (record { follows = rules_before y w later rules; stands = stands }));
   handed = λ rules. handed_then w l rules;
   delivers = λ rules k. delivers_then w l rules k law then;
+  delivers_few = λ rules k. delivers_then w l rules (few_in_bounds actions (initial_world origin) w l.runs k) law then;
   none_refused = λ rules k. none_fails w l rules k refuses then;
-  justified = worlds_justified l.a l.b l.draws_a l.draws_b l.word_of_a l.word_of_b l.actions w l.fits_a l.fits_b l.fit l.runs l.bytes;
+  justified = worlds_justified origin.a origin.b origin.draws_a origin.draws_b origin.word_of_a origin.word_of_b actions w l.fits_a l.fits_b l.fit l.runs l.bytes;
+  short = runs_short origin.a.mtu origin.b.mtu actions (initial_world origin) w l.runs
+      (new_short origin.a origin.b origin.draws_a origin.draws_b origin.word_of_a origin.word_of_b l.valid_a l.valid_b (initial_world origin) refl);
+  read_back = packets_read_back origin actions w l;
+  lifecycles = λ x id. ended_handed origin.a origin.b origin.draws_a origin.draws_b origin.word_of_a origin.word_of_b actions w l.runs x id;
 }

@@ -17,7 +17,8 @@ use Rattle.proof_pair.specs.Trace.{Pair, EndAction, Calls, Gives, emitted_packet
 use Rattle.proof_pair.specs.Handing.{text}
 use Rattle.spec_world.specs.Observations.{A, B}
 use Rattle.spec_world.specs.World.{Action, CallOf, Give, GiveForeign, AdvanceTime, table_call}
-use Rattle.proof_world.specs.Traces.{ActionFits, is_a, end_of, is_let_through, give_action, IsGiveAction, IsActionOf, AreActionsOf}
+use Rattle.proof_world.specs.Reachable.{ActionFits}
+use Rattle.proof_world.specs.Traces.{is_a, end_of, is_let_through, give_action, IsGiveAction, IsActionOf, AreActionsOf}
 use Rattle.proof_world.specs.Worlds.{is_foreign, NoneIsForeign}
 
 -- ---- where each checksum is 0, each packet is let through

@@ -11,7 +11,7 @@ use Rattle.proof_pair.specs.Trace as traces
 use Rattle.proof_pair.specs.Trace.{Pair, AreValidOptions, AreMirrored, EndsAreConsistent, run, start}
 use Rattle.spec_world.specs.Observations.{End, A, B, Entry, mirrored, held}
 use Rattle.spec_world.specs.World.{Side}
-use Rattle.proof_world.specs.Traces.{initial_world}
+use Rattle.proof_world.specs.Reachable.{initial_world}
 use Rattle.proof_world.specs.Consistent.{association_ends_by, times_ended, WorldsAreConsistent}
 use Rattle.proof_world.proofs.EventLemmas.{ended_emitted}
 use Rattle.proof_world.proofs.NewsLemmas.{ended_by_emitted, made_same}
@@ -46,22 +46,22 @@ module _ (word_of : List ℕ → ℕ) (x : End) (log : List Entry) (others : Lis
   held_open i e = opened end.end.endpoint_state.state i (ap association_in (sym state_of) ∙ (sym g.held ∙ e))
 
 pub are_consistent : EndsAreConsistent → WorldsAreConsistent
-are_consistent law w l u =
-    let r : Ran l.word_of_a l.word_of_b l.actions (initial_world l) w (start l.a l.b l.draws_a l.draws_b) =
-    ran l.word_of_a l.word_of_b l.actions (initial_world l) w (start l.a l.b l.draws_a l.draws_b) l.fit l.runs l.bytes
-    (fresh_both l.a l.b l.draws_a l.draws_b l.word_of_a l.word_of_b l.fits_a l.fits_b) in
-    let c : Pair = run r.trace (start l.a l.b l.draws_a l.draws_b) in
-    let good_a : Good l.word_of_a A w.log w.b.packets w.a c.a = r.both.a in
-    let good_b : Good l.word_of_b B w.log w.a.packets w.b c.b = r.both.b in
-    let joined : traces.AreConsistent l.a l.b c =
-    law l.a l.b l.draws_a l.draws_b r.trace (given_of l.a l.valid_a l.fits_a) (given_of l.b l.valid_b l.fits_b) (r.follows u.follows u.stands)
-    (record { a = none_ended l.word_of_a A w.log w.b.packets w.a c.a good_a (u.stands A); b = none_ended l.word_of_b B w.log w.a.packets w.b c.b good_b (u.stands B) }) in
+are_consistent law origin actions w l u =
+    let r : Ran origin.word_of_a origin.word_of_b actions (initial_world origin) w (start origin.a origin.b origin.draws_a origin.draws_b) =
+    ran origin.word_of_a origin.word_of_b actions (initial_world origin) w (start origin.a origin.b origin.draws_a origin.draws_b) l.fit l.runs l.bytes
+    (fresh_both origin.a origin.b origin.draws_a origin.draws_b origin.word_of_a origin.word_of_b l.fits_a l.fits_b) in
+    let c : Pair = run r.trace (start origin.a origin.b origin.draws_a origin.draws_b) in
+    let good_a : Good origin.word_of_a A w.log w.b.packets w.a c.a = r.both.a in
+    let good_b : Good origin.word_of_b B w.log w.a.packets w.b c.b = r.both.b in
+    let joined : traces.AreConsistent origin.a origin.b c =
+    law origin.a origin.b origin.draws_a origin.draws_b r.trace (given_of origin.a l.valid_a l.fits_a) (given_of origin.b l.valid_b l.fits_b) (r.follows u.follows u.stands)
+    (record { a = none_ended origin.word_of_a A w.log w.b.packets w.a c.a good_a (u.stands A); b = none_ended origin.word_of_b B w.log w.a.packets w.b c.b good_b (u.stands B) }) in
     record {
-      a_negotiated = λ phase t e. joined.a_negotiated phase t (sym (state_of l.word_of_a A w.log w.b.packets w.a c.a good_a) ∙ e);
-      b_negotiated = λ phase t e. joined.b_negotiated phase t (sym (state_of l.word_of_b B w.log w.a.packets w.b c.b good_b) ∙ e);
+      a_negotiated = λ phase t e. joined.a_negotiated phase t (sym (state_of origin.word_of_a A w.log w.b.packets w.a c.a good_a) ∙ e);
+      b_negotiated = λ phase t e. joined.b_negotiated phase t (sym (state_of origin.word_of_b B w.log w.a.packets w.b c.b good_b) ∙ e);
       are_mirrored = λ i j e f.
-          let own = held_open l.word_of_a A w.log w.b.packets w.a c.a good_a i e in
-          let other = held_open l.word_of_b B w.log w.a.packets w.b c.b good_b j f in
+          let own = held_open origin.word_of_a A w.log w.b.packets w.a c.a good_a i e in
+          let other = held_open origin.word_of_b B w.log w.a.packets w.b c.b good_b j f in
           other.3 ∙ (mirrored_of own.1.identity other.1.identity (joined.mirrored own.0 other.0 own.1 other.1 own.2 other.2) ∙ ap mirrored (sym own.3));
       counts = joined.counts;
     }

@@ -1,7 +1,8 @@
 -- Each run of a world is made of blocks, keeps its trace's windows, and delivers what its trace delivers.
-use Rattle.std.proofs.Common.{◌≡◌, inl, inr, ℕ, ◌-◌, ◌||◌, Bool, true, false, Some, None, List, [], ◌∷◌, ◌++◌, length, map, replicate, slice_get, refl, sym, ap, subst, ◌∙◌, append-nil, append_assoc, arith}
+use Rattle.std.proofs.Common.{◌≡◌, ◌^◌, inl, inr, ℕ, ◌-◌, ◌||◌, Bool, true, false, Some, None, List, [], ◌∷◌, ◌++◌, length, map, replicate, slice_get, refl, sym, ap, subst, ◌∙◌, append-nil, append_assoc, arith}
 use Rattle.std.specs.Prelude.{All}
 use Rattle.std.specs.List.{list_any}
+use Rattle.std.proofs.lemmas.Bool.{lt-leb}
 use Rattle.std.proofs.lemmas.List.{length-map, map-append}
 use Rattle.std.proofs.lemmas.List.Elements.{All-head, All-tail}
 use Rattle.sctp_serial.specs.Messages.{Message}
@@ -29,8 +30,10 @@ use Rattle.proof_delivery.specs.Ending as ending
 use Rattle.spec_world.specs.Observations as observations
 use Rattle.spec_world.specs.Observations.{End, A, B, same_end, all_unless, unrefused, Entry, Called, Given, Foreign, Answer, Sent, SentMany, accepted_in, accepted_by, Call, Connect, Shutdown, Close, Send, SendMany, TakeMessage, Reset, SetPriority, SetMaxMessageSize, SetLowThreshold, HandOver}
 use Rattle.spec_world.specs.World.{Side, World, Action, CallOf, Give, GiveForeign, AdvanceTime, MeetsForeignAt, given, withheld, Gives, Happens, Runs, side_of, take_emitted, news_of, clock, call_socket, call_entry, after_call, advance_time, time_entry, after_time, table_call}
-use Rattle.proof_world.specs.Traces.{ActionFits, IsInBytes, is_a, end_of, give_action, IsActionOf}
-use Rattle.proof_world.specs.Delivered.{given_up_places, reported, AlongRun, SideIsWithin, WorldIsWithin, world_stamp, stamp_packets, stamps_after, IsTimely, WorldKeepsWindows, asked_after, AreAnswered, WorldKeepsRequests, sets_wide_limit, sets_more, accepted_messages_in, accepted_messages_by, accepted_messages, emitted_events, AcceptedMessagesAgree, AcceptedMessagesHaveEpochs}
+use Rattle.proof_endpoint.specs.Sound.{ArgumentFits}
+use Rattle.proof_world.specs.Reachable.{ActionFits, IsInBytes}
+use Rattle.proof_world.specs.Traces.{is_a, end_of, give_action, IsActionOf}
+use Rattle.proof_world.specs.Delivered.{given_up_places, reported, AlongRun, SideIsWithin, WorldIsWithin, world_stamp, stamp_packets, stamps_after, IsTimely, WorldKeepsWindows, asked_after, AreAnswered, WorldKeepsRequests, accepted_messages_in, accepted_messages_by, accepted_messages, emitted_events, AcceptedMessagesAgree, AcceptedMessagesHaveEpochs}
 use Rattle.proof_world.specs.Consistent.{NoEndingIsLogged}
 use Rattle.proof_world.proofs.StandingLemmas.{stands_front}
 use Rattle.proof_world.proofs.UpToEndLemmas.{stamps_along}
@@ -228,30 +231,31 @@ module _ (word_of_a word_of_b : List ℕ → ℕ) where
 
   -- ---- limits
 
-  call_more : (call : Call) → windows.sets_more (Calls (table_call call)) ≡ sets_wide_limit call
-  call_more Connect = refl
-  call_more Shutdown = refl
-  call_more Close = refl
-  call_more (Send m o) = refl
-  call_more (SendMany ms o) = refl
-  call_more TakeMessage = refl
-  call_more (Reset streams) = refl
-  call_more (SetPriority stream priority) = refl
-  call_more (SetMaxMessageSize bytes) = refl
-  call_more (SetLowThreshold stream bytes) = refl
-  call_more HandOver = refl
+  call_more : (call : Call) → ArgumentFits (table_call call) → windows.sets_more (Calls (table_call call)) ≡ false
+  call_more Connect h = refl
+  call_more Shutdown h = refl
+  call_more Close h = refl
+  call_more (Send m o) h = refl
+  call_more (SendMany ms o) h = refl
+  call_more TakeMessage h = refl
+  call_more (Reset streams) h = refl
+  call_more (SetPriority stream priority) h = refl
+  call_more (SetMaxMessageSize bytes) h = lt-leb (2 ^ 32) bytes h
+  call_more (SetLowThreshold stream bytes) h = refl
+  call_more HandOver h = refl
 
   receiving_more : (b : Bool) (n sum : ℕ) → windows.sets_more (give_action b n sum) ≡ false
   receiving_more true n sum = refl
   receiving_more false n sum = refl
 
-  pub action_more : (action : Action) (turn : EndAction) (c : Pair) → IsActionOf word_of_a word_of_b action turn c → windows.sets_more turn ≡ sets_more action
-  action_more (CallOf x call) turn c is = ap windows.sets_more is ∙ call_more call
-  action_more (Give n A) turn c is = ap windows.sets_more is.received ∙ receiving_more _ n _
-  action_more (Give n B) turn c is = ap windows.sets_more is.received ∙ receiving_more _ n _
-  action_more (GiveForeign x bytes) turn c (inl is) = ap windows.sets_more is.2
-  action_more (GiveForeign x bytes) turn c (inr is) = ap windows.sets_more is
-  action_more (AdvanceTime x now) turn c is = ap windows.sets_more is
+  -- what is handed in fits, so no limit is wider than 32 bits
+  pub action_more : (action : Action) (turn : EndAction) (c : Pair) → ActionFits action → IsActionOf word_of_a word_of_b action turn c → windows.sets_more turn ≡ false
+  action_more (CallOf x call) turn c fits is = ap windows.sets_more is ∙ call_more call fits
+  action_more (Give n A) turn c fits is = ap windows.sets_more is.received ∙ receiving_more _ n _
+  action_more (Give n B) turn c fits is = ap windows.sets_more is.received ∙ receiving_more _ n _
+  action_more (GiveForeign x bytes) turn c fits (inl is) = ap windows.sets_more is.2
+  action_more (GiveForeign x bytes) turn c fits (inr is) = ap windows.sets_more is
+  action_more (AdvanceTime x now) turn c fits is = ap windows.sets_more is
 
   -- ---- whole runs
 
@@ -268,7 +272,7 @@ module _ (word_of_a word_of_b : List ℕ → ℕ) where
     pub windows_kept : (s : Stamps) → NoEndingIsLogged v.log → WorldKeepsWindows actions w v runs s → windows.KeepsWindows trace c s
     pub stamps : (s : Stamps) → stamps_along actions w v runs s ≡ ending.stamps_along trace c s
     pub requests_kept : (k : NumberedBefore) → NoEndingIsLogged v.log → WorldKeepsRequests actions w v runs k → requests.KeepsRequests trace c k
-    pub limits : list_any (λ (e : Bool × EndAction). windows.sets_more e.1) trace ≡ list_any sets_more actions
+    pub limits : list_any (λ (e : Bool × EndAction). windows.sets_more e.1) trace ≡ false
     pub points : (all done : List (Bool × EndAction)) (first : Pair) → all ≡ done ++ trace → run done first ≡ c → block.Stands trace c → IsReached first done w.log
         → AlongRun (IsPoint all first) actions w v runs
 
@@ -308,7 +312,7 @@ module _ (word_of_a word_of_b : List ℕ → ℕ) where
           rest.requests_kept (requests.asked_after at_end step.turn c k) st
               (subst (λ (z : NumberedBefore). WorldKeepsRequests actions u v r.2 z) (asked_same at_end step.turn w u c k h step.both) i.1),
         );
-        limits = both_any (action_more action step.turn c step.is) rest.limits;
+        limits = both_any (action_more action step.turn c (All-head ActionFits action actions fit) step.is) rest.limits;
         points = λ all done first split is s reached.
             let e : Bool × EndAction = (at_end, step.turn) in
             let b : IsBlock e c w.log u.log = block_of action w u c step.turn r.1 step.is h step.both s.0 step.gives_up in (

@@ -22,7 +22,8 @@ use Rattle.proof_delivery.proofs.JustifiedTraceLemmas.{Rests, Actions, accepted_
 use Rattle.spec_world.specs.Observations.{End, A, B, same_end, none_unless, Entry, Called, Given, Foreign, Timed, GaveUp, Call, Connect, given_up_by, given_up}
 use Rattle.spec_world.specs.World.{Side, World, Action, CallOf, Give, GiveForeign, AdvanceTime, MeetsForeignAt, given, withheld, Gives, Happens, Runs, side_of, other, take_emitted, news_of, call_socket, call_entry, after_call, advance_time, time_entry, after_time, table_call, answer_to, association, ready_at, fresh_world}
 use Rattle.spec_world.specs.World as worlds
-use Rattle.proof_world.specs.Traces.{ActionFits, IsInBytes, is_a, end_of, give_action, IsForeign, IsActionOf}
+use Rattle.proof_world.specs.Reachable.{ActionFits, IsInBytes}
+use Rattle.proof_world.specs.Traces.{is_a, end_of, give_action, IsForeign, IsActionOf}
 use Rattle.proof_world.specs.Delivered.{accepted_messages_by, accepted_messages, reset_in}
 use Rattle.proof_world.specs.Justified.{clock_if, clock_after, clock_from, clock, resets_if, resets_after, resets_from, resets, acceptances_by, acceptances, WorldsAreJustified, AcceptancesAreOfAcceptedMessages}
 use Rattle.proof_world.proofs.LoggedLemmas.{IsQuietOn, none_in_news}

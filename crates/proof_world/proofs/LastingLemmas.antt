@@ -36,8 +36,9 @@ use Rattle.proof_delivery.proofs.TraceResetLemmas.{emitted_turned}
 use Rattle.proof_delivery.proofs.ResetEventsLemmas.{failed_more}
 use Rattle.spec_world.specs.Observations.{End, A, B, Entry, BecameReady, ready, handed_out, handed_out_by, ready_by, given_up_by}
 use Rattle.spec_world.specs.World.{World, Action, Happens, other, is_at_rest, packets_in, emitted_entries}
-use Rattle.proof_world.specs.Traces.{ActionFits, IsReachable, initial_world, is_a, end_of, emitted_in}
-use Rattle.proof_world.specs.Delivered.{given_up_places, reported_by, reported, AlongRun, ready_places, world_stamp, IsTimely, WorldKeepsWindows, WorldKeepsRequests, sets_more, accepted_messages_by, accepted_messages, emitted_events_by, emitted_events, IsInItsEpoch}
+use Rattle.proof_world.specs.Reachable.{ActionFits, Origin, IsReachable, initial_world}
+use Rattle.proof_world.specs.Traces.{is_a, end_of, emitted_in}
+use Rattle.proof_world.specs.Delivered.{given_up_places, reported_by, reported, AlongRun, ready_places, world_stamp, IsTimely, WorldKeepsWindows, WorldKeepsRequests, accepted_messages_by, accepted_messages, emitted_events_by, emitted_events, IsInItsEpoch}
 use Rattle.proof_world.specs.Consistent.{association_ends_by, times_ended, NoEndingIsLogged, WorldKeepsRules}
 use Rattle.proof_world.proofs.EventLemmas.{mapped, entries_both, ended_emitted}
 use Rattle.proof_world.proofs.NewsLemmas.{emitted_both, ended_by_emitted}
@@ -131,30 +132,27 @@ module _ (f : Mapping Carried (List ℕ)) (x : End) (log early late : List Entry
 
 -- ---- a world that stands
 
-module _ (w : World) (l : IsReachable w) (rules : WorldKeepsRules w) (none : NoEndingIsLogged w.log) where
+module _ {origin : Origin} {actions : List Action} (w : World) (l : IsReachable origin actions w) (rules : WorldKeepsRules w) (none : NoEndingIsLogged w.log) where
   abbrev a : Options
-  a = l.a
+  a = origin.a
 
   abbrev b : Options
-  b = l.b
+  b = origin.b
 
   abbrev words_a : Stream
-  words_a = l.draws_a
+  words_a = origin.draws_a
 
   abbrev words_b : Stream
-  words_b = l.draws_b
+  words_b = origin.draws_b
 
   abbrev word_of_a : List ℕ → ℕ
-  word_of_a = l.word_of_a
+  word_of_a = origin.word_of_a
 
   abbrev word_of_b : List ℕ → ℕ
-  word_of_b = l.word_of_b
-
-  abbrev actions : List Action
-  actions = l.actions
+  word_of_b = origin.word_of_b
 
   abbrev first_world : World
-  first_world = initial_world l
+  first_world = initial_world origin
 
   abbrev pub first_pair : Pair
   first_pair = start a b words_a words_b
@@ -213,7 +211,6 @@ module _ (w : World) (l : IsReachable w) (rules : WorldKeepsRules w) (none : NoE
     pub answered : WorldKeepsRequests actions first_world w l.runs none_asked
     pub few_resets : (x : End) → performed_in (emitted_events x w.log) < 2 ^ 32 - 1
     pub few : (x : End) → length (accepted_messages x w.log) < 2 ^ 32
-    pub limits : list_any sets_more actions ≡ false
 
   resets_kept : IsKept → requests.KeepsResets r.trace first_pair
   resets_kept k = record { answered = d.requests_kept none_asked none k.answered; few = λ x. few_at x }
@@ -231,7 +228,7 @@ module _ (w : World) (l : IsReachable w) (rules : WorldKeepsRules w) (none : NoE
     windows = d.windows_kept windows.no_stamps none k.windows;
     resets = resets_kept k;
     few = λ from_a. few_at from_a;
-    limits = d.limits ∙ k.limits;
+    limits = d.limits;
   }
     where
       few_at : (from_a : Bool) → length (accepted from_a r.trace first_pair) < 2 ^ 32
@@ -446,9 +443,9 @@ module _ (w : World) (l : IsReachable w) (rules : WorldKeepsRules w) (none : NoE
     -- ---- the bounds, with that event
 
     pub ends_delivering : ending.MessagesAreDeliveredThen → IsKept → IsTimely action (world_stamp w) (stamps_along actions first_world w l.runs windows.no_stamps)
-        → sets_more action ≡ false → length (accepted_messages x (w.log ++ b_parted.first ∷ [])) < 2 ^ 32
+        → length (accepted_messages x (w.log ++ b_parted.first ∷ [])) < 2 ^ 32
         → ending.DeliversThen (is_a x) r.trace step.turn first_pair
-    ends_delivering law k t no_more few =
+    ends_delivering law k t few =
         law a b words_a words_b r.trace (is_a x) step.turn options_a_valid options_b_valid (follows_more r.trace (is_a x, step.turn) first_pair follows may) not_ended (record {
           windows = d.windows_kept windows.no_stamps none k.windows;
           timely =
@@ -457,7 +454,7 @@ module _ (w : World) (l : IsReachable w) (rules : WorldKeepsRules w) (none : NoE
           resets = resets_kept k;
           few = subst (λ (l : List AcceptedMessage). length l < 2 ^ 32) accepted_are few;
           limits =
-              any_more (λ (e : Bool × EndAction). windows.sets_more e.1) r.trace (is_a x, step.turn) (d.limits ∙ k.limits) (action_more word_of_a word_of_b action step.turn c step.is ∙ no_more);
+              any_more (λ (e : Bool × EndAction). windows.sets_more e.1) r.trace (is_a x, step.turn) d.limits (action_more word_of_a word_of_b action step.turn c fits step.is);
         })
       where
         accepted_are : accepted_messages x (w.log ++ b_parted.first ∷ []) ≡ accepted (is_a x) (r.trace ++ (is_a x, step.turn) ∷ []) first_pair

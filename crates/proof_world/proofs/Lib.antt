@@ -10,6 +10,7 @@ pub mod ActionsLemmas
 pub mod WorldLemmas
 pub mod StandingLemmas
 pub mod RunsLemmas
+pub mod OnceLemmas
 pub mod UpToEndLemmas
 pub mod ConsistentLemmas
 pub mod FollowsLemmas
@@ -28,6 +29,8 @@ pub mod ClosingLemmas
 pub mod LastingLemmas
 pub mod ClockLemmas
 pub mod JustifiedLemmas
+pub mod FewLemmas
+pub mod ReadBackLemmas
 pub mod ComposedLemmas
 pub mod AgreedLemmas
 pub mod VisibleLemmas
@@ -44,3 +47,4 @@ pub mod ShownLemmas
 pub mod ComputedLemmas
 pub mod SkippingLemmas
 pub mod ResettingLemmas
+pub mod ConnectingLemmas

@@ -15,8 +15,7 @@ use Rattle.spec_endpoint.specs.Calls.{send_refusal, refusals, with_refusal, queu
 use Rattle.spec_endpoint.specs.Shown.{Association}
 use Rattle.proof_endpoint.specs.Mapped.{Carried}
 use Rattle.proof_delivery.specs.Accepted.{AcceptedMessage, unless_refused, accepted_of}
-use Rattle.proof_tx_refines.specs.Reachable.{delivered_by}
-use Rattle.spec_world.specs.Observations.{End, same_end, same_association, none_unless, all_unless, some_unless, unrefused, Send, Sent, TookMessage, Entry, Associated, EmittedPacket, EmittedEvent, GaveUp, BecameReady, ready_by, handed_out_in, handed_out_by, given_up_by, given_up}
+use Rattle.spec_world.specs.Observations.{End, same_end, same_association, none_unless, some_unless, unrefused, Send, Sent, TookMessage, Entry, Associated, EmittedPacket, EmittedEvent, GaveUp, BecameReady, ready_by, handed_out_in, handed_out_by, given_up_by, given_up}
 use Rattle.spec_world.specs.World.{association, ready_at, associated_if, association_entries, ready_before, ready_entries, given_up_entries, emitted_entries, news}
 use Rattle.proof_world.specs.Delivered.{accepted_messages_in, accepted_messages_by, reported_by}
 
@@ -101,9 +100,27 @@ quiet_handed x y = record { on_emitted = record { associated = λ a. refl; emitt
 pub quiet_given_up : (x y : End) → same_end x y ≡ false → IsQuietOn (given_up_by x) y
 quiet_given_up x y h = record { on_emitted = record { associated = λ a. refl; emitted = λ n. refl; happened = λ e. refl }; gave_up = λ g. ap (λ (b : Bool). none_unless b g) h }
 
+pub reports_none : (x y : End) (event : Event (List ℕ)) → same_end x y ≡ false → reported_by x (EmittedEvent y event) ≡ []
+reports_none x y (SendPacket bytes) h = refl
+reports_none x y OnConnected h = refl
+reports_none x y OnClosed h = refl
+reports_none x y OnConnectionRestarted h = refl
+reports_none x y (OnAborted kind text) h = refl
+reports_none x y (OnError kind text) h = refl
+reports_none x y (OnBufferedAmountLow id) h = refl
+reports_none x y OnTotalBufferedAmountLow h = refl
+reports_none x y (OnStreamsResetFailed ids) h = refl
+reports_none x y (OnStreamsResetPerformed ids) h = refl
+reports_none x y (OnIncomingStreamReset ids) h = refl
+reports_none x y (OnLifecycleMessageFullySent id) h = refl
+reports_none x y (OnLifecycleMessageMaybeExpired id) h = refl
+reports_none x y (OnLifecycleMessageExpired id) h = refl
+reports_none x y (OnLifecycleMessageDelivered id) h = ap (λ (b : Bool). none_unless b id) h
+reports_none x y (OnLifecycleEnd id) h = refl
+
 pub quiet_reported : (x y : End) → same_end x y ≡ false → IsQuietOn (reported_by x) y
 quiet_reported x y h = record {
-  on_emitted = record { associated = λ a. refl; emitted = λ n. refl; happened = λ e. ap (λ (b : Bool). all_unless b (delivered_by e)) h };
+  on_emitted = record { associated = λ a. refl; emitted = λ n. refl; happened = λ e. reports_none x y e h };
   gave_up = λ g. refl;
 }
 

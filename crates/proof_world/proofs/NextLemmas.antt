@@ -23,7 +23,8 @@ use Rattle.proof_pair.proofs.JoinActsLemmas.{packets_both}
 use Rattle.proof_pair.proofs.AddedLemmas.{all_get}
 use Rattle.spec_world.specs.Observations.{End, A, B, Call, Given}
 use Rattle.spec_world.specs.World.{World, Action, CallOf, Give, GiveForeign, AdvanceTime, Gives, Happens, Runs, clock, record_news, call_socket, advance_time, fresh_world}
-use Rattle.proof_world.specs.Traces.{ActionFits, IsInBytes, is_a, end_of, is_let_through, give_action, IsGiveAction, IsActionOf, AreActionsOf}
+use Rattle.proof_world.specs.Reachable.{ActionFits, IsInBytes}
+use Rattle.proof_world.specs.Traces.{is_a, end_of, is_let_through, give_action, IsGiveAction, IsActionOf, AreActionsOf}
 use Rattle.proof_world.specs.Worlds.{is_foreign, NoneIsForeign, EmitsBytes, BothEmitBytes, TracesHaveWorlds}
 use Rattle.proof_world.proofs.EventLemmas.{Readable}
 use Rattle.proof_world.proofs.ActionsLemmas.{field_in}

@@ -4,7 +4,7 @@ use Rattle.std.specs.Prelude.{All}
 use Rattle.std.proofs.lemmas.List.Elements.{All-nil, All-cons, All-head, All-tail, All-append}
 use Rattle.rand_core.specs.Stream.{Stream}
 use Rattle.sctp_wire.specs.declared.checksum.Policy.{Policy}
-use Rattle.sctp_packet.specs.Packet.{PacketTree, IsPacket, Accepts}
+use Rattle.sctp_packet.specs.Packet.{PacketTree, Accepts}
 use Rattle.sctp_packet.proofs.LawLemmas.{one_packet_lem, never_both_lem}
 use Rattle.sctp_state.specs.Options.{Options, defaults}
 use Rattle.sctp_state.specs.Events.{Event, SendPacket, OnConnected, OnClosed, OnConnectionRestarted, OnAborted, OnError, OnBufferedAmountLow, OnTotalBufferedAmountLow, OnStreamsResetFailed, OnStreamsResetPerformed, OnIncomingStreamReset, OnLifecycleMessageFullySent, OnLifecycleMessageMaybeExpired, OnLifecycleMessageExpired, OnLifecycleMessageDelivered, OnLifecycleEnd}
@@ -24,7 +24,7 @@ use Rattle.proof_endpoint.proofs.SoundLawsLemmas.{is_new, stays_sound, stays_sou
 use Rattle.proof_endpoint.proofs.SoundReceivedLemmas.{emitted_fit}
 use Rattle.spec_world.specs.Observations.{End, A, B, Entry}
 use Rattle.spec_world.specs.World.{Side, World, Action, CallOf, Give, GiveForeign, AdvanceTime, TakesBytes, MeetsForeignAt, given, withheld, MeetsForeign, Gives, Happens, Runs, fresh_side, packets_in, take_emitted, table_call, after_call, after_time}
-use Rattle.proof_world.specs.Readable.{CanBeReadBack, IsReadableSide, IsReadable, GivesBytes, NewWorldsAreReadable, EachActionKeepsWorldsReadable, RunsKeepWorldsReadable}
+use Rattle.proof_world.specs.Readable.{IsReadBack, CanBeReadBack, IsReadableSide, IsReadable, GivesBytes, NewWorldsAreReadable, EachActionKeepsWorldsReadable, RunsKeepWorldsReadable}
 use Rattle.proof_pair.proofs.AddedLemmas.{all_get}
 
 -- ---- a packet
@@ -39,17 +39,21 @@ module _ (word_of : List ℕ → ℕ) where
       let h : IsReceivable open_options p = record { header = r.header; chunks = r.chunks; short = r.short; sum = refl } in
       is_accepted word_of p open_options h
 
-  reads_back_as : (bytes : List ℕ) (p : Carried) → bytes ≡ as_written word_of p → ReadsBack 65535 p → CanBeReadBack word_of bytes
-  reads_back_as bytes p e r =
+  read_back : (p : Carried) → ReadsBack 65535 p → IsReadBack word_of p
+  read_back p r =
       let a : Accepts (policy_of open_options) (word_at word_of (as_written word_of p)) (as_written word_of p) (as_received word_of p) = accepted p r in
       record {
-        packet = p;
-        spelled = e;
         reads_back = r;
-        read = λ policy word lets. subst (λ (b : List ℕ). Accepts policy word b (as_received word_of p)) (sym e)
-            (record { packet = a.packet; short_enough = a.short_enough; sum = lets });
-        alone = λ policy word q accepts. one_packet_lem (as_written word_of p) q (as_received word_of p) (subst (λ (b : List ℕ). IsPacket b q) e accepts.packet) a.packet;
+        read = λ policy word lets. record { packet = a.packet; short_enough = a.short_enough; sum = lets };
+        alone = λ policy word q accepts. one_packet_lem (as_written word_of p) q (as_received word_of p) accepts.packet a.packet;
       }
+
+  pub all_read_back : (ps : List Carried) → All (ReadsBack 65535) ps → All (IsReadBack word_of) ps
+  all_read_back [] h = All-nil (IsReadBack word_of)
+  all_read_back (p ∷ ps) h = All-cons (IsReadBack word_of) p ps (read_back p (All-head (ReadsBack 65535) p ps h)) (all_read_back ps (All-tail (ReadsBack 65535) p ps h))
+
+  reads_back_as : (bytes : List ℕ) (p : Carried) → bytes ≡ as_written word_of p → ReadsBack 65535 p → CanBeReadBack word_of bytes
+  reads_back_as bytes p e r = record { packet = p; spelled = e; is_read_back = read_back p r }
 
   longer : (most : ℕ) (p : Carried) → most ≤ 65535 → ReadsBack most p → ReadsBack 65535 p
   longer most p m r = record { header = r.header; chunks = r.chunks; cookies = r.cookies; short = omega (arith, r.short, m) }
@@ -61,7 +65,7 @@ module _ (word_of : List ℕ → ℕ) where
   received_fits : (bytes : List ℕ) (policy : Policy) (word : ℕ) (q : PacketTree) → CanBeReadBack word_of bytes → AreBytes bytes → Accepts policy word bytes q
       → ArgumentFits (table.ReceivePacket q)
   received_fits bytes policy word q r small accepts =
-      emitted_fit word_of 65535 r.packet policy word q r.reads_back (subst AreBytes r.spelled small)
+      emitted_fit word_of 65535 r.packet policy word q r.is_read_back.reads_back (subst AreBytes r.spelled small)
       (subst (λ (b : List ℕ). Accepts policy word b q) r.spelled accepts)
 
 -- ---- what is emitted

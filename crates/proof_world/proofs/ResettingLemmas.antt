@@ -24,7 +24,8 @@ use Rattle.proof_delivery.specs.Resetting as delivery
 use Rattle.proof_delivery.specs.StreamEpochs.{performed_of, resets_emitted}
 use Rattle.proof_delivery.proofs.ResetRunLemmas.{one_reset}
 use Rattle.spec_world.specs.Observations.{A}
-use Rattle.proof_world.specs.Traces.{ActionFits, AreActionsOf}
+use Rattle.proof_world.specs.Reachable.{ActionFits}
+use Rattle.proof_world.specs.Traces.{AreActionsOf}
 use Rattle.proof_world.specs.Resetting.{one_is_reset, OneIsReset}
 use Rattle.proof_world.specs.Worlds.{BothEmitBytes}
 use Rattle.proof_world.proofs.HappenedLemmas.{bare_resets, bare_names}
@@ -79,11 +80,11 @@ pub one_reset_there : OneIsReset
 one_reset_there =
     let s : Shown one_is_reset delivery.one_is_reset at_first = shown_there in
     record {
+      origin = s.origin;
       world = s.world;
       reachable = s.reachable;
-      actions = s.by;
       undisturbed = record { follows = s.follows (drop 1 one_is_reset) refl refl; stands = s.over };
-      bounds = s.bounds refl refl one_reset.bounds;
+      bounds = s.bounds refl one_reset.bounds;
       accepts = offers_accepted A s.world.log ∙ (ap (map (λ (o : AcceptedMessage). o.message)) s.offers_a ∙ ap (map (λ (o : AcceptedMessage). o.message)) two_accepted);
       epochs = s.epochs_a ∙ one_reset.epochs;
       readies = s.ready_b ∙ one_reset.readies;

@@ -15,7 +15,8 @@ use Rattle.proof_pair.specs.Trace as traces
 use Rattle.proof_pair.specs.Trace.{Pair, EndAction, has_connected, MayCall, MayAct, goes, run, start, new_side}
 use Rattle.spec_world.specs.Observations.{End, A, B, Entry, Answer, Called, Call, Connect, Shutdown, Close, Send, SendMany, TakeMessage, Reset, SetPriority, SetMaxMessageSize, SetLowThreshold, HandOver, connected_by, times_connected}
 use Rattle.spec_world.specs.World.{Side, World, Action, CallOf, Give, GiveForeign, AdvanceTime, MeetsForeignAt, given, withheld, Happens, Runs, take_emitted, side_of, news_of, call_socket, call_entry, after_call, after_time, clock, answer_to, table_call, fresh_side, fresh_world}
-use Rattle.proof_world.specs.Traces.{ActionFits, IsInBytes, is_a, end_of, give_action, IsGiveAction, IsForeign, IsActionOf, AreActionsOf, WorldsHaveTraces}
+use Rattle.proof_world.specs.Reachable.{ActionFits, IsInBytes}
+use Rattle.proof_world.specs.Traces.{is_a, end_of, give_action, IsGiveAction, IsForeign, IsActionOf, AreActionsOf, WorldsHaveTraces}
 use Rattle.proof_world.specs.Consistent.{gets_init, NoEndingIsLogged, MayFollow, WorldKeepsRules}
 use Rattle.proof_world.proofs.EventLemmas.{Readable, connected_emitted}
 use Rattle.proof_world.proofs.NewsLemmas.{connected_by_emitted}

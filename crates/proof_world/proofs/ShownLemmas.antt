@@ -3,7 +3,6 @@ use Rattle.std.proofs.Common.{◌≡◌, ℕ, ◌+◌, ◌-◌, ◌^◌, ◌<◌
 use Rattle.std.specs.Prelude.{All}
 use Rattle.std.specs.List.{flat_map, list_any}
 use Rattle.std.proofs.lemmas.Grind.{flat_map-append}
-use Rattle.std.proofs.lemmas.Bool.{or_parts}
 use Rattle.rand_core.specs.Stream.{Stream}
 use Rattle.sctp_tx_outstanding.specs.Item.{Item}
 use Rattle.sctp_state.specs.Options.{Options, IsValid}
@@ -30,8 +29,9 @@ use Rattle.proof_delivery.specs.Windows as windows
 use Rattle.proof_delivery.proofs.ResetEventsLemmas.{performed_both}
 use Rattle.spec_world.specs.Observations.{End, A, B, Connect, Entry, ready}
 use Rattle.spec_world.specs.World.{Side, World, Action, CallOf, Runs, emitted_entries, fresh_world, is_at_rest}
-use Rattle.proof_world.specs.Traces.{ActionFits, IsInBytes, IsReachable, initial_world, is_a, AreActionsOf}
-use Rattle.proof_world.specs.Delivered.{accepted_messages, accepted_messages_by, emitted_events_by, emitted_events, message_epochs, given_up_places, reported, sets_more, KeepsFrom, WorldKeepsResets, WorldIsInBounds}
+use Rattle.proof_world.specs.Reachable.{ActionFits, IsInBytes, Origin, IsReachable, initial_world}
+use Rattle.proof_world.specs.Traces.{is_a, AreActionsOf}
+use Rattle.proof_world.specs.Delivered.{accepted_messages, accepted_messages_by, emitted_events_by, emitted_events, message_epochs, given_up_places, reported, WorldKeepsResets, WorldIsInBounds}
 use Rattle.proof_world.specs.Consistent.{association_ends_by, WorldKeepsRules, times_ended}
 use Rattle.proof_world.specs.Worlds.{NoneIsForeign, BothEmitBytes}
 use Rattle.proof_world.proofs.EventLemmas.{mapped}
@@ -106,13 +106,6 @@ at_the_end (e ∷ es) c done log longer r h =
 
 -- ---- bounds
 
-none_from : (p : Action → Bool) (actions : List Action) (w v : World) (r : Runs actions w v) → list_any p actions ≡ false → KeepsFrom p actions w v r
-none_from p [] w v r none = tt
-none_from p (action ∷ actions) w v r none = (
-  (λ stands. (or_parts (p action) (list_any p actions) none).0),
-  none_from p actions r.0 v r.2 ((or_parts (p action) (list_any p actions) none).1),
-)
-
 few_front : (x : End) (log early late : List Entry) → log ≡ early ++ late → length (accepted_messages x log) < 2 ^ 32 → length (accepted_messages x early) < 2 ^ 32
 few_front x log early late is small =
     let parts : accepted_messages x log ≡ accepted_messages x early ++ accepted_messages x late = ap (λ (l : List Entry). accepted_messages x l) is ∙ flat_map-append (accepted_messages_by x) early late in
@@ -150,19 +143,15 @@ module _ (a b : Options) (draws_a draws_b : Stream) (word_of_a word_of_b : List 
   pub small : IsInBytes there
   small = in_bytes word_of_a word_of_b there (run trace first_pair) reached.both bytes
 
-  abbrev pub reachable : IsReachable there
+  abbrev pub origin : Origin
+  origin = record { a = a; b = b; draws_a = draws_a; draws_b = draws_b; word_of_a = word_of_a; word_of_b = word_of_b }
+
+  abbrev pub reachable : IsReachable origin actions there
   reachable = record {
-    a = a;
-    b = b;
-    draws_a = draws_a;
-    draws_b = draws_b;
-    word_of_a = word_of_a;
-    word_of_b = word_of_b;
     valid_a = valid_a;
     valid_b = valid_b;
     fits_a = fits_a;
     fits_b = fits_b;
-    actions = actions;
     fit = fit;
     runs = reached.runs;
     bytes = small;
@@ -214,20 +203,19 @@ module _ (a b : Options) (draws_a draws_b : Stream) (word_of_a word_of_b : List 
           (sym (ap (λ (es : List (Event (List ℕ))). performed_in es) (shows_all.emitted_are x) ∙ bare_performed (traces.side_of (is_a x) (run trace first_pair)).emitted)) (k.few (is_a x)));
     }
 
-    pub bounds : AllAreReceived trace → list_any sets_more actions ≡ false → delivery.IsInBounds trace first_pair → WorldIsInBounds actions first_world there reached.runs
-    bounds received limits k = record {
+    pub bounds : AllAreReceived trace → delivery.IsInBounds trace first_pair → WorldIsInBounds actions first_world there reached.runs
+    bounds received k = record {
       windows = keeps word_of_a word_of_b actions trace first_world there first_pair windows.no_stamps fit none received are reached.runs small first_both k.windows;
       resets = resets_kept k.resets;
       few = λ x early late is stands. few_front x there.log early late is (few k.few x);
-      limits = none_from sets_more actions first_world there reached.runs limits;
     }
 
 -- ---- in one record
 
 pub record Shown (actions : List Action) (trace : List (Bool × EndAction)) (c : Pair) : Type 0 where
+  pub origin : Origin
   pub world : World
-  pub reachable : IsReachable world
-  pub by : reachable.actions ≡ actions
+  pub reachable : IsReachable origin actions world
   pub offers_a : accepted_messages A world.log ≡ accepted true trace c
   pub ready_b : ready B world.log ≡ messages_made_ready false trace c
   pub given_up_a : given_up_places A world.log ≡ given_up true trace c
@@ -237,7 +225,7 @@ pub record Shown (actions : List Action) (trace : List (Bool × EndAction)) (c :
   pub emitted_b : emitted_events B world.log ≡ bare (run trace c).b.emitted
   pub over : (x : End) → times_ended x world.log ≡ 0
   pub follows : (rest : List Action) → actions ≡ CallOf A Connect ∷ rest → list_any asks_rules rest ≡ false → WorldKeepsRules world
-  pub bounds : AllAreReceived trace → list_any sets_more actions ≡ false → delivery.IsInBounds trace c → WorldIsInBounds reachable.actions (initial_world reachable) world reachable.runs
+  pub bounds : AllAreReceived trace → delivery.IsInBounds trace c → WorldIsInBounds actions (initial_world origin) world reachable.runs
   pub rests : IsAtRest (run trace c).a → is_at_rest A world ≡ true
 
 pub shown : (a b : Options) (draws_a draws_b : Stream) (word_of_a word_of_b : List ℕ → ℕ) (actions : List Action) (trace : List (Bool × EndAction))
@@ -251,9 +239,9 @@ shown a b draws_a draws_b f g actions trace valid_a valid_b fits_a fits_b fit no
     let shows : IsReached (start a b draws_a draws_b) trace r.world.log =
     shows_all a b draws_a draws_b f g actions trace valid_a valid_b fits_a fits_b fit none are bytes follows not_ended in
     record {
+      origin = record { a = a; b = b; draws_a = draws_a; draws_b = draws_b; word_of_a = f; word_of_b = g };
       world = r.world;
       reachable = reachable a b draws_a draws_b f g actions trace valid_a valid_b fits_a fits_b fit none are bytes;
-      by = refl;
       offers_a = shows.offers_are A;
       ready_b = shows.ready_are B;
       given_up_a = shows.given_up_are A;

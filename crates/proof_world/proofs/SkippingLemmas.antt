@@ -20,7 +20,8 @@ use Rattle.proof_delivery.specs.Accepted.{AcceptedMessage}
 use Rattle.proof_delivery.specs.Skipping as delivery
 use Rattle.proof_delivery.proofs.SkippingLemmas.{one_skipped}
 use Rattle.spec_world.specs.Observations.{A}
-use Rattle.proof_world.specs.Traces.{ActionFits, AreActionsOf}
+use Rattle.proof_world.specs.Reachable.{ActionFits}
+use Rattle.proof_world.specs.Traces.{AreActionsOf}
 use Rattle.proof_world.specs.Skipping.{one_is_lost, OneIsSkipped}
 use Rattle.proof_world.specs.Worlds.{BothEmitBytes}
 use Rattle.proof_world.proofs.DeliveredLemmas.{offers_accepted}
@@ -70,11 +71,11 @@ pub one_skipped_there : OneIsSkipped
 one_skipped_there =
     let s : Shown one_is_lost delivery.one_is_lost at_first = shown_there in
     record {
+      origin = s.origin;
       world = s.world;
       reachable = s.reachable;
-      actions = s.by;
       undisturbed = record { follows = s.follows (drop 1 one_is_lost) refl refl; stands = s.over };
-      bounds = s.bounds refl refl one_skipped.bounds;
+      bounds = s.bounds refl one_skipped.bounds;
       accepts = offers_accepted A s.world.log ∙ (ap (map (λ (o : AcceptedMessage). o.message)) s.offers_a ∙ one_skipped.accepts);
       readies = s.ready_b ∙ one_skipped.readies;
       gives_up = s.given_up_a ∙ one_skipped.gives_up;

@@ -1,15 +1,13 @@
 -- The part of a run up to the first event that ends an association.
-use Rattle.std.proofs.Common.{◌≡◌, ◌⊎◌, inl, inr, Bool, false, List, [], ◌∷◌, refl, sym, subst}
+use Rattle.std.proofs.Common.{◌≡◌, ◌⊎◌, inl, inr, List, [], ◌∷◌, refl, sym, subst}
 use Rattle.std.specs.Prelude.{All}
-use Rattle.std.specs.List.{list_any}
 use Rattle.std.proofs.lemmas.List.Elements.{All-nil, All-cons, All-head, All-tail}
-use Rattle.std.proofs.lemmas.Bool.{or_from}
 use Rattle.proof_delivery.specs.Answered.{NumberedBefore}
 use Rattle.proof_delivery.specs.Windows.{Stamps}
 use Rattle.spec_world.specs.World.{World, Action, Happens, Runs}
-use Rattle.proof_world.specs.Traces.{ActionFits}
+use Rattle.proof_world.specs.Reachable.{ActionFits}
 use Rattle.proof_world.specs.Consistent.{NoEndingIsLogged}
-use Rattle.proof_world.specs.Delivered.{world_stamp, stamps_after, IsTimely, WorldKeepsWindows, KeepsFrom, asked_after, WorldKeepsRequests, AlongRun}
+use Rattle.proof_world.specs.Delivered.{world_stamp, stamps_after, IsTimely, WorldKeepsWindows, asked_after, WorldKeepsRequests, AlongRun}
 use Rattle.proof_world.proofs.StandingLemmas.{stands_front, stands_or_not}
 use Rattle.proof_world.proofs.WorldLemmas.{Extends, extends_same, extends_then}
 use Rattle.proof_world.proofs.RunsLemmas.{happens_extends, runs_extends}
@@ -28,7 +26,6 @@ pub record IsOver (actions : List Action) (w v : World) (r : Runs actions w v) (
   pub ends : NoEndingIsLogged next.log → ⊥
   pub later : Extends next v
   pub timely : (s : Stamps) → WorldKeepsWindows actions w v r s → IsTimely action (world_stamp u) (stamps_along front w u before s)
-  pub none_such : (test : Action → Bool) → KeepsFrom test actions w v r → test action ≡ false
 
 pub record UpToEnd (actions : List Action) (w v : World) (r : Runs actions w v) : Type 1 where
   pub front : List Action
@@ -39,7 +36,6 @@ pub record UpToEnd (actions : List Action) (w v : World) (r : Runs actions w v) 
   pub later : Extends world v
   pub windows : (s : Stamps) → WorldKeepsWindows actions w v r s → WorldKeepsWindows front w world before s
   pub requests : (k : NumberedBefore) → WorldKeepsRequests actions w v r k → WorldKeepsRequests front w world before k
-  pub none_such : (test : Action → Bool) → KeepsFrom test actions w v r → list_any test front ≡ false
   pub along_run : (P : World → Type 0) → AlongRun P front w world before → AlongRun (λ z. NoEndingIsLogged z.log → P z) actions w v r
   pub over : (v ≡ world) ⊎ IsOver actions w v r front world before
 
@@ -59,7 +55,6 @@ up_to_end [] w v fit r stands = record {
   later = subst (Extends w) (sym r) (extends_same w);
   windows = λ s k. k;
   requests = λ k h. h;
-  none_such = λ test k. refl;
   along_run = λ P h. (λ st. h);
   over = inl r;
 }
@@ -80,7 +75,6 @@ up_to_end (action ∷ actions) w v fit r stands =
           later = rest.later;
           windows = λ s k. (k.0, rest.windows (stamps_after w r.0 s) k.1);
           requests = λ k h. (h.0, rest.requests (asked_after w r.0 k) h.1);
-          none_such = λ test k. or_from (test action) (list_any test rest.front) (k.0 stands) (rest.none_such test k.1);
           along_run = λ P h. ((λ st. h.0), rest.along_run P h.1);
           over = elim rest.over [
             | inl e ↦ inl e
@@ -92,7 +86,6 @@ up_to_end (action ∷ actions) w v fit r stands =
               ends = o.ends;
               later = o.later;
               timely = λ s k. o.timely (stamps_after w r.0 s) k.1;
-              none_such = λ test k. o.none_such test k.1;
             })
           ];
         }
@@ -109,7 +102,6 @@ up_to_end (action ∷ actions) w v fit r stands =
           later = extends_then w r.0 v first (runs_extends actions r.0 v r.2);
           windows = λ s k. (λ st. (k.0 st).0);
           requests = λ k h. h.0;
-          none_such = λ test k. refl;
           along_run = λ P h. ((λ st. h), none_stand P actions r.0 v r.2 (λ st. over st));
           over = inr (record {
             action = action;
@@ -119,6 +111,5 @@ up_to_end (action ∷ actions) w v fit r stands =
             ends = over;
             later = runs_extends actions r.0 v r.2;
             timely = λ s k. (k.0 stands).1;
-            none_such = λ test k. k.0 stands;
           });
         }

@@ -16,7 +16,8 @@ use Rattle.proof_delivery.specs.Windows as windows
 use Rattle.proof_delivery.specs.Windows.{IsWithin, Stamp, Stamps, IsYoung}
 use Rattle.spec_world.specs.Observations.{A, B}
 use Rattle.spec_world.specs.World.{Side, World, Action, CallOf, Give, GiveForeign, AdvanceTime, Runs}
-use Rattle.proof_world.specs.Traces.{ActionFits, IsInBytes, is_a, end_of, is_let_through, give_action, IsGiveAction, IsActionOf, AreActionsOf}
+use Rattle.proof_world.specs.Reachable.{ActionFits, IsInBytes}
+use Rattle.proof_world.specs.Traces.{is_a, end_of, is_let_through, give_action, IsGiveAction, IsActionOf, AreActionsOf}
 use Rattle.proof_world.specs.Delivered.{SideIsWithin, WorldIsWithin, world_stamp, stamps_after, IsTimely, WorldKeepsWindows, asked_after, AreAnswered, WorldKeepsRequests}
 use Rattle.proof_world.specs.Worlds.{is_foreign, NoneIsForeign}
 use Rattle.proof_world.proofs.WorldLemmas.{Both, extends_then, in_bytes_before}

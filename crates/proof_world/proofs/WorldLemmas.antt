@@ -20,7 +20,8 @@ use Rattle.proof_delivery.specs.GivenUp.{given_up_at}
 use Rattle.proof_delivery.specs.Justified.{records_given, records_foreign, records_by, records_at}
 use Rattle.spec_world.specs.Observations.{End, A, B, Entry, Given, Foreign, Call, given_up_by, given_up}
 use Rattle.spec_world.specs.World.{Side, World, Action, CallOf, Give, GiveForeign, AdvanceTime, MeetsForeignAt, given, withheld, Gives, Happens, table_call, call_socket, call_entry, advance_time, time_entry, Takes}
-use Rattle.proof_world.specs.Traces.{ActionFits, IsInBytes, is_a, end_of, IsActionOf}
+use Rattle.proof_world.specs.Reachable.{ActionFits, IsInBytes}
+use Rattle.proof_world.specs.Traces.{is_a, end_of, IsActionOf}
 use Rattle.proof_world.specs.Delivered.{given_up_places}
 use Rattle.proof_world.proofs.EventLemmas.{Readable}
 use Rattle.proof_world.proofs.SidesLemmas.{Good, stays_good}

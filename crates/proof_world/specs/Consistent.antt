@@ -8,9 +8,9 @@ use Rattle.sctp_state.specs.Events.{OnClosed, OnAborted}
 use Rattle.spec_endpoint.specs.Association.{Tcb, Phase, Open}
 use Rattle.spec_endpoint.specs.Shown.{Association}
 use Rattle.spec_world.specs.Observations.{End, A, B, same_end, none_unless, mirrored, held, times_connected, Connect, Shutdown, Entry, Called, Given, EmittedEvent}
-use Rattle.spec_world.specs.World.{World, Runs, side_of, other}
+use Rattle.spec_world.specs.World.{World, Action, Runs, side_of, other}
 use Rattle.proof_world.specs.FirstRun.{opening, IsFresh}
-use Rattle.proof_world.specs.Traces.{IsReachable}
+use Rattle.proof_world.specs.Reachable.{Origin, IsReachable}
 
 -- ---- what was given
 
@@ -75,7 +75,7 @@ pub record WorldEndsAreConsistent (a b : Options) (w : World) : Type 0 where
 
 -- Of each reachable world, undisturbed.
 abbrev pub WorldsAreConsistent : Type 0
-WorldsAreConsistent = (w : World) (l : IsReachable w) → IsUndisturbed w → WorldEndsAreConsistent l.a l.b w
+WorldsAreConsistent = (origin : Origin) (actions : List Action) (w : World) → IsReachable origin actions w → IsUndisturbed w → WorldEndsAreConsistent origin.a origin.b w
 
 -- The rules can be kept: the opening of the first run keeps them, and leaves no association over.
 abbrev pub OpeningFollows : Type 0

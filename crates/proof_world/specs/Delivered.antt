@@ -1,11 +1,10 @@
 -- Messages that become ready at an end of a world are those that the other end accepted, and what became of the others: premises
 -- and claim are read off the log, the actions and the values that the sockets hold between them.
-use Rattle.std.specs.Prelude.{◌≡◌, ℕ, ◌-◌, ◌^◌, ◌<◌, ◌≤◌, Bool, true, false, Some, None, List, [], ◌∷◌, ◌++◌, length, map, take, replicate, slice_get, slice_index, nat_le, ⊤}
+use Rattle.std.specs.Prelude.{◌≡◌, ℕ, ◌-◌, ◌^◌, ◌<◌, ◌≤◌, Bool, true, false, Some, None, List, [], ◌∷◌, ◌++◌, length, map, take, replicate, slice_get, slice_index, ⊤}
 use Rattle.std.specs.List.{flat_map}
 use Rattle.sctp_serial.specs.Messages.{Message}
-use Rattle.sctp_state.specs.Events.{Event, GivenUp}
+use Rattle.sctp_state.specs.Events.{Event, OnLifecycleMessageDelivered, GivenUp}
 use Rattle.proof_protocol.specs.State.{has}
-use Rattle.proof_tx_refines.specs.Reachable.{delivered_by}
 use Rattle.proof_tx_refines.specs.Records.{are_distinct}
 use Rattle.proof_delivery.specs.Accepted.{AcceptedMessage}
 use Rattle.proof_delivery.specs.Answered.{NumberedBefore, none_asked, numbered_before, IsAnswered, performed_in}
@@ -13,8 +12,8 @@ use Rattle.proof_delivery.specs.Justified.{reset_unless}
 use Rattle.proof_delivery.specs.StreamEpochs.{StreamEpoch, all_open, shut_streams, reopen, performed_of, epochs_of, resets_emitted}
 use Rattle.proof_delivery.specs.Windows.{numbered_count, IsWithin, Stamp, Stamps, no_stamps, IsYoung}
 use Rattle.proof_delivery.specs.Delivery.{Fits, SkippedAreGivenUp, IsReady, AllAreDone}
-use Rattle.spec_world.specs.Observations.{End, A, B, same_end, none_unless, all_unless, Call, Send, SendMany, Reset, SetMaxMessageSize, Answer, Sent, SentMany, AskedReset, unrefused, Entry, Called, Given, Foreign, Timed, EmittedEvent, BecameReady, accepted, ready, given_up}
-use Rattle.spec_world.specs.World.{Side, World, Action, CallOf, Give, GiveForeign, AdvanceTime, Runs, other, is_at_rest}
+use Rattle.spec_world.specs.Observations.{End, A, B, same_end, none_unless, all_unless, Call, Send, SendMany, Reset, Answer, Sent, SentMany, AskedReset, unrefused, Entry, Called, Given, Foreign, Timed, EmittedEvent, BecameReady, accepted, ready, given_up}
+use Rattle.spec_world.specs.World.{Side, World, Action, Give, Runs, other, is_at_rest}
 use Rattle.proof_world.specs.Consistent.{NoEndingIsLogged}
 
 -- ---- what was accepted, with the options of its sending
@@ -67,7 +66,7 @@ abbrev pub given_up_places : End → List Entry → List ℕ
 given_up_places x log = map (λ (g : GivenUp). g.number) (given_up x log)
 
 abbrev pub reported_by : End → Entry → List ℕ
-reported_by x (EmittedEvent y event) = all_unless (same_end x y) (delivered_by event)
+reported_by x (EmittedEvent y (OnLifecycleMessageDelivered id)) = none_unless (same_end x y) id
 reported_by x entry = []
 
 -- the lifecycle ids of those that it reported as delivered
@@ -98,29 +97,13 @@ stamps_after w u s = record { of_a = stamp_packets w.a u.a (world_stamp w) s.of_
 abbrev pub IsTimely : Action → (now : Stamp) → Stamps → Type 0
 IsTimely (Give packet A) now s = (old : Stamp) → slice_get s.of_b packet ≡ Some old → IsYoung now old
 IsTimely (Give packet B) now s = (old : Stamp) → slice_get s.of_a packet ≡ Some old → IsYoung now old
-IsTimely (CallOf x call) now s = ⊤
-IsTimely (GiveForeign x bytes) now s = ⊤
-IsTimely (AdvanceTime x time) now s = ⊤
+IsTimely action now s = ⊤
 
 -- at each world in which no association is over
 abbrev pub WorldKeepsWindows : (actions : List Action) (w v : World) → Runs actions w v → Stamps → Type 0
 WorldKeepsWindows [] w v r s = NoEndingIsLogged w.log → WorldIsWithin w
 WorldKeepsWindows (action ∷ actions) w v r s =
     (NoEndingIsLogged w.log → WorldIsWithin w × IsTimely action (world_stamp w) s) × WorldKeepsWindows actions r.0 v r.2 (stamps_after w r.0 s)
-
--- none of the actions that begin in a world with no association over is such a one
-abbrev pub KeepsFrom : (Action → Bool) → (actions : List Action) (w v : World) → Runs actions w v → Type 0
-KeepsFrom is_such [] w v r = ⊤
-KeepsFrom is_such (action ∷ actions) w v r = (NoEndingIsLogged w.log → is_such action ≡ false) × KeepsFrom is_such actions r.0 v r.2
-
-abbrev pub sets_wide_limit : Call → Bool
-sets_wide_limit (SetMaxMessageSize bytes) = nat_le (2 ^ 32) bytes
-sets_wide_limit call = false
-
--- a limit of messages' sizes that doesn't fit 32 bits
-abbrev pub sets_more : Action → Bool
-sets_more (CallOf x call) = sets_wide_limit call
-sets_more action = false
 
 -- ---- requests to reset streams, along a run
 
@@ -195,7 +178,6 @@ pub record WorldIsInBounds (actions : List Action) (w v : World) (runs : Runs ac
   pub windows : WorldKeepsWindows actions w v runs no_stamps
   pub resets : WorldKeepsResets actions w v runs
   pub few : (x : End) (early late : List Entry) → v.log ≡ early ++ late → NoEndingIsLogged early → length (accepted_messages x early) < 2 ^ 32
-  pub limits : KeepsFrom sets_more actions w v runs
 
 -- the messages of the offers are those accepted
 abbrev pub AcceptedMessagesAgree : Type 0

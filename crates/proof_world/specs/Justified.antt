@@ -9,7 +9,7 @@ use Rattle.proof_endpoint.specs.Sound.{OptionsFit}
 use Rattle.proof_delivery.specs.Justified.{Acceptance, accepted_then, dated_record, IsJustified}
 use Rattle.spec_world.specs.Observations.{End, same_end, Entry, Called, Given, Foreign, Timed, GaveUp}
 use Rattle.spec_world.specs.World.{World, Action, Runs, fresh_world}
-use Rattle.proof_world.specs.Traces.{ActionFits, IsInBytes}
+use Rattle.proof_world.specs.Reachable.{ActionFits, IsInBytes}
 use Rattle.proof_world.specs.Delivered.{accepted_messages_by, accepted_messages, reset_in}
 
 -- ---- clocks

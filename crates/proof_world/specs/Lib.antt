@@ -1,10 +1,12 @@
 pub mod FirstRun
 pub mod Readable
 pub mod Ended
+pub mod Reachable
 pub mod Traces
 pub mod Consistent
 pub mod Delivered
 pub mod Composed
+pub mod Few
 pub mod Justified
 pub mod Agreed
 pub mod Visible
@@ -13,3 +15,4 @@ pub mod Alike
 pub mod Worlds
 pub mod Skipping
 pub mod Resetting
+pub mod Connecting

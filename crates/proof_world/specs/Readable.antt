@@ -10,19 +10,32 @@ use Rattle.proof_endpoint.specs.Mapped.{Carried, as_written}
 use Rattle.proof_endpoint.specs.ReceivedBack.{as_received}
 use Rattle.proof_endpoint.specs.Sound.{OptionsFit, IsSound, ArgumentFits}
 use Rattle.proof_endpoint.specs.ReadBack.{ReadsBack}
+use Rattle.proof_pair.specs.Trace.{emitted_packets, run, start}
 use Rattle.spec_world.specs.World.{Side, World, Action, CallOf, Give, GiveForeign, AdvanceTime, Happens, Runs, fresh_world, side_of, other, table_call}
+use Rattle.proof_world.specs.Reachable.{Origin}
+use Rattle.proof_world.specs.Traces.{HasTrace}
 
 -- ---- packets
 
--- A list of chunks, each of which can be read back, and its bytes. Every reader whose policy lets the checksum through accepts
--- them as this list, its chunks as they are carried; and as nothing else.
+-- A list of chunks, each of which can be read back. Every reader whose policy lets the checksum through accepts its bytes as this
+-- list, its chunks as they are carried; and as nothing else.
+pub record IsReadBack (word_of : List ℕ → ℕ) (packet : Carried) : Type 0 where
+  pub reads_back : ReadsBack 65535 packet
+  pub read : (policy : Policy) (word : ℕ) → lets_through policy word (field_of word_of packet.header packet.is_summed packet.chunks) ≡ true
+      → Accepts policy word (as_written word_of packet) (as_received word_of packet)
+  pub alone : (policy : Policy) (word : ℕ) (p : PacketTree) → Accepts policy word (as_written word_of packet) p → p ≡ as_received word_of packet
+
+-- the bytes of such a list
 pub record CanBeReadBack (word_of : List ℕ → ℕ) (bytes : List ℕ) : Type 0 where
   pub packet : Carried
   pub spelled : bytes ≡ as_written word_of packet
-  pub reads_back : ReadsBack 65535 packet
-  pub read : (policy : Policy) (word : ℕ) → lets_through policy word (field_of word_of packet.header packet.is_summed packet.chunks) ≡ true
-      → Accepts policy word bytes (as_received word_of packet)
-  pub alone : (policy : Policy) (word : ℕ) (p : PacketTree) → Accepts policy word bytes p → p ≡ as_received word_of packet
+  pub is_read_back : IsReadBack word_of packet
+
+-- The packets that the ends ever sent are those that the rows put in, by a trace of the run, each of them written and read back.
+pub record PacketsReadBack (o : Origin) (actions : List Action) (w : World) : Type 0 where
+  pub has : HasTrace (start o.a o.b o.draws_a o.draws_b) o.word_of_a o.word_of_b actions w
+  pub of_a : All (IsReadBack o.word_of_a) (emitted_packets (run has.trace (start o.a o.b o.draws_a o.draws_b)).a)
+  pub of_b : All (IsReadBack o.word_of_b) (emitted_packets (run has.trace (start o.a o.b o.draws_a o.draws_b)).b)
 
 -- ---- a world
 

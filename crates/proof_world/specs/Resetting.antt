@@ -7,7 +7,7 @@ use Rattle.proof_delivery.specs.StreamEpochs.{all_open, performed_of, resets_emi
 use Rattle.spec_world.specs.Observations.{A, B, Send, Reset, accepted, ready}
 use Rattle.spec_world.specs.World.{World, Action, CallOf, Give}
 use Rattle.proof_world.specs.FirstRun.{opening}
-use Rattle.proof_world.specs.Traces.{IsReachable, initial_world}
+use Rattle.proof_world.specs.Reachable.{Origin, IsReachable, initial_world}
 use Rattle.proof_world.specs.Consistent.{IsUndisturbed}
 use Rattle.proof_world.specs.Delivered.{message_epochs, emitted_events, WorldIsInBounds}
 
@@ -21,11 +21,11 @@ one_is_reset =
 
 -- both become ready, and each end emits once that the stream was reset
 pub record OneIsReset : Type 0 where
+  pub origin : Origin
   pub world : World
-  pub reachable : IsReachable world
-  pub actions : reachable.actions ≡ one_is_reset
+  pub reachable : IsReachable origin one_is_reset world
   pub undisturbed : IsUndisturbed world
-  pub bounds : WorldIsInBounds reachable.actions (initial_world reachable) world reachable.runs
+  pub bounds : WorldIsInBounds one_is_reset (initial_world origin) world reachable.runs
   pub accepts : accepted A world.log ≡ text 97 ∷ text 98 ∷ []
   pub epochs : message_epochs A world.log all_open ≡ 0 ∷ 1 ∷ []
   pub readies : ready B world.log ≡ text 97 ∷ text 98 ∷ []

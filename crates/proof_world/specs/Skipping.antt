@@ -6,7 +6,7 @@ use Rattle.proof_pair.specs.Handing.{text}
 use Rattle.spec_world.specs.Observations.{A, B, Send, accepted, ready}
 use Rattle.spec_world.specs.World.{World, Action, CallOf, Give, AdvanceTime, is_at_rest}
 use Rattle.proof_world.specs.FirstRun.{opening}
-use Rattle.proof_world.specs.Traces.{IsReachable, initial_world}
+use Rattle.proof_world.specs.Reachable.{Origin, IsReachable, initial_world}
 use Rattle.proof_world.specs.Consistent.{IsUndisturbed}
 use Rattle.proof_world.specs.Delivered.{given_up_places, reported, WorldIsInBounds}
 
@@ -19,11 +19,11 @@ one_is_lost =
 
 -- the others become ready, and in the end the sender is at rest
 pub record OneIsSkipped : Type 0 where
+  pub origin : Origin
   pub world : World
-  pub reachable : IsReachable world
-  pub actions : reachable.actions ≡ one_is_lost
+  pub reachable : IsReachable origin one_is_lost world
   pub undisturbed : IsUndisturbed world
-  pub bounds : WorldIsInBounds reachable.actions (initial_world reachable) world reachable.runs
+  pub bounds : WorldIsInBounds one_is_lost (initial_world origin) world reachable.runs
   pub accepts : accepted A world.log ≡ text 97 ∷ text 98 ∷ text 99 ∷ []
   pub readies : ready B world.log ≡ text 97 ∷ text 99 ∷ []
   pub gives_up : given_up_places A world.log ≡ 1 ∷ []

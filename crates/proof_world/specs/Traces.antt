@@ -3,53 +3,18 @@ use Rattle.std.specs.Prelude.{◌≡◌, ℕ, ◌⊎◌, Bool, true, false, Some
 use Rattle.std.specs.List.{flat_map}
 use Rattle.rand_core.specs.Stream.{Stream}
 use Rattle.sctp_packet.specs.Packet.{PacketTree, IsPacket, lets_through}
-use Rattle.sctp_state.specs.Options.{Options, IsValid}
+use Rattle.sctp_state.specs.Options.{Options}
 use Rattle.sctp_state.specs.Events.{nothing_emitted}
 use Rattle.spec_endpoint.specs.Laws as table
 use Rattle.spec_endpoint.specs.Receiving.{policy_of}
-use Rattle.spec_endpoint.specs.Wire.{field_of, word_at, AreBytes}
+use Rattle.spec_endpoint.specs.Wire.{field_of, word_at}
 use Rattle.proof_endpoint.specs.Mapped.{Carried, map_event, map_end, as_written, as_bytes}
-use Rattle.proof_endpoint.specs.Sound.{OptionsFit, ArgumentFits}
+use Rattle.proof_endpoint.specs.Sound.{OptionsFit}
 use Rattle.proof_pair.specs.Trace as traces
 use Rattle.proof_pair.specs.Trace.{Pair, EndAction, Calls, Refuses, emitted_packets, goes, run, start}
 use Rattle.spec_world.specs.Observations.{End, A, B, same_end, none_unless, Entry, EmittedPacket, EmittedEvent}
 use Rattle.spec_world.specs.World.{Side, World, Action, CallOf, Give, GiveForeign, AdvanceTime, Runs, fresh_world, table_call, emitted_entries}
-
--- ---- what comes from outside
-
--- what a call hands in fits; bytes from elsewhere are below 256 each
-abbrev pub ActionFits : Action → Type 0
-ActionFits (CallOf x call) = ArgumentFits (table_call call)
-ActionFits (Give packet x) = Unit {0}
-ActionFits (GiveForeign x bytes) = AreBytes bytes
-ActionFits (AdvanceTime x now) = Unit {0}
-
--- All packets are bytes: numbers below 256.
-pub record IsInBytes (w : World) : Type 0 where
-  pub a : All AreBytes w.a.packets
-  pub b : All AreBytes w.b.packets
-
--- A new world, with any options that a socket can be made with, any words and checksum functions, was led to it by actions that
--- fit; its packets are bytes.
-pub record IsReachable (w : World) : Type 0 where
-  pub a : Options
-  pub b : Options
-  pub draws_a : Stream
-  pub draws_b : Stream
-  pub word_of_a : List ℕ → ℕ
-  pub word_of_b : List ℕ → ℕ
-  pub valid_a : IsValid a
-  pub valid_b : IsValid b
-  pub fits_a : OptionsFit a
-  pub fits_b : OptionsFit b
-  pub actions : List Action
-  pub fit : All ActionFits actions
-  pub runs : Runs actions (fresh_world a b draws_a draws_b word_of_a word_of_b) w
-  pub bytes : IsInBytes w
-
--- that new world
-abbrev pub initial_world : {w : World} → IsReachable w → World
-initial_world l = fresh_world l.a l.b l.draws_a l.draws_b l.word_of_a l.word_of_b
+use Rattle.proof_world.specs.Reachable.{ActionFits, IsInBytes}
 
 -- ---- the trace of a run, an end's action for each of its actions
 

@@ -9,7 +9,8 @@ use Rattle.spec_endpoint.specs.Wire.{AreBytes}
 use Rattle.proof_pair.specs.Trace as traces
 use Rattle.proof_pair.specs.Trace.{Pair, EndAction, emitted_packets, run, start}
 use Rattle.spec_world.specs.World.{World, Action, GiveForeign, Runs, fresh_world}
-use Rattle.proof_world.specs.Traces.{ActionFits, AreActionsOf, AreImages}
+use Rattle.proof_world.specs.Reachable.{ActionFits}
+use Rattle.proof_world.specs.Traces.{AreActionsOf, AreImages}
 
 abbrev pub is_foreign : Action → Bool
 is_foreign (GiveForeign x bytes) = true

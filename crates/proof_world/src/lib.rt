@@ -1,5 +1,5 @@
 //! Laws of two ends and all packets between them. Each run of a new world is a trace of two ends, which the theorem is read off, and each
-//! trace is that of a world, where no bytes come from elsewhere; two runs are computed. Two worlds that the same events lead on, and
+//! trace is that of a world, where no bytes come from elsewhere; four runs are computed. Two worlds that the same events lead on, and
 //! whose ends draw other words, show the same.
 #![tactic(auto)]
 
@@ -7,14 +7,16 @@ ghost use Rattle.proof_world.specs.Agreed.{WorldsAgree};
 ghost use Rattle.proof_world.specs.Composed.{WorldsCompose};
 ghost use Rattle.proof_world.specs.Traces.{WorldsHaveTraces};
 ghost use Rattle.proof_world.specs.Delivered.{AcceptedMessagesAgree, AcceptedMessagesHaveEpochs};
+ghost use Rattle.proof_world.specs.Reachable.{RunsHaveOneOutcome};
 ghost use Rattle.proof_world.specs.Ended.{EndedAreHandedIn, NoLifecycleEndsTwiceHere};
+ghost use Rattle.proof_world.specs.Connecting.{EndsConnect, TwoWorldsConnect};
 ghost use Rattle.proof_world.specs.Consistent.{OpeningFollows, WorldsAreConsistent};
 ghost use Rattle.proof_world.specs.Justified.{AcceptancesAreOfAcceptedMessages, WorldsAreJustified};
 ghost use Rattle.proof_world.specs.Readable.{EachActionKeepsWorldsReadable, NewWorldsAreReadable, RunsKeepWorldsReadable};
 ghost use Rattle.proof_world.specs.Resetting.{OneIsReset};
 ghost use Rattle.proof_world.specs.Skipping.{OneIsSkipped};
 ghost use Rattle.proof_world.specs.Worlds.{TracesHaveWorlds};
-ghost use Rattle.proof_world.specs.Alike.{NewWorldsArePaired, WorldsShowTheSame};
+ghost use Rattle.proof_world.specs.Alike.{WorldsShowTheSame};
 
 /// Each packet that one of two ends ever sent can be read back, as the chunks that were put together and as nothing else: of a
 /// new world whose options fit, and along each run of actions that fit. A packet that is given is one of the other end's, so
@@ -61,12 +63,17 @@ pub fn worlds_are_consistent()
 /// at its back. Of the others, an ordered one that isn't ready, while a later one of its stream is, was given up, and the log names
 /// it (RFC 3758 section 3.5). A lifecycle id that the log reports as delivered is that of a message that is ready. And between events,
 /// where nothing is queued at the sender and it keeps no item, each message that it accepted is ready or was given up. The bounds
-/// are read off the log and the values of the sockets between events: those of `messages_are_delivered` of `proof_delivery`.
+/// are read off the log and the values of the sockets between events: those of `messages_are_delivered` of `proof_delivery`. A run in which few
+/// numbers are used keeps them.
 ///
 /// Streams may be reset (RFC 6525). By the log alone, a call of reset that is answered Ok begins the next epoch of each open stream that it
 /// names, and the stream is open again once its end emits that it was reset. Each message becomes ready in its epoch: that lies between
 /// the resets of its stream that the other end emitted before that event, and those that it emitted before the message. Within the bounds no
 /// end emits that a reset failed, at any point up to the first end of an association.
+///
+/// Behind the end of an association too, and whatever rules the run follows: no packet is larger than its sender's mtu; the packets are the
+/// lists of chunks that the rows put in, each of them written, and are read back; and no lifecycle is reported to have ended more often
+/// than messages with its id were handed in.
 ///
 /// The messages of the offers are those that were accepted, and each has an epoch.
 pub fn worlds_compose()
@@ -102,6 +109,21 @@ pub fn traces_have_worlds()
     ensures worlds { TracesHaveWorlds }
 {}
 
+/// So can all that `worlds_agree` asks: in one run of a new world, computed, both ends connect, and no tag is drawn twice.
+pub fn ends_connect()
+    ensures { EndsConnect }
+{}
+
+/// And all that `worlds_show_the_same` asks: two such runs, computed, whose ends draw other words.
+pub fn two_worlds_connect()
+    ensures { TwoWorldsConnect }
+{}
+
+/// Two runs of the same actions from one world lead to the same world, whatever packets are given and bytes come from elsewhere.
+pub fn runs_have_one_outcome()
+    ensures { RunsHaveOneOutcome }
+{}
+
 /// All that `worlds_compose` of `proof_world` asks can be had. In one run of a new world, computed, the rules are followed,
 /// no association is over and the bounds are kept, while of three messages that are sent on one stream the packet of the second is
 /// lost, and it may not be sent again. It is given up, the others become ready, the first is reported as delivered, and in the end the
@@ -119,9 +141,8 @@ pub fn a_stream_is_reset()
 
 /// Two new worlds with the same options in pairs, one checksum function for all four sockets and the same events show the same, whatever
 /// words were drawn: until an end of the first emits that an association is over, and up to and with the event in which it does. Asked
-/// for is that the first follows the rules until then, that in neither a verification tag is drawn twice, and that no bytes come from
+/// for, until then, is that the first follows the rules, that in neither a verification tag is drawn twice, and that no bytes come from
 /// elsewhere; and each packet that was emitted is to be bytes.
 pub fn worlds_show_the_same()
-    ensures anew { NewWorldsArePaired }
     ensures show { WorldsShowTheSame }
 {}

@@ -1,4 +1,3 @@
 pub mod ForeignBytesLemmas
 pub mod GoesLemmas
 pub mod ReachableLemmas
-pub mod PairedLemmas

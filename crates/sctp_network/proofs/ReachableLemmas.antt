@@ -1,20 +1,20 @@
 -- Unless it has failed, a reachable world is led on: its new packets are bytes, and what was handed in fits.
-use Rattle.std.proofs.Common.{◌≡◌, ◌<◌, ℕ, ◌+◌, Bool, true, false, List, [], ◌∷◌, ◌++◌, length, get_or, take, drop, map, refl, sym, ap, subst, ◌∙◌}
+use Rattle.std.proofs.Common.{◌≡◌, ◌<◌, ℕ, ◌+◌, List, [], ◌∷◌, ◌++◌, length, get_or, take, drop, map, refl, sym, ap, subst, ◌∙◌}
 use Rattle.std.specs.Prelude.{All, Result, Ok, Err, OnOk, IfErr}
 use Rattle.std.proofs.lemmas.List.{drop_more}
 use Rattle.std.proofs.lemmas.List.Elements.{All-nil, All-cons, All-append, All-take}
-use Rattle.rand_core.specs.Stream.{Stream}
 use Rattle.sctp_packet.specs.Grammar.{Each}
-use Rattle.sctp_state.specs.Options.{Options, IsValid}
+use Rattle.sctp_state.specs.Options.{IsValid}
 use Rattle.proof_endpoint.specs.Sound.{OptionsFit}
 use Rattle.spec_endpoint.specs.Wire.{AreBytes}
 use Rattle.sctp_network_side.specs.declared.log.Event.{Event}
 use Rattle.sctp_network.specs.declared.world.WorldError.{WorldError}
 use Rattle.sctp_network.specs.declared.world.WorldError.TheVariants as errors
-use Rattle.spec_world.specs.World.{World, Action, CallOf, Give, GiveForeign, AdvanceTime, Runs, IsDisabled, RunsUpToDisabled, fresh_world}
+use Rattle.spec_world.specs.World.{World, Action, CallOf, Give, GiveForeign, AdvanceTime, Runs, IsDisabled, RunsUpToDisabled}
 use Rattle.spec_world.proofs.RunLemmas.{lacks_one}
 use Rattle.sctp_network_side.specs.SideView.{action_of}
-use Rattle.proof_world.specs.Traces.{ActionFits, IsInBytes, IsReachable}
+use Rattle.proof_world.specs.Reachable.{ActionFits, IsInBytes, Origin, initial_world, IsReachable, Continues}
+use Rattle.proof_world.specs.Pairs.{BothUpToLack}
 use Rattle.proof_world.specs.Readable as readable
 use Rattle.proof_world.proofs.WorldLemmas.{Extends}
 use Rattle.proof_world.proofs.RunsLemmas.{runs_extends}
@@ -61,21 +61,34 @@ front_fits actions before action rest split h =
     took [] ys = refl
     took (x ∷ xs) ys = ap (λ (zs : List Action). x ∷ zs) (took xs ys)
 
-module _ (w v : World) (failed : Bool) (a b : ℕ) (sent_a : a ≡ length w.a.packets) (sent_b : b ≡ length w.b.packets)
+module _ (w v : World) (a b : ℕ) (sent_a : a ≡ length w.a.packets) (sent_b : b ≡ length w.b.packets)
     (bytes_a : Each AreBytes (drop a v.a.packets)) (bytes_b : Each AreBytes (drop b v.b.packets)) where
-  reachable : (actions : List Action) → All ActionFits actions → Runs actions w v → IsReachable w → IsReachable v
-  reachable actions fit runs l = reachable_on w v actions l fit runs (in_bytes_after actions w v a b runs sent_a sent_b bytes_a bytes_b l.bytes)
+  pub continues : (actions : List Action) → All ActionFits actions → Runs actions w v → Continues actions w v
+  continues actions fit runs o before l = reachable_on o before actions w v l fit runs (in_bytes_after actions w v a b runs sent_a sent_b bytes_a bytes_b l.bytes)
 
-  pub reachable_by : {X : Type 0} (r : Result X WorldError) (actions : List Action) → OnOk r (Runs actions w v) → IfErr r (λ e. e ≡ errors.NoSuchPacket → RunsUpToDisabled actions w v)
-      → IfErr r (λ e. e ≡ errors.Memory → failed ≡ true) → All ActionFits actions → failed ≡ false → IsReachable w → IsReachable v
-  reachable_by (Ok x) actions runs disabled memory fit works l = reachable actions fit runs l
-  reachable_by (Err errors.NoSuchPacket) actions runs disabled memory fit works l =
-      let k : RunsUpToDisabled actions w v = disabled refl in
-      reachable k.before (front_fits actions k.before k.action k.rest k.split fit) k.runs l
-  reachable_by (Err errors.Memory) actions runs disabled memory fit works l = absurd (not_both failed (memory refl) works)
-    where
-      not_both : (b : Bool) → b ≡ true → b ≡ false → ⊥
-      not_both b e f = cc
+  pub reachable_by : {X : Type 0} (r : Result X WorldError) (actions : List Action) → All ActionFits actions → OnOk r (Runs actions w v) → OnOk r (Continues actions w v)
+  reachable_by (Ok x) actions fit runs = continues actions fit runs
+  reachable_by (Err e) actions fit runs = tt
+
+  pub stopped_by : {X : Type 0} (r : Result X WorldError) (actions : List Action) → All ActionFits actions → IfErr r (λ e. e ≡ errors.NoSuchPacket → RunsUpToDisabled actions w v)
+      → IfErr r (λ e. e ≡ errors.NoSuchPacket → (k : RunsUpToDisabled actions w v) × Continues k.before w v)
+  stopped_by (Ok x) actions fit disabled = tt
+  stopped_by (Err e) actions fit disabled = λ is. let k : RunsUpToDisabled actions w v = disabled is in (k, continues k.before (front_fits actions k.before k.action k.rest k.split fit) k.runs)
+
+-- two worlds
+pub both_reachable : {X : Type 0} (r : Result X WorldError) (actions : List Action) (w v x y : World) → OnOk r (Continues actions w x) → OnOk r (Continues actions v y) → OnOk r (Continues actions w x × Continues actions v y)
+both_reachable (Ok z) actions w v x y first second = (first, second)
+both_reachable (Err e) actions w v x y first second = tt
+
+pub both_stopped : {X : Type 0} (r : Result X WorldError) (actions : List Action) (w v x y : World) → All ActionFits actions
+    → ((front : List Action) → All ActionFits front → Runs front w x → Continues front w x) → ((front : List Action) → All ActionFits front → Runs front v y → Continues front v y)
+    → IfErr r (λ e. e ≡ errors.NoSuchPacket → BothUpToLack actions w v x y)
+    → IfErr r (λ e. e ≡ errors.NoSuchPacket → (k : BothUpToLack actions w v x y) × Continues k.before w x × Continues k.before v y)
+both_stopped (Ok z) actions w v x y fit first second lacks = tt
+both_stopped (Err e) actions w v x y fit first second lacks = λ is.
+    let k : BothUpToLack actions w v x y = lacks is in
+    let front : All ActionFits k.before = front_fits actions k.before k.action k.rest k.split fit in
+    (k, first k.before front k.both.first, second k.before front k.both.second)
 
 -- a step that finds no packet
 pub lacks_then : {X : Type 0} (r : Result X WorldError) (action : Action) (w v : World) → IfErr r (λ e. e ≡ errors.NoSuchPacket → IsDisabled action w)
@@ -96,20 +109,12 @@ pub there_then : {X : Type 0} (e : WorldError) → e ≡ errors.Memory → ◌�
 there_then e is no_such_packet = cc
 
 -- a new world
-pub reachable_new : (a b : Options) (draws_a draws_b : Stream) (word_of_a word_of_b : List ℕ → ℕ) → IsValid a → IsValid b → OptionsFit a → OptionsFit b
-    → (w : World) → w ≡ fresh_world a b draws_a draws_b word_of_a word_of_b → IsReachable w
-reachable_new a b draws_a draws_b word_of_a word_of_b valid_a valid_b fits_a fits_b w is = record {
-  a = a;
-  b = b;
-  draws_a = draws_a;
-  draws_b = draws_b;
-  word_of_a = word_of_a;
-  word_of_b = word_of_b;
+pub reachable_new : (o : Origin) → IsValid o.a → IsValid o.b → OptionsFit o.a → OptionsFit o.b → (w : World) → w ≡ initial_world o → IsReachable o [] w
+reachable_new o valid_a valid_b fits_a fits_b w is = record {
   valid_a = valid_a;
   valid_b = valid_b;
   fits_a = fits_a;
   fits_b = fits_b;
-  actions = [];
   fit = All-nil ActionFits;
   runs = is;
   bytes = subst IsInBytes (sym is) (record { a = All-nil AreBytes; b = All-nil AreBytes });

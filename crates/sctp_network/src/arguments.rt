@@ -7,7 +7,7 @@ ghost use Rattle.spec_endpoint.specs.Wire.{AreBytes};
 ghost use Rattle.spec_world.specs.World.{table_call};
 ghost use Rattle.sctp_network_side.specs.SideView.{action_of, call_tree};
 ghost use Rattle.sctp_network.specs.WorldView.{world_of};
-ghost use Rattle.proof_world.specs.Traces.{ActionFits};
+ghost use Rattle.proof_world.specs.Reachable.{ActionFits};
 ghost use Rattle.proof_world.specs.Readable as readable;
 ghost use Rattle.proof_world.specs.Readable.{GivesBytes};
 
@@ -32,7 +32,9 @@ pub fn a_call_fits(call: &Call)
         Call::Receive => {}
         Call::Reset(streams) => streams_fit(streams),
         Call::SetPriority(stream, _) => a_stream_fits(stream),
-        Call::SetMaxMessageSize(_) => {}
+        Call::SetMaxMessageSize(bytes) => {
+            let _bytes = *bytes;
+        }
         Call::SetLowThreshold(stream, _) => a_stream_fits(stream),
         Call::Handover => {}
     }

@@ -5,12 +5,17 @@ ghost use Rattle.sctp_packet.specs.Grammar.{Each};
 ghost use Rattle.sctp_state.specs.Options.{IsValid, options_of};
 ghost use Rattle.sctp_network.specs.declared.world.WorldError.TheVariants.{Memory as no_memory};
 ghost use Rattle.spec_endpoint.specs.Wire.{AreBytes};
-ghost use Rattle.spec_world.specs.World.{MeetsForeign, Happens, Runs, IsDisabled, RunsUpToDisabled, RunsUpToEnabled, AreShort, fresh_world, side_of, is_at_rest, TakesBytes, clock};
+ghost use Rattle.spec_world.specs.World.{MeetsForeign, Happens, Runs, IsDisabled, RunsUpToDisabled, RunsUpToEnabled, Action, fresh_world, side_of, is_at_rest, TakesBytes, clock};
 ghost use Rattle.proof_world.specs.FirstRun.{LeadsFirstRun, ContinuesFirstRun};
+ghost use Rattle.spec_world.specs.Observations as observed;
 ghost use Rattle.spec_world.specs.Observations.{Given};
+ghost use Rattle.spec_world.specs.World as table;
 ghost use Rattle.proof_world.specs.Agreed.{WorldAgrees, EachEndDrawsDistinctTags};
 ghost use Rattle.proof_world.specs.Composed.{Composes};
-ghost use Rattle.proof_world.specs.Traces.{IsReachable};
+ghost use Rattle.proof_world.specs.Consistent.{WorldKeepsRules};
+ghost use Rattle.proof_world.specs.Delivered.{WorldDelivers};
+ghost use Rattle.proof_world.specs.Few.{RunNumbersFew};
+ghost use Rattle.proof_world.specs.Reachable.{Origin, origin, IsReachable, Continues};
 ghost use Rattle.sctp_network_side.specs.SideView.{action_of, end_tree, entry_tree, side_in};
 ghost use Rattle.sctp_network.specs.WorldView.{world_of};
 
@@ -91,8 +96,8 @@ impl<R: Rng + Drop, C: Checksum + Drop> World<R, C> {
         ensures world { IfOk result (λ w. world_of R.stream C.word_of w
             ≡ fresh_world (options_of options_a.now) (options_of options_b.now) (R.stream rng_a) (R.stream rng_b) (C.word_of checksum_a) (C.word_of checksum_b)) }
         ensures works { IfOk result (λ w. w.has_failed ≡ false) }
-        ensures short { IfOk result (λ w. AreShort (options_of options_a.now).mtu (options_of options_b.now).mtu (world_of R.stream C.word_of w)) }
-        ensures reachable { IfOk result (λ w. IsReachable (world_of R.stream C.word_of w)) }
+        ensures reachable { IfOk result (λ w. IsReachable (origin (options_of options_a.now) (options_of options_b.now) (R.stream rng_a) (R.stream rng_b) (C.word_of checksum_a) (C.word_of checksum_b))
+            [] (world_of R.stream C.word_of w)) }
         ensures memory { IfErr result (λ e. e ≡ CallError.Memory) }
     {
         options_fit(options_a);
@@ -100,6 +105,45 @@ impl<R: Rng + Drop, C: Checksum + Drop> World<R, C> {
         World::made(
             alloc, options_a, options_b, rng_a, rng_b, checksum_a, checksum_b,
         )
+    }
+
+    /// A new world, and what these events make of it: `World::new`, and then `run`. What the clauses conclude rests on what is handed in
+    /// here and on the log alone: `delivers` gives the one run of these events from this new world, of which its premises speak.
+    pub fn after(
+        alloc: Global,
+        options_a: &Options,
+        options_b: &Options,
+        rng_a: R,
+        rng_b: R,
+        checksum_a: C,
+        checksum_b: C,
+        events: &[Event],
+    ) -> Result<World<R, C>, WorldError>
+        requires a { IsValid (options_of options_a.now) }
+        requires b { IsValid (options_of options_b.now) }
+        ensures delivers { IfOk result (λ w.
+            let first = fresh_world (options_of options_a.now) (options_of options_b.now) (R.stream rng_a) (R.stream rng_b) (C.word_of checksum_a) (C.word_of checksum_b) in
+            let last = world_of R.stream C.word_of w in (runs : Runs (map action_of events.now) first last)
+            × (WorldKeepsRules last → RunNumbersFew (map action_of events.now) first last runs → (x : observed.End) → WorldDelivers x (map action_of events.now) first last runs)) }
+        ensures composes { IfOk result (λ w.
+            let o = origin (options_of options_a.now) (options_of options_b.now) (R.stream rng_a) (R.stream rng_b) (C.word_of checksum_a) (C.word_of checksum_b) in
+            (l : IsReachable o (map action_of events.now) (world_of R.stream C.word_of w)) × Composes o (map action_of events.now) (world_of R.stream C.word_of w) l.runs) }
+        ensures agrees { IfOk result (λ w. EachEndDrawsDistinctTags
+            (origin (options_of options_a.now) (options_of options_b.now) (R.stream rng_a) (R.stream rng_b) (C.word_of checksum_a) (C.word_of checksum_b)) (map action_of events.now)
+            → WorldAgrees (world_of R.stream C.word_of w).log) }
+        ensures stopped { IfErr result (λ e. e ≡ WorldError.NoSuchPacket → (v : table.World) × RunsUpToDisabled (map action_of events.now)
+            (fresh_world (options_of options_a.now) (options_of options_b.now) (R.stream rng_a) (R.stream rng_b) (C.word_of checksum_a) (C.word_of checksum_b)) v) }
+    {
+        let mut world = World::new(
+            alloc, options_a, options_b, rng_a, rng_b, checksum_a, checksum_b,
+        )?;
+        match run(&mut world, events) {
+            Ok(()) => Ok(world),
+            Err(fault) => {
+                world.let_go();
+                Err(fault)
+            }
+        }
     }
 
     fn made(
@@ -313,13 +357,12 @@ pub fn step<R: Rng, C: Checksum>(world: &mut World<R, C>, event: &Event) -> Resu
     ensures unfailed { IfErr result (λ e. e ≡ WorldError.NoSuchPacket → world.new.has_failed ≡ false) }
     ensures memory { IfErr result (λ e. e ≡ WorldError.Memory → world.new.has_failed ≡ true) }
     ensures failed { world.old.has_failed ≡ true → result ≡ Err WorldError.Memory }
-    ensures short { OnOk result ((mtu_a mtu_b : ℕ) → AreShort mtu_a mtu_b (world_of R.stream C.word_of world.old)
-        → AreShort mtu_a mtu_b (world_of R.stream C.word_of world.new)) }
     ensures first_run { OnOk result (LeadsFirstRun (action_of event.now ∷ []) (world_of R.stream C.word_of world.old) (world_of R.stream C.word_of world.new)) }
     ensures nothing_lacks { IfErr result (λ e. ContinuesFirstRun (action_of event.now ∷ []) (world_of R.stream C.word_of world.old) → e ≡ WorldError.Memory) }
-    ensures reachable { world.new.has_failed ≡ false → IsReachable (world_of R.stream C.word_of world.old) → IsReachable (world_of R.stream C.word_of world.new) }
-    ensures composes { (l : IsReachable (world_of R.stream C.word_of world.new)) → Composes (world_of R.stream C.word_of world.new) l }
-    ensures agrees { (l : IsReachable (world_of R.stream C.word_of world.new)) → EachEndDrawsDistinctTags l → WorldAgrees (world_of R.stream C.word_of world.new).log }
+    ensures reachable { OnOk result (Continues (action_of event.now ∷ []) (world_of R.stream C.word_of world.old) (world_of R.stream C.word_of world.new)) }
+    ensures composes { (o : Origin) (actions : List Action) (l : IsReachable o actions (world_of R.stream C.word_of world.new)) → Composes o actions (world_of R.stream C.word_of world.new) l.runs }
+    ensures agrees { (o : Origin) (actions : List Action) → IsReachable o actions (world_of R.stream C.word_of world.new) → EachEndDrawsDistinctTags o actions
+        → WorldAgrees (world_of R.stream C.word_of world.new).log }
 {
     let a = world.sent(End::A);
     let b = world.sent(End::B);
@@ -341,13 +384,15 @@ pub fn run<R: Rng, C: Checksum>(world: &mut World<R, C>, events: &[Event]) -> Re
         → RunsUpToEnabled (map action_of events.now) (world_of R.stream C.word_of world.old)) }
     ensures memory { IfErr result (λ e. e ≡ WorldError.Memory → world.new.has_failed ≡ true) }
     ensures failed { world.old.has_failed ≡ true → result ≡ Err WorldError.Memory }
-    ensures short { OnOk result ((mtu_a mtu_b : ℕ) → AreShort mtu_a mtu_b (world_of R.stream C.word_of world.old)
-        → AreShort mtu_a mtu_b (world_of R.stream C.word_of world.new)) }
     ensures first_run { OnOk result (LeadsFirstRun (map action_of events.now) (world_of R.stream C.word_of world.old) (world_of R.stream C.word_of world.new)) }
     ensures nothing_lacks { IfErr result (λ e. ContinuesFirstRun (map action_of events.now) (world_of R.stream C.word_of world.old) → e ≡ WorldError.Memory) }
-    ensures reachable { world.new.has_failed ≡ false → IsReachable (world_of R.stream C.word_of world.old) → IsReachable (world_of R.stream C.word_of world.new) }
-    ensures composes { (l : IsReachable (world_of R.stream C.word_of world.new)) → Composes (world_of R.stream C.word_of world.new) l }
-    ensures agrees { (l : IsReachable (world_of R.stream C.word_of world.new)) → EachEndDrawsDistinctTags l → WorldAgrees (world_of R.stream C.word_of world.new).log }
+    ensures reachable { OnOk result (Continues (map action_of events.now) (world_of R.stream C.word_of world.old) (world_of R.stream C.word_of world.new)) }
+    ensures no_such_packet { OnOk result ((v : table.World) → RunsUpToDisabled (map action_of events.now) (world_of R.stream C.word_of world.old) v → ⊥) }
+    ensures stopped { IfErr result (λ e. e ≡ WorldError.NoSuchPacket → (k : RunsUpToDisabled (map action_of events.now) (world_of R.stream C.word_of world.old) (world_of R.stream C.word_of world.new))
+        × Continues k.before (world_of R.stream C.word_of world.old) (world_of R.stream C.word_of world.new)) }
+    ensures composes { (o : Origin) (actions : List Action) (l : IsReachable o actions (world_of R.stream C.word_of world.new)) → Composes o actions (world_of R.stream C.word_of world.new) l.runs }
+    ensures agrees { (o : Origin) (actions : List Action) → IsReachable o actions (world_of R.stream C.word_of world.new) → EachEndDrawsDistinctTags o actions
+        → WorldAgrees (world_of R.stream C.word_of world.new).log }
 {
     let a = world.sent(End::A);
     let b = world.sent(End::B);

@@ -1,5 +1,5 @@
-use Rattle.proof_world.proofs.AlongLemmas.{worlds_show, new_paired}
+use Rattle.proof_world.proofs.AlongLemmas.{worlds_show}
 use Rattle.proof_world.proofs.worlds_show_the_same.Goals as goal
 
 pub returns : goal.returns
-returns c = record { anew = new_paired; show = worlds_show }
+returns c = record { show = worlds_show }

@@ -1,8 +1,9 @@
 //! Two worlds that the same events lead on.
 
-ghost use Rattle.std.specs.Prelude.{◌≡◌, ◌⊎◌, true, false, [], ◌∷◌, map, IfErr, OnOk, Err};
-ghost use Rattle.spec_world.specs.World.{Happens, IsDisabled};
-ghost use Rattle.proof_world.specs.Alike.{ArePaired, AreComparable, ShowAlong, first_new, second_new};
+ghost use Rattle.std.specs.Prelude.{◌≡◌, ◌⊎◌, true, false, List, [], ◌∷◌, map, IfErr, OnOk, Err};
+ghost use Rattle.spec_world.specs.World.{Action, Happens, IsDisabled};
+ghost use Rattle.proof_world.specs.Reachable.{initial_world, IsReachable, Continues};
+ghost use Rattle.proof_world.specs.Alike.{TwoOrigins, first_origin, second_origin, AreComparable, ShowAlong};
 ghost use Rattle.proof_world.specs.Pairs.{Both, BothUpToLack, RanOut};
 ghost use Rattle.sctp_network_side.specs.SideView.{action_of};
 ghost use Rattle.sctp_network.specs.WorldView.{world_of};
@@ -36,11 +37,12 @@ pub fn run_pair<R: Rng, S: Rng, C: Checksum>(
         (world_of R.stream C.word_of first.new) (world_of S.stream C.word_of second.new) first.new.has_failed second.new.has_failed) }
     ensures failed { (first.old.has_failed ≡ true) ⊎ (second.old.has_failed ≡ true)
         → (result ≡ Err WorldError.Memory) × (first.new ≡ first.old) × (second.new ≡ second.old) }
-    ensures pairs { first.new.has_failed ≡ false → second.new.has_failed ≡ false
-        → ArePaired (world_of R.stream C.word_of first.old) (world_of S.stream C.word_of second.old)
-        → ArePaired (world_of R.stream C.word_of first.new) (world_of S.stream C.word_of second.new) }
-    ensures alike { (p : ArePaired (world_of R.stream C.word_of first.new) (world_of S.stream C.word_of second.new)) → AreComparable p
-        → ShowAlong p.actions (first_new p) (second_new p) (world_of R.stream C.word_of first.new) (world_of S.stream C.word_of second.new) p.first p.second }
+    ensures reachable { OnOk result (Continues (map action_of events.now) (world_of R.stream C.word_of first.old) (world_of R.stream C.word_of first.new) × Continues (map action_of events.now) (world_of S.stream C.word_of second.old) (world_of S.stream C.word_of second.new)) }
+    ensures stopped { IfErr result (λ e. e ≡ WorldError.NoSuchPacket → (k : BothUpToLack (map action_of events.now) (world_of R.stream C.word_of first.old) (world_of S.stream C.word_of second.old) (world_of R.stream C.word_of first.new) (world_of S.stream C.word_of second.new))
+        × Continues k.before (world_of R.stream C.word_of first.old) (world_of R.stream C.word_of first.new) × Continues k.before (world_of S.stream C.word_of second.old) (world_of S.stream C.word_of second.new)) }
+    ensures alike { (t : TwoOrigins) (actions : List Action) (p : IsReachable (first_origin t) actions (world_of R.stream C.word_of first.new))
+        (q : IsReachable (second_origin t) actions (world_of S.stream C.word_of second.new)) → AreComparable t actions (world_of R.stream C.word_of first.new) p.runs
+        → ShowAlong actions (initial_world (first_origin t)) (initial_world (second_origin t)) (world_of R.stream C.word_of first.new) (world_of S.stream C.word_of second.new) p.runs q.runs }
 {
     let first_a = first.sent(End::A);
     let first_b = first.sent(End::B);

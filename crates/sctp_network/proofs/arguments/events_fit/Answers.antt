@@ -1,7 +1,7 @@
 use Rattle.std.proofs.Common.{map}
 use Rattle.spec_endpoint.proofs.ArgumentLemmas.{seen_more, seen_all}
 use Rattle.sctp_network_side.specs.SideView.{action_of}
-use Rattle.proof_world.specs.Traces.{ActionFits}
+use Rattle.proof_world.specs.Reachable.{ActionFits}
 use Rattle.sctp_network.proofs.ReachableLemmas.{all_of_each, fits_readable}
 use Rattle.sctp_network.proofs.arguments.events_fit.Goals as goal
 

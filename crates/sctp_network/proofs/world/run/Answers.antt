@@ -2,18 +2,14 @@ use Rattle.std.proofs.Common.{map}
 use Rattle.std.proofs.lemmas.Result.{on_ok_weaker, IfErr-weaker}
 use Rattle.proof_delivery.proofs.LawLemmas.{delivered, refused_none, delivered_then}
 use Rattle.spec_world.specs.World.{World}
-use Rattle.proof_world.proofs.MtuLemmas.{runs_short}
 use Rattle.proof_world.proofs.AgreedLemmas.{worlds_agree}
 use Rattle.proof_world.proofs.ComposedLemmas.{compose}
+use Rattle.proof_world.proofs.OnceLemmas.{never_ran}
 use Rattle.sctp_network_side.specs.SideView.{action_of}
 use Rattle.sctp_network.specs.WorldView.{world_of}
 use Rattle.sctp_network.proofs.GoesLemmas.{leads_on, only_memory}
-use Rattle.sctp_network.proofs.ReachableLemmas.{reachable_by}
+use Rattle.sctp_network.proofs.ReachableLemmas.{reachable_by, stopped_by}
 use Rattle.sctp_network.proofs.world.run.Goals as goal
-
-pub returns-clause-short : goal.returns-clause-short
-returns-clause-short g c =
-    on_ok_weaker c.proceed-answer.result (λ runs mtu_a mtu_b short. runs_short mtu_a mtu_b (map action_of c.args.events.now) _ _ runs short) c.proceed-answer.ensures.ok
 
 pub returns-clause-first_run : goal.returns-clause-first_run
 returns-clause-first_run g c =
@@ -31,11 +27,24 @@ pub returns-clause-reachable : goal.returns-clause-reachable
 returns-clause-reachable g c =
     let w : World = world_of g.R.Rng.stream g.C.Checksum.word_of c.args.world.now in
     let v : World = world_of g.R.Rng.stream g.C.Checksum.word_of c.proceed-answer.new.self in
-    reachable_by w v c.proceed-answer.new.self.has_failed c.sent-a.result c.sent-b.result c.sent-a.ensures c.sent-b.ensures c.sent_bytes.ensures.bytes c.sent_bytes-2.ensures.bytes c.proceed-answer.result (map action_of c.args.events.now)
-    c.proceed-answer.ensures.ok c.proceed-answer.ensures.disabled c.proceed-answer.ensures.memory c.events_fit.ensures.fit
+    reachable_by w v c.sent-a.result c.sent-b.result c.sent-a.ensures c.sent-b.ensures c.sent_bytes.ensures.bytes c.sent_bytes-2.ensures.bytes c.proceed-answer.result (map action_of c.args.events.now)
+    c.events_fit.ensures.fit c.proceed-answer.ensures.ok
+
+pub returns-clause-no_such_packet : goal.returns-clause-no_such_packet
+returns-clause-no_such_packet g c =
+    let w : World = world_of g.R.Rng.stream g.C.Checksum.word_of c.args.world.now in
+    let x : World = world_of g.R.Rng.stream g.C.Checksum.word_of c.proceed-answer.new.self in
+    on_ok_weaker c.proceed-answer.result (λ runs v k. never_ran (map action_of c.args.events.now) w v x runs k) c.proceed-answer.ensures.ok
+
+pub returns-clause-stopped : goal.returns-clause-stopped
+returns-clause-stopped g c =
+    let w : World = world_of g.R.Rng.stream g.C.Checksum.word_of c.args.world.now in
+    let v : World = world_of g.R.Rng.stream g.C.Checksum.word_of c.proceed-answer.new.self in
+    stopped_by w v c.sent-a.result c.sent-b.result c.sent-a.ensures c.sent-b.ensures c.sent_bytes.ensures.bytes c.sent_bytes-2.ensures.bytes c.proceed-answer.result (map action_of c.args.events.now)
+    c.events_fit.ensures.fit c.proceed-answer.ensures.disabled
 
 pub returns-clause-composes : goal.returns-clause-composes
-returns-clause-composes g c = λ l. compose delivered refused_none delivered_then _ l
+returns-clause-composes g c = λ o actions l. compose delivered refused_none delivered_then o actions _ l
 
 pub returns-clause-agrees : goal.returns-clause-agrees
-returns-clause-agrees g c = λ l distinct. worlds_agree _ l distinct
+returns-clause-agrees g c = λ o actions l distinct. worlds_agree o actions _ l distinct

@@ -3,9 +3,8 @@ use Rattle.std.proofs.lemmas.Result.{on_ok_weaker, IfErr-weaker}
 use Rattle.std.proofs.lemmas.List.Elements.{All-nil, All-cons}
 use Rattle.proof_delivery.proofs.LawLemmas.{delivered, refused_none, delivered_then}
 use Rattle.spec_world.specs.World.{World}
-use Rattle.proof_world.proofs.MtuLemmas.{happens_short}
 use Rattle.spec_world.proofs.RunLemmas.{runs_one}
-use Rattle.proof_world.specs.Traces.{ActionFits}
+use Rattle.proof_world.specs.Reachable.{ActionFits}
 use Rattle.proof_world.proofs.AgreedLemmas.{worlds_agree}
 use Rattle.proof_world.proofs.ComposedLemmas.{compose}
 use Rattle.sctp_network_side.specs.SideView.{action_of}
@@ -13,10 +12,6 @@ use Rattle.sctp_network.specs.WorldView.{world_of}
 use Rattle.sctp_network.proofs.GoesLemmas.{leads_on, only_memory}
 use Rattle.sctp_network.proofs.ReachableLemmas.{reachable_by, lacks_then}
 use Rattle.sctp_network.proofs.world.step.Goals as goal
-
-pub returns-clause-short : goal.returns-clause-short
-returns-clause-short g c =
-    on_ok_weaker c.happen-answer.result (λ happens mtu_a mtu_b short. happens_short mtu_a mtu_b (action_of c.args.event.now) _ _ happens short) c.happen-answer.ensures.ok
 
 pub returns-clause-first_run : goal.returns-clause-first_run
 returns-clause-first_run g c =
@@ -36,15 +31,12 @@ pub returns-clause-reachable : goal.returns-clause-reachable
 returns-clause-reachable g c =
     let w : World = world_of g.R.Rng.stream g.C.Checksum.word_of c.args.world.now in
     let v : World = world_of g.R.Rng.stream g.C.Checksum.word_of c.happen-answer.new.self in
-    reachable_by w v c.happen-answer.new.self.has_failed c.sent-a.result c.sent-b.result c.sent-a.ensures c.sent-b.ensures c.sent_bytes.ensures.bytes c.sent_bytes-2.ensures.bytes
-    c.happen-answer.result (action_of c.args.event.now ∷ [])
+    reachable_by w v c.sent-a.result c.sent-b.result c.sent-a.ensures c.sent-b.ensures c.sent_bytes.ensures.bytes c.sent_bytes-2.ensures.bytes
+    c.happen-answer.result (action_of c.args.event.now ∷ []) (All-cons ActionFits (action_of c.args.event.now) [] c.an_event_fits.ensures.fits (All-nil ActionFits))
     (on_ok_weaker c.happen-answer.result (λ happens. runs_one (action_of c.args.event.now) w v happens) c.happen-answer.ensures.ok)
-    (lacks_then c.happen-answer.result (action_of c.args.event.now) w v c.happen-answer.ensures.disabled
-    (IfErr-weaker c.happen-answer.result _ _ (λ e same is. ap (world_of g.R.Rng.stream g.C.Checksum.word_of) (same is)) c.happen-answer.ensures.same))
-    c.happen-answer.ensures.memory (All-cons ActionFits (action_of c.args.event.now) [] c.an_event_fits.ensures.fits (All-nil ActionFits))
 
 pub returns-clause-composes : goal.returns-clause-composes
-returns-clause-composes g c = λ l. compose delivered refused_none delivered_then _ l
+returns-clause-composes g c = λ o actions l. compose delivered refused_none delivered_then o actions _ l
 
 pub returns-clause-agrees : goal.returns-clause-agrees
-returns-clause-agrees g c = λ l distinct. worlds_agree _ l distinct
+returns-clause-agrees g c = λ o actions l distinct. worlds_agree o actions _ l distinct
