@@ -39,13 +39,6 @@ pub enum ChannelMessage {
 }
 
 impl DataChannelOpen {
-    /// Whether label and protocol have fewer than 65,536 bytes each, so that the message can be written.
-    pub fn is_encodable(&self) -> bool
-        ensures { IsTrue result ↔ HasShortTexts (open_of self.now) }
-    {
-        self.label.len() < 65536 && self.protocol.len() < 65536
-    }
-
     /// What is behind the message type.
     fn from_bytes(alloc: Global, bytes: &[u8]) -> Result<DataChannelOpen, ChannelMessageFault>
         ensures ok { IfOk result (λ it. SaysOpen (3 ∷ bytes.now) (open_of it)) }
@@ -144,6 +137,16 @@ impl ChannelMessage {
         ensures rightly { IfErr result (λ fault. (m : Establishment) → Says bytes.now m → fault ≡ ChannelMessageFault.Memory) }
     {
         read(alloc, bytes)
+    }
+
+    /// Whether label and protocol have fewer than 65,536 bytes each, so that the message can be written.
+    pub fn is_encodable(&self) -> bool
+        ensures { IsTrue result ↔ MessageHasShortTexts (message_of self.now) }
+    {
+        match self {
+            ChannelMessage::Open(open) => open.label.len() < 65536 && open.protocol.len() < 65536,
+            ChannelMessage::Ack => true,
+        }
     }
 
     /// The bytes of the message, for an SCTP message that is ordered and reliable.
