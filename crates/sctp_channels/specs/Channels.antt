@@ -1,12 +1,14 @@
 -- The channels of an association: what each call of the owner, and each thing that the socket hands out, makes of them (RFC 8831 sections 6.5 to 6.7,
 -- RFC 8832 sections 4 and 6).
-use Rattle.std.specs.Prelude.{◌≡◌, ℕ, ◌%◌, ◌==◌, ◌&&◌, nat_le, cond, Bool, true, false, not, Option, Some, None, List, [], ◌∷◌, ◌++◌}
-use Rattle.std.specs.List.{flat_map}
+use Rattle.std.specs.Prelude.{◌≡◌, ◌≢◌, ◌⊎◌, ℕ, ◌%◌, ◌==◌, ◌&&◌, nat_le, cond, Bool, true, false, not, Option, Some, None, List, [], ◌∷◌, ◌++◌, map}
+use Rattle.std.specs.Map.{keys_of}
 use Rattle.sctp_channel_messages.specs.declared.fault.ChannelMessageFault.{ChannelMessageFault}
+use Rattle.sctp_channel_messages.specs.declared.fault.ChannelMessageFault.TheVariants.{Memory}
 use Rattle.sctp_channel_messages.specs.declared.payload.PayloadKind.{PayloadKind}
 use Rattle.sctp_channel_messages.specs.declared.payload.PayloadProtocol.{PayloadProtocol}
+use Rattle.sctp_channel_messages.specs.declared.payload.PayloadProtocol.TheVariants.{Control}
 use Rattle.sctp_channel_messages.specs.declared.reliability.Reliability.TheVariants.{Reliable}
-use Rattle.sctp_channel_messages.specs.Message.{Open}
+use Rattle.sctp_channel_messages.specs.Message.{Establishment, Open, RefusedAs, Says, opens, acknowledges}
 use Rattle.sctp_channel.specs.Channel.{Channel, Received, count_sent, message, new_channel, nothing, on_data, received, reset_incoming, too_long, with_lifecycle}
 use Rattle.sctp_channel.specs.Lifecycle as life
 use Rattle.sctp_channel.specs.declared.lifecycle.Lifecycle.{Lifecycle}
@@ -217,9 +219,36 @@ drain_from (Some c) id buffered cs = cond (life.asks_for_reset buffered c.lifecy
 abbrev pub drain : ℕ → ℕ → Channels → Channels
 drain id buffered cs = drain_from (channel_at id cs.entries) id buffered cs
 
--- the association has ended: each channel is closed, and its stream is free
-abbrev pub ends : ℕ × Channel → List Output
-ends e = cond (is_shown e.1.lifecycle) (tell_closed e.0 ∷ []) []
+-- ---- a message of SCTP
 
+abbrev pub on_establishment : ℕ → Establishment → Channels → Channels
+on_establishment id (opens description) cs = on_open id description cs
+on_establishment id acknowledges cs = on_ack id cs
+
+-- the payload says a message that opens a channel, or answers, or it is refused
+abbrev pub OnControl : ℕ → List ℕ → Channels → Channels → Type 0
+OnControl id payload old new =
+    ((m : Establishment) × Says payload m × (new ≡ on_establishment id m old))
+    ⊎ ((fault : ChannelMessageFault) × (fault ≢ Memory) × RefusedAs payload fault × (new ≡ turn_down id (BadMessage fault) old))
+
+abbrev pub OnMessage : Option PayloadProtocol → ℕ → List ℕ → Channels → Channels → Type 0
+OnMessage None id payload old new = new ≡ emit (tell_refused id UnknownPayloadProtocol) old
+OnMessage (Some Control) id payload old new = OnControl id payload old new
+OnMessage (Some protocol) id payload old new = new ≡ on_payload id protocol payload old
+
+-- what stands where memory ran out: what was to be done, in front, and each channel on its stream
+pub record Stands (old new : Channels) : Type 0 where
+  pub more : List Output
+  pub outputs : new.outputs ≡ old.outputs ++ more
+  pub streams : keys_of new.entries ≡ keys_of old.entries
+
+-- ---- the end of the association
+
+-- the streams whose channels the owner knows
+abbrev pub shown_streams : Entries → List ℕ
+shown_streams [] = []
+shown_streams (e ∷ es) = cond (is_shown e.1.lifecycle) (e.0 ∷ shown_streams es) (shown_streams es)
+
+-- the association has ended: each channel is closed, and its stream is free
 abbrev pub end : Channels → Channels
-end cs = record cs { entries = []; outputs = cs.outputs ++ flat_map ends cs.entries }
+end cs = record cs { entries = []; outputs = cs.outputs ++ map tell_closed (shown_streams cs.entries) }

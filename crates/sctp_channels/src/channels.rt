@@ -1,16 +1,20 @@
 //! The channels of an association.
 
-ghost use Rattle.std.specs.Prelude.{◌≡◌, ◌<◌, ◌++◌, ◌⊎◌, [], cond, true, None, Some, IfSome, IfNone, IsSome, IfErr, IfOk, OnOk, OnErr, ℕ, option_copied, option_map, option_to_list};
+ghost use Rattle.std.specs.Prelude.{◌≡◌, ◌<◌, ◌++◌, ◌⊎◌, [], cond, true, None, Some, IfSome, IfNone, IsSome, IfErr, IfOk, OnOk, OnErr, ℕ, map, option_copied, option_map, option_to_list};
+ghost use Rattle.std.specs.Map.{keys_of};
+ghost use Rattle.sctp_channel_messages.specs.Payload.{protocol_of};
 ghost use Rattle.sctp_channel_messages.specs.Views.{open_of};
 ghost use Rattle.sctp_channel.specs.Channel.{on_data, received_as};
-ghost use Rattle.sctp_channels.specs.Channels.{Emits, change, close, deliver, drain, emit, hand, is_denied, is_own, is_shown, negotiate, no_channels, on_ack, on_incoming_reset, on_open, on_reset_denied, on_reset_performed, open_from, open_own, output_of, sent, take_open, tell_closed, turn_down, with_entries};
+ghost use Rattle.sctp_channels.specs.Channels.{Emits, OnControl, OnMessage, Stands, change, close, deliver, drain, emit, end, hand, is_denied, is_own, negotiate, no_channels, on_ack, on_incoming_reset, on_open, on_payload, on_reset_denied, on_reset_performed, open_from, open_own, output_of, sent, take_open, tell_closed, turn_down, with_entries};
 ghost use Rattle.sctp_channels.specs.Entries.{channel_at, forget};
 
-use crate::entries::Entries;
+use crate::entries::{Entries, is_shown};
 use crate::{Output, Refusal};
-use sctp_channel::{Channel, Lifecycle, Opening, Outgoing, Received};
-use sctp_channel_messages::{ChannelMessageFault, DataChannelOpen, PayloadProtocol, Reliability};
-use sctp_wire::StreamId;
+use sctp_channel::{Channel, Lifecycle, Outgoing, Received};
+use sctp_channel_messages::{
+    ChannelMessage, ChannelMessageFault, DataChannelOpen, PayloadProtocol, Reliability,
+};
+use sctp_wire::{Message, StreamId};
 use std::alloc::{AllocError, Global};
 use std::collections::VecDeque;
 use std::marker::Model;
@@ -40,17 +44,6 @@ fn is_own(is_client: bool, id: u16) -> bool
     ensures { result ≡ is_own is_client id }
 {
     if is_client { id % 2 == 0 } else { id % 2 == 1 }
-}
-
-/// Whether the owner knows the channel, and was not told that it is closed.
-fn is_shown(lifecycle: Lifecycle) -> bool
-    ensures { result ≡ is_shown lifecycle }
-{
-    match (lifecycle.opening, lifecycle.outgoing) {
-        (Opening::Refused, _) => false,
-        (_, Outgoing::Denied) => false,
-        _ => true,
-    }
 }
 
 fn is_denied(outgoing: Outgoing) -> bool
@@ -282,11 +275,7 @@ impl Channels {
     }
 
     /// Where the peer may open channels.
-    fn open_there(
-        &mut self,
-        id: StreamId,
-        description: DataChannelOpen,
-    ) -> Result<(), AllocError>
+    fn open_there(&mut self, id: StreamId, description: DataChannelOpen) -> Result<(), AllocError>
         ensures ok { OnOk result (self.new ≡ open_from (channel_at id.0 self.old.entries) id.0 (open_of description) self.old) }
         ensures err { OnErr result (Emits self.old self.new) }
     {
@@ -367,6 +356,81 @@ impl Channels {
             self.emit(Output::Closed(id))?;
         }
         self.entries.deny(id.0);
+        Ok(())
+    }
+
+    /// Data came on the stream, and with it the news that the peer has the channel.
+    fn on_payload(
+        &mut self,
+        id: StreamId,
+        protocol: PayloadProtocol,
+        payload: Vec<u8>,
+    ) -> Result<(), AllocError>
+        ensures ok { OnOk result (self.new ≡ on_payload id.0 protocol payload.items self.old) }
+        ensures err { OnErr result (Stands self.old self.new) }
+    {
+        self.on_ack(id)?;
+        self.deliver(id, protocol, payload)
+    }
+
+    fn on_control(&mut self, id: StreamId, payload: &[u8]) -> Result<(), AllocError>
+        ensures ok { OnOk result (OnControl id.0 payload.now self.old self.new) }
+        ensures err { OnErr result (Emits self.old self.new) }
+    {
+        match ChannelMessage::from_bytes(self.alloc, payload) {
+            Ok(ChannelMessage::Open(description)) => self.on_open(id, description),
+            Ok(ChannelMessage::Ack) => self.confirm(id),
+            Err(ChannelMessageFault::Memory) => Err(AllocError),
+            Err(fault) => self.on_bad_message(id, fault),
+        }
+    }
+
+    /// As `on_ack`, for calls that may have emitted something where memory runs out.
+    fn confirm(&mut self, id: StreamId) -> Result<(), AllocError>
+        ensures ok { OnOk result (self.new ≡ on_ack id.0 self.old) }
+        ensures err { OnErr result (Emits self.old self.new) }
+    {
+        self.on_ack(id)
+    }
+
+    /// A message of SCTP came.
+    pub fn on_message(&mut self, message: Message) -> Result<(), AllocError>
+        ensures ok { OnOk result (OnMessage (protocol_of message.ppid.0) message.stream_id.0 message.payload.items self.old self.new) }
+        ensures err { OnErr result (Stands self.old self.new) }
+    {
+        let id = message.stream_id;
+        match PayloadProtocol::from_ppid(message.ppid) {
+            None => self.emit(Output::Refused(id, Refusal::UnknownPayloadProtocol)),
+            Some(PayloadProtocol::Control) => self.on_control(id, &message.payload),
+            Some(protocol) => self.on_payload(id, protocol, message.payload),
+        }
+    }
+
+    /// The streams that have a channel, ascending.
+    pub fn streams(&self) -> Result<Vec<StreamId>, AllocError>
+        ensures { IfOk result (λ ids. map (λ id. id.0) ids.items ≡ keys_of self.now.entries) }
+    {
+        self.entries.streams()
+    }
+
+    fn tell_closed(&mut self, ids: &[StreamId]) -> Result<(), AllocError>
+        ensures ok { OnOk result (self.new ≡ record self.old { outputs = self.old.outputs ++ map tell_closed (map (λ id. id.0) ids.now) }) }
+        ensures err { OnErr result (Emits self.old self.new) }
+    {
+        for id in ids {
+            self.emit(Output::Closed(*id))?;
+        }
+        Ok(())
+    }
+
+    /// The association has ended: each channel is closed, and its stream is free.
+    pub fn end(&mut self) -> Result<(), AllocError>
+        ensures ok { OnOk result (self.new ≡ end self.old) }
+        ensures err { OnErr result (Emits self.old self.new) }
+    {
+        let ids = self.entries.shown_streams()?;
+        self.tell_closed(&ids)?;
+        self.entries = Entries::new(self.alloc);
         Ok(())
     }
 }

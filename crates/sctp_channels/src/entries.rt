@@ -1,12 +1,14 @@
 //! Channels by the numbers of their streams.
 
-ghost use Rattle.std.specs.Prelude.{◌≡◌, [], option_copied, is_some, IfOk, OnOk, OnErr};
+ghost use Rattle.std.specs.Prelude.{◌≡◌, [], ◌∷◌, ◌++◌, cond, map, option_copied, is_some, IfOk, OnOk, OnErr};
+ghost use Rattle.std.specs.Map.{keys_of};
 ghost use Rattle.sctp_channel.specs.Channel.{count_sent, on_data, received_as, reset_incoming};
-ghost use Rattle.sctp_channels.specs.Channels.{close_one, confirm_one, deny_one, drain_one, finish_one, received_on};
+ghost use Rattle.sctp_channels.specs.Channels.{close_one, confirm_one, deny_one, drain_one, finish_one, is_shown, received_on, shown_streams};
 ghost use Rattle.sctp_channels.specs.Entries.{channel_at, changed, forget, put};
 
-use sctp_channel::{Channel, Received};
+use sctp_channel::{Channel, Lifecycle, Opening, Outgoing, Received};
 use sctp_channel_messages::PayloadProtocol;
+use sctp_wire::StreamId;
 use std::alloc::{AllocError, Global};
 use std::collections::BTreeMap;
 use std::marker::Model;
@@ -145,5 +147,59 @@ impl Entries {
             return Ok(Received::Nothing);
         };
         channel.on_data(self.alloc, limit, protocol, payload)
+    }
+
+    /// The streams that have a channel, ascending.
+    pub(crate) fn streams(&self) -> Result<Vec<StreamId>, AllocError>
+        ensures { IfOk result (λ ids. map (λ id. id.0) ids.items ≡ keys_of self.now) }
+    {
+        stream_ids(self.alloc, &self.channels)
+    }
+
+    /// Those whose channel the owner knows.
+    pub(crate) fn shown_streams(&self) -> Result<Vec<StreamId>, AllocError>
+        ensures { IfOk result (λ ids. map (λ id. id.0) ids.items ≡ shown_streams self.now) }
+    {
+        shown_ids(self.alloc, &self.channels)
+    }
+}
+
+fn stream_ids(alloc: Global, channels: &BTreeMap<u16, Channel>) -> Result<Vec<StreamId>, AllocError>
+    ensures { IfOk result (λ ids. map (λ id. id.0) ids.items ≡ keys_of channels.now.entries) }
+{
+    let mut ids = Vec::new(alloc);
+    for (id, _) in channels {
+        ids.push(StreamId(*id))?;
+    }
+    Ok(ids)
+}
+
+fn push_if(ids: &mut Vec<StreamId>, is_pushed: bool, id: u16) -> Result<(), AllocError>
+    ensures { OnOk result (map (λ id. id.0) ids.new.items ≡ map (λ id. id.0) ids.old.items ++ cond is_pushed (id ∷ []) []) }
+{
+    if is_pushed {
+        ids.push(StreamId(id))?;
+    }
+    Ok(())
+}
+
+fn shown_ids(alloc: Global, channels: &BTreeMap<u16, Channel>) -> Result<Vec<StreamId>, AllocError>
+    ensures { IfOk result (λ ids. map (λ id. id.0) ids.items ≡ shown_streams channels.now.entries) }
+{
+    let mut ids = Vec::new(alloc);
+    for (id, channel) in channels {
+        push_if(&mut ids, is_shown(channel.lifecycle()), *id)?;
+    }
+    Ok(ids)
+}
+
+/// Whether the owner knows the channel, and was not told that it is closed.
+pub(crate) fn is_shown(lifecycle: Lifecycle) -> bool
+    ensures { result ≡ is_shown lifecycle }
+{
+    match (lifecycle.opening, lifecycle.outgoing) {
+        (Opening::Refused, _) => false,
+        (_, Outgoing::Denied) => false,
+        _ => true,
     }
 }
