@@ -9,12 +9,19 @@
 //! | `label SIZE` | whether an OPEN with a label of so many bytes can be written, and how long it is then |
 //! | `ppid NUMBER HEX` | what a payload under this PPID is, and what is handed out of it |
 //! | `text HEX`, `binary HEX` | the PPID and the payload of a message of this kind |
+//! | `client COUNT LIMIT`, `server COUNT LIMIT` | an end without channels that has so many streams, and takes messages of so many bytes |
+//! | `open`, `negotiate ID`, `close ID`, `sent ID SIZE` | calls of its owner; the stream that was opened |
+//! | `got ID PPID HEX`, `reset ID`, `performed ID`, `denied ID`, `buffered ID SIZE`, `end` | what the socket hands out: a message, a reset of the incoming stream, what became of one of the outgoing stream; the bytes that wait in it; the end of the association |
+//! | `show ID` | a channel |
 #![tactic(auto)]
+
+mod table;
 
 use hex::FromHexError;
 use sctp_channel_messages::{
     ChannelMessage, DataChannelOpen, PayloadKind, PayloadProtocol, Reliability, data_message,
 };
+use sctp_channels::Channels;
 use sctp_wire::{PpId, StreamId};
 use std::alloc::{AllocError, Global};
 use std::io::Read;
@@ -118,9 +125,9 @@ fn answer_number(rt: &HostRuntime, name: &str, words: &str) -> io::Result<bool> 
     Ok(true)
 }
 
-fn answer(rt: &HostRuntime, line: &str) -> io::Result<bool> {
+fn answer(rt: &HostRuntime, channels: &mut Channels, line: &str) -> io::Result<bool> {
     let (name, words) = line.split_once(' ').unwrap_or((line, ""));
-    if answer_number(rt, name, words)? {
+    if table::answer(rt, channels, name, words)? || answer_number(rt, name, words)? {
         return Ok(true);
     }
     match bytes_of(rt.alloc(), words)? {
@@ -129,21 +136,28 @@ fn answer(rt: &HostRuntime, line: &str) -> io::Result<bool> {
     }
 }
 
-fn answer_line(rt: &HostRuntime, line: &str) -> io::Result<()> {
+fn answer_line(rt: &HostRuntime, channels: &mut Channels, line: &str) -> io::Result<()> {
     if line.starts_with('#') {
         println!(rt; "{line}")
-    } else if answer(rt, line)? {
+    } else if answer(rt, channels, line)? {
         Ok(())
     } else {
         println!(rt; "? {line}")
     }
 }
 
-fn main(rt: HostRuntime) -> io::Result<()> {
+fn answer_all(rt: &HostRuntime, channels: &mut Channels) -> io::Result<()> {
     let mut input = String::new(rt.alloc());
     rt.reader().read_to_string(&mut input)?;
     for line in input.lines() {
-        answer_line(&rt, line)?;
+        answer_line(rt, channels, line)?;
     }
     Ok(())
+}
+
+fn main(rt: HostRuntime) -> io::Result<()> {
+    let mut channels = table::begin(rt.alloc(), true, 65535, 65536);
+    let outcome = answer_all(&rt, &mut channels);
+    drop(channels);
+    outcome
 }
