@@ -7,6 +7,9 @@ use sctp_wire::{Message, PpId, StreamId};
 use std::alloc::{AllocError, Global};
 use std::io;
 
+/// More is not printed of what one command asks for.
+const MANY: u32 = 100_000;
+
 /// No channels, at an end that has so many streams and takes messages of so many bytes.
 pub fn begin(alloc: Global, is_client: bool, stream_count: u32, limit: u32) -> Channels {
     Channels::new(
@@ -103,6 +106,16 @@ fn numbers(words: &str) -> Option<(u32, u32)> {
     }
 }
 
+fn print_outputs(rt: &HostRuntime, channels: &mut Channels) -> io::Result<()> {
+    for _ in 0..MANY {
+        match channels.next_output() {
+            Some(output) => println!(rt; "{output:?}")?,
+            None => break,
+        }
+    }
+    Ok(())
+}
+
 /// Whether the line was a command; then what is to be done follows.
 pub fn answer(
     rt: &HostRuntime,
@@ -123,8 +136,6 @@ pub fn answer(
         (_, Some((first, second))) => call(rt, channels, name, first, second)?,
         (_, None) => false,
     };
-    while let Some(output) = channels.next_output() {
-        println!(rt; "{output:?}")?;
-    }
+    print_outputs(rt, channels)?;
     Ok(known)
 }
