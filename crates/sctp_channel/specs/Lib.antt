@@ -1,0 +1,3 @@
+pub mod Channel
+pub mod Lifecycle
+pub mod Runs

@@ -1,0 +1,2 @@
+pub mod MessageLemmas
+pub mod AnswerLemmas

@@ -1,0 +1,3 @@
+pub mod Message
+pub mod Payload
+pub mod Views

@@ -1,0 +1,254 @@
+-- The channels of an association: what each call of the owner, and each thing that the socket hands out, makes of them (RFC 8831 sections 6.5 to 6.7,
+-- RFC 8832 sections 4 and 6).
+use Rattle.std.specs.Prelude.{◌≡◌, ◌≢◌, ◌⊎◌, ℕ, ◌%◌, ◌==◌, ◌&&◌, nat_le, cond, Bool, true, false, not, Option, Some, None, List, [], ◌∷◌, ◌++◌, map}
+use Rattle.std.specs.Map.{keys_of}
+use Rattle.sctp_channel_messages.specs.declared.fault.ChannelMessageFault.{ChannelMessageFault}
+use Rattle.sctp_channel_messages.specs.declared.fault.ChannelMessageFault.TheVariants.{Memory}
+use Rattle.sctp_channel_messages.specs.declared.payload.PayloadKind.{PayloadKind}
+use Rattle.sctp_channel_messages.specs.declared.payload.PayloadProtocol.{PayloadProtocol}
+use Rattle.sctp_channel_messages.specs.declared.payload.PayloadProtocol.TheVariants.{Control}
+use Rattle.sctp_channel_messages.specs.declared.reliability.Reliability.TheVariants.{Reliable}
+use Rattle.sctp_channel_messages.specs.Message.{Establishment, Open, RefusedAs, Says, opens, acknowledges}
+use Rattle.sctp_channel.specs.Channel.{Channel, Received, count_sent, message, new_channel, nothing, on_data, received, reset_incoming, too_long, with_lifecycle}
+use Rattle.sctp_channel.specs.Lifecycle as life
+use Rattle.sctp_channel.specs.declared.lifecycle.Lifecycle.{Lifecycle}
+use Rattle.sctp_channel.specs.declared.lifecycle.Opening.{Opening}
+use Rattle.sctp_channel.specs.declared.lifecycle.Opening.TheVariants.{Refused}
+use Rattle.sctp_channel.specs.declared.lifecycle.Outgoing.{Outgoing}
+use Rattle.sctp_channel.specs.declared.lifecycle.Outgoing.TheVariants.{Denied}
+use Rattle.sctp_channels.specs.declared.output.Output as given
+use Rattle.sctp_channels.specs.declared.output.Output.TheVariants as outputs
+use Rattle.sctp_channels.specs.declared.output.Refusal.{Refusal}
+use Rattle.sctp_channels.specs.declared.output.Refusal.TheVariants.{BadMessage, WrongParity, NoSuchStream, StreamInUse, NoChannel, UnknownPayloadProtocol, TooLong}
+use Rattle.sctp_channels.specs.Entries.{Entries, channel_at, changed, forget, put}
+
+-- what is to be done, or is told to the owner
+pub data Output : Type 0 where
+  -- the socket sends DATA_CHANNEL_ACK
+  acknowledge : (id : ℕ) → Output
+  -- the socket resets the stream
+  reset : (id : ℕ) → Output
+  tell_opened : (id : ℕ) → Output
+  tell_message : (id : ℕ) (kind : PayloadKind) (bytes : List ℕ) → Output
+  tell_closed : (id : ℕ) → Output
+  tell_refused : (id : ℕ) (why : Refusal) → Output
+
+abbrev pub output_of : given.Output → Output
+output_of (outputs.Acknowledge id) = acknowledge id.0
+output_of (outputs.Reset id) = reset id.0
+output_of (outputs.Opened id) = tell_opened id.0
+output_of (outputs.Message id kind bytes) = tell_message id.0 kind bytes.items
+output_of (outputs.Closed id) = tell_closed id.0
+output_of (outputs.Refused id why) = tell_refused id.0 why
+
+pub record Channels : Type 0 where
+  -- this end is the client of DTLS
+  pub is_client : Bool
+  -- streams have numbers below it
+  pub stream_count : ℕ
+  -- the longest message that this end takes
+  pub limit : ℕ
+  pub entries : Entries
+  -- what is not done or taken yet, in order
+  pub outputs : List Output
+
+abbrev pub no_channels : Bool → ℕ → ℕ → Channels
+no_channels is_client stream_count limit = record { is_client = is_client; stream_count = stream_count; limit = limit; entries = []; outputs = [] }
+
+abbrev pub emit : Output → Channels → Channels
+emit o cs = record cs { outputs = cs.outputs ++ o ∷ [] }
+
+abbrev pub with_entries : Entries → Channels → Channels
+with_entries es cs = record cs { entries = es }
+
+abbrev pub change : (Channel → Channel) → ℕ → Channels → Channels
+change f id cs = with_entries (changed f id cs.entries) cs
+
+-- the client opens even streams, the server odd ones
+abbrev pub is_own : Bool → ℕ → Bool
+is_own true id = id % 2 == 0
+is_own false id = id % 2 == 1
+
+-- ---- calls of the owner
+
+-- a channel that this end opens on a stream that is free
+abbrev pub open_own : ℕ → Open → Channels → Channels
+open_own id description cs = with_entries (put id (new_channel life.opened description) cs.entries) cs
+
+-- a channel that both ends agreed on
+abbrev pub negotiate : ℕ → Open → Channels → Channels
+negotiate id description cs = with_entries (put id (new_channel life.negotiated description) cs.entries) cs
+
+abbrev pub close_one : Channel → Channel
+close_one c = with_lifecycle (life.close c.lifecycle) c
+
+abbrev pub close : ℕ → Channels → Channels
+close id cs = change close_one id cs
+
+-- the socket has accepted a message of so many bytes
+abbrev pub sent : ℕ → ℕ → Channels → Channels
+sent id size cs = change (count_sent size) id cs
+
+-- what was to be done is still to be done, and maybe more
+abbrev pub Emits : Channels → Channels → Type 0
+Emits old new = (more : List Output) × (new ≡ record old { outputs = old.outputs ++ more })
+
+-- ---- what opens a channel, or says that it is open
+
+abbrev pub no_description : Open
+no_description = record { unordered = false; reliability = Reliable; priority = 0; label = []; protocol = [] }
+
+-- what was opened isn't taken: its stream is reset; where there is a channel on it, that channel is closed
+abbrev pub turn_down_from : Option Channel → ℕ → Refusal → Channels → Channels
+turn_down_from None id why cs = emit (tell_refused id why) (with_entries (put id (new_channel life.refused no_description) cs.entries) cs)
+turn_down_from (Some c) id why cs = emit (tell_refused id why) (close id cs)
+
+abbrev pub turn_down : ℕ → Refusal → Channels → Channels
+turn_down id why cs = turn_down_from (channel_at id cs.entries) id why cs
+
+abbrev pub take_open : ℕ → Open → Lifecycle → Channels → Channels
+take_open id description l cs = emit (tell_opened id) (emit (acknowledge id) (with_entries (put id (new_channel l description) cs.entries) cs))
+
+-- the channel before is closed by the peer's word
+abbrev pub reopen_if : (may_reopen : Bool) → ℕ → Open → Channels → Channels
+reopen_if true id description cs = take_open id description life.reopened (emit (tell_closed id) cs)
+reopen_if false id description cs = turn_down id StreamInUse cs
+
+abbrev pub open_from : Option Channel → ℕ → Open → Channels → Channels
+open_from None id description cs = take_open id description life.accepted cs
+open_from (Some c) id description cs = reopen_if (life.may_reopen c.lifecycle) id description cs
+
+-- the peer opens a channel: on a stream of its own parity that there is
+abbrev pub on_open : ℕ → Open → Channels → Channels
+on_open id description cs =
+    cond (nat_le cs.stream_count id) (emit (tell_refused id NoSuchStream) cs)
+    (cond (is_own cs.is_client id) (turn_down id WrongParity cs) (open_from (channel_at id cs.entries) id description cs))
+
+abbrev pub confirm_one : Channel → Channel
+confirm_one c = with_lifecycle (life.confirm c.lifecycle) c
+
+abbrev pub confirm_from : Option Channel → ℕ → Channels → Channels
+confirm_from None id cs = cs
+confirm_from (Some c) id cs = cond (life.is_connecting c.lifecycle) (emit (tell_opened id) (change confirm_one id cs)) cs
+
+-- an answer, or a message, that says that the peer has the channel
+abbrev pub on_ack : ℕ → Channels → Channels
+on_ack id cs = confirm_from (channel_at id cs.entries) id cs
+
+-- ---- data
+
+abbrev pub hand : Received → ℕ → Channels → Channels
+hand nothing id cs = cs
+hand (message kind bytes) id cs = emit (tell_message id kind bytes) cs
+hand too_long id cs = emit (tell_refused id TooLong) cs
+
+abbrev pub data_from : Option Channel → ℕ → PayloadProtocol → List ℕ → Channels → Channels
+data_from None id protocol payload cs = emit (tell_refused id NoChannel) cs
+data_from (Some c) id protocol payload cs =
+    cond (life.takes_data c.lifecycle) (hand (received cs.limit protocol payload c) id (change (on_data cs.limit protocol payload) id cs)) (emit (tell_refused id NoChannel) cs)
+
+abbrev pub deliver : ℕ → PayloadProtocol → List ℕ → Channels → Channels
+deliver id protocol payload cs = data_from (channel_at id cs.entries) id protocol payload cs
+
+-- what becomes of data on a stream
+abbrev pub received_on : Option Channel → ℕ → PayloadProtocol → List ℕ → Received
+received_on None limit protocol payload = nothing
+received_on (Some c) limit protocol payload = received limit protocol payload c
+
+abbrev pub on_payload : ℕ → PayloadProtocol → List ℕ → Channels → Channels
+on_payload id protocol payload cs = deliver id protocol payload (on_ack id cs)
+
+-- ---- resets
+
+abbrev pub is_seen : Opening → Bool
+is_seen Refused = false
+is_seen _ = true
+
+abbrev pub is_denied : Outgoing → Bool
+is_denied Denied = true
+is_denied _ = false
+
+-- the owner knows the channel, and was not told that it is closed
+abbrev pub is_shown : Lifecycle → Bool
+is_shown l = is_seen l.opening && not (is_denied l.outgoing)
+
+abbrev pub tell_end : Lifecycle → ℕ → Channels → Channels
+tell_end l id cs = cond (is_shown l) (emit (tell_closed id) cs) cs
+
+-- a channel is gone once both its streams were reset, and only then is its stream free
+abbrev pub settle : (Channel → Channel) → Channel → ℕ → Channels → Channels
+settle f c id cs = cond (life.is_over (f c).lifecycle) (tell_end (f c).lifecycle id (with_entries (forget id cs.entries) cs)) (change f id cs)
+
+abbrev pub settle_from : Option Channel → (Channel → Channel) → ℕ → Channels → Channels
+settle_from None f id cs = cs
+settle_from (Some c) f id cs = settle f c id cs
+
+abbrev pub settle_at : (Channel → Channel) → ℕ → Channels → Channels
+settle_at f id cs = settle_from (channel_at id cs.entries) f id cs
+
+-- the peer has reset its outgoing stream
+abbrev pub on_incoming_reset : ℕ → Channels → Channels
+on_incoming_reset id cs = settle_at reset_incoming id cs
+
+abbrev pub finish_one : Channel → Channel
+finish_one c = with_lifecycle (life.finish c.lifecycle) c
+
+-- the peer has performed a reset
+abbrev pub on_reset_performed : ℕ → Channels → Channels
+on_reset_performed id cs = settle_at finish_one id cs
+
+abbrev pub deny_one : Channel → Channel
+deny_one c = with_lifecycle (life.deny c.lifecycle) c
+
+abbrev pub denied_from : Option Channel → ℕ → Channels → Channels
+denied_from None id cs = cs
+denied_from (Some c) id cs = cond (is_denied (deny_one c).lifecycle.outgoing) (tell_end c.lifecycle id (change deny_one id cs)) (change deny_one id cs)
+
+-- a reset was refused: the channel is closed, and its stream stays in use
+abbrev pub on_reset_denied : ℕ → Channels → Channels
+on_reset_denied id cs = denied_from (channel_at id cs.entries) id cs
+
+abbrev pub drain_one : ℕ → Channel → Channel
+drain_one buffered c = with_lifecycle (life.drain buffered c.lifecycle) c
+
+abbrev pub drain_from : Option Channel → ℕ → ℕ → Channels → Channels
+drain_from None id buffered cs = cs
+drain_from (Some c) id buffered cs = cond (life.asks_for_reset buffered c.lifecycle) (emit (reset id) (change (drain_one buffered) id cs)) cs
+
+-- so many bytes of the stream wait in the socket
+abbrev pub drain : ℕ → ℕ → Channels → Channels
+drain id buffered cs = drain_from (channel_at id cs.entries) id buffered cs
+
+-- ---- a message of SCTP
+
+abbrev pub on_establishment : ℕ → Establishment → Channels → Channels
+on_establishment id (opens description) cs = on_open id description cs
+on_establishment id acknowledges cs = on_ack id cs
+
+-- the payload says a message that opens a channel, or answers, or it is refused
+abbrev pub OnControl : ℕ → List ℕ → Channels → Channels → Type 0
+OnControl id payload old new =
+    ((m : Establishment) × Says payload m × (new ≡ on_establishment id m old))
+    ⊎ ((fault : ChannelMessageFault) × (fault ≢ Memory) × RefusedAs payload fault × (new ≡ turn_down id (BadMessage fault) old))
+
+abbrev pub OnMessage : Option PayloadProtocol → ℕ → List ℕ → Channels → Channels → Type 0
+OnMessage None id payload old new = new ≡ emit (tell_refused id UnknownPayloadProtocol) old
+OnMessage (Some Control) id payload old new = OnControl id payload old new
+OnMessage (Some protocol) id payload old new = new ≡ on_payload id protocol payload old
+
+-- what stands where memory ran out: what was to be done, in front, and each channel on its stream
+pub record Stands (old new : Channels) : Type 0 where
+  pub more : List Output
+  pub outputs : new.outputs ≡ old.outputs ++ more
+  pub streams : keys_of new.entries ≡ keys_of old.entries
+
+-- ---- the end of the association
+
+-- the streams whose channels the owner knows
+abbrev pub shown_streams : Entries → List ℕ
+shown_streams [] = []
+shown_streams (e ∷ es) = cond (is_shown e.1.lifecycle) (e.0 ∷ shown_streams es) (shown_streams es)
+
+-- the association has ended: each channel is closed, and its stream is free
+abbrev pub end : Channels → Channels
+end cs = record cs { entries = []; outputs = cs.outputs ++ map tell_closed (shown_streams cs.entries) }

@@ -1,0 +1,436 @@
+//! The channels of an association.
+
+ghost use Rattle.std.specs.Prelude.{◌≡◌, ◌<◌, ◌++◌, ◌⊎◌, [], cond, true, None, Some, IfSome, IfNone, IsSome, IfErr, IfOk, OnOk, OnErr, ℕ, map, option_copied, option_map, option_to_list};
+ghost use Rattle.std.specs.Map.{keys_of};
+ghost use Rattle.sctp_channel_messages.specs.Payload.{protocol_of};
+ghost use Rattle.sctp_channel_messages.specs.Views.{open_of};
+ghost use Rattle.sctp_channel.specs.Channel.{on_data, received_as};
+ghost use Rattle.sctp_channels.specs.Channels.{Emits, OnControl, OnMessage, Stands, change, close, deliver, drain, emit, end, hand, is_denied, is_own, negotiate, no_channels, on_ack, on_incoming_reset, on_open, on_payload, on_reset_denied, on_reset_performed, open_from, open_own, output_of, sent, take_open, tell_closed, turn_down, with_entries};
+ghost use Rattle.sctp_channels.specs.Entries.{channel_at, forget};
+
+use crate::entries::{Entries, is_shown};
+use crate::{Output, Refusal};
+use sctp_channel::{Channel, Lifecycle, Outgoing, Received};
+use sctp_channel_messages::{
+    ChannelMessage, ChannelMessageFault, DataChannelOpen, PayloadProtocol, Reliability,
+};
+use sctp_wire::{Message, StreamId};
+use std::alloc::{AllocError, Global};
+use std::collections::VecDeque;
+use std::marker::Model;
+
+/// The channels of an association, and what is to be done for them.
+#[derive(Drop)]
+pub struct Channels {
+    alloc: Global,
+    is_client: bool,
+    stream_count: u16,
+    limit: usize,
+    entries: Entries,
+    outputs: VecDeque<Output>,
+}
+
+impl Model for Channels {
+    ghost use Rattle.std.specs.Prelude.{map};
+    ghost use Rattle.sctp_channels.specs.Channels.{Channels, output_of};
+
+    ghost Value = { Channels };
+
+    ghost view = { λ c. record { is_client = c.is_client; stream_count = c.stream_count; limit = c.limit; entries = c.entries; outputs = map output_of c.outputs.items } };
+}
+
+/// Whether this end opens channels on streams of this number.
+fn is_own(is_client: bool, id: u16) -> bool
+    ensures { result ≡ is_own is_client id }
+{
+    if is_client { id % 2 == 0 } else { id % 2 == 1 }
+}
+
+fn is_denied(outgoing: Outgoing) -> bool
+    ensures { result ≡ is_denied outgoing }
+{
+    match outgoing {
+        Outgoing::Denied => true,
+        _ => false,
+    }
+}
+
+impl Channels {
+    /// No channels. The client of DTLS opens even streams, the server odd ones, below `stream_count`. A message of more than `limit` bytes isn't
+    /// taken.
+    pub fn new(alloc: Global, is_client: bool, stream_count: u16, limit: usize) -> Channels
+        ensures { result ≡ no_channels is_client stream_count limit }
+    {
+        Channels {
+            alloc,
+            is_client,
+            stream_count,
+            limit,
+            entries: Entries::new(alloc),
+            outputs: VecDeque::new(alloc),
+        }
+    }
+
+    /// The channel on a stream.
+    pub fn get(&self, id: StreamId) -> Option<&Channel>
+        ensures { option_copied result ≡ channel_at id.0 self.now.entries }
+    {
+        self.entries.get(id.0)
+    }
+
+    /// Takes what is to be done first.
+    pub fn next_output(&mut self) -> Option<Output>
+        ensures taken { self.old ≡ record self.new { outputs = option_to_list (option_map output_of result) ++ self.new.outputs } }
+        ensures none { IfNone result (self.old.outputs ≡ []) }
+    {
+        self.outputs.pop_front()
+    }
+
+    fn emit(&mut self, output: Output) -> Result<(), AllocError>
+        ensures ok { OnOk result (self.new ≡ emit (output_of output) self.old) }
+        ensures err { OnErr result (self.new ≡ self.old) }
+    {
+        self.outputs.push_back(output)?;
+        Ok(())
+    }
+
+    /// The first stream of this end's parity without a channel.
+    pub fn free_stream(&self) -> Option<StreamId>
+        ensures free { IfSome result (λ id. channel_at id.0 self.now.entries ≡ None) }
+        ensures own { IfSome result (λ id. is_own self.now.is_client id.0 ≡ true) }
+        ensures there { IfSome result (λ id. id.0 < self.now.stream_count) }
+        ensures none { IfNone result ((id : ℕ) → id < self.now.stream_count → is_own self.now.is_client id ≡ true → IsSome (channel_at id self.now.entries)) }
+    {
+        for id in 0..self.stream_count {
+            if is_own(self.is_client, id) && !self.entries.contains(id) {
+                return Some(StreamId(id));
+            }
+        }
+        None
+    }
+
+    /// Opens a channel on a stream that is free, of this end's parity (`free_stream`). DATA_CHANNEL_OPEN is to be sent first of all on it.
+    pub fn open(&mut self, id: StreamId, description: DataChannelOpen) -> Result<(), AllocError>
+        ensures ok { OnOk result (self.new ≡ open_own id.0 (open_of description) self.old) }
+        ensures err { OnErr result (self.new ≡ self.old) }
+    {
+        let channel = Channel::new(self.alloc, Lifecycle::opened(), description);
+        self.entries.put(id.0, channel)
+    }
+
+    /// A channel that both ends have agreed on, on a stream that is free, of any parity.
+    pub fn negotiate(
+        &mut self,
+        id: StreamId,
+        description: DataChannelOpen,
+    ) -> Result<(), AllocError>
+        ensures ok { OnOk result (self.new ≡ negotiate id.0 (open_of description) self.old) }
+        ensures err { OnErr result (self.new ≡ self.old) }
+    {
+        let channel = Channel::new(self.alloc, Lifecycle::negotiated(), description);
+        self.entries.put(id.0, channel)
+    }
+
+    /// The owner closes the channel: what was accepted is sent, then its stream is reset (`drain`).
+    pub fn close(&mut self, id: StreamId)
+        ensures { self.new ≡ close id.0 self.old }
+    {
+        self.entries.close(id.0);
+    }
+
+    /// The socket has accepted a message of so many bytes.
+    pub fn sent(&mut self, id: StreamId, size: usize)
+        ensures { self.new ≡ sent id.0 size self.old }
+    {
+        self.entries.count_sent(id.0, size);
+    }
+
+    /// What was opened isn't taken: its stream is reset, and a channel on it is closed.
+    fn turn_down(&mut self, id: StreamId, why: Refusal) -> Result<(), AllocError>
+        ensures ok { OnOk result (self.new ≡ turn_down id.0 why self.old) }
+        ensures err { OnErr result (Emits self.old self.new) }
+    {
+        self.emit(Output::Refused(id, why))?;
+        if self.entries.contains(id.0) {
+            self.entries.close(id.0);
+            return Ok(());
+        }
+        let nothing = DataChannelOpen {
+            unordered: false,
+            reliability: Reliability::Reliable,
+            priority: 0,
+            label: String::new(self.alloc),
+            protocol: String::new(self.alloc),
+        };
+        let channel = Channel::new(self.alloc, Lifecycle::refused(), nothing);
+        self.entries.put(id.0, channel)
+    }
+
+    fn take_open(
+        &mut self,
+        id: StreamId,
+        description: DataChannelOpen,
+        lifecycle: Lifecycle,
+    ) -> Result<(), AllocError>
+        ensures ok { OnOk result (self.new ≡ take_open id.0 (open_of description) lifecycle self.old) }
+        ensures err { OnErr result (Emits self.old self.new) }
+    {
+        self.emit(Output::Acknowledge(id))?;
+        self.emit(Output::Opened(id))?;
+        let channel = Channel::new(self.alloc, lifecycle, description);
+        self.entries.put(id.0, channel)
+    }
+
+    /// Says that a channel is closed whose owner knows it, and forgets it.
+    fn end_one(&mut self, id: StreamId, is_shown: bool) -> Result<(), AllocError>
+        ensures ok { OnOk result (self.new ≡ cond is_shown (emit (tell_closed id.0) (with_entries (forget id.0 self.old.entries) self.old)) (with_entries (forget id.0 self.old.entries) self.old)) }
+        ensures err { OnErr result (self.new ≡ self.old) }
+    {
+        if is_shown {
+            self.emit(Output::Closed(id))?;
+        }
+        self.entries.forget(id.0);
+        Ok(())
+    }
+
+    /// An answer, or a message, came: the peer has the channel.
+    pub fn on_ack(&mut self, id: StreamId) -> Result<(), AllocError>
+        ensures ok { OnOk result (self.new ≡ on_ack id.0 self.old) }
+        ensures err { OnErr result (self.new ≡ self.old) }
+    {
+        let Some(channel) = self.entries.get(id.0) else {
+            return Ok(());
+        };
+        if !channel.lifecycle().is_connecting() {
+            return Ok(());
+        }
+        self.emit(Output::Opened(id))?;
+        self.entries.confirm(id.0);
+        Ok(())
+    }
+
+    /// The peer has performed a reset of this outgoing stream.
+    pub fn on_reset_performed(&mut self, id: StreamId) -> Result<(), AllocError>
+        ensures ok { OnOk result (self.new ≡ on_reset_performed id.0 self.old) }
+        ensures err { OnErr result (self.new ≡ self.old) }
+    {
+        let Some(channel) = self.entries.get(id.0) else {
+            return Ok(());
+        };
+        let mut lifecycle = channel.lifecycle();
+        lifecycle.finish();
+        if lifecycle.is_over() {
+            return self.end_one(id, is_shown(lifecycle));
+        }
+        self.entries.finish(id.0);
+        Ok(())
+    }
+
+    /// The peer has reset its outgoing stream of this number.
+    pub fn on_incoming_reset(&mut self, id: StreamId) -> Result<(), AllocError>
+        ensures ok { OnOk result (self.new ≡ on_incoming_reset id.0 self.old) }
+        ensures err { OnErr result (self.new ≡ self.old) }
+    {
+        let Some(channel) = self.entries.get(id.0) else {
+            return Ok(());
+        };
+        let mut lifecycle = channel.lifecycle();
+        lifecycle.stop_incoming();
+        if lifecycle.is_over() {
+            return self.end_one(id, is_shown(lifecycle));
+        }
+        self.entries.reset_incoming(id.0);
+        Ok(())
+    }
+
+    /// So many bytes of the stream wait in the socket: of a channel that was closed the stream is reset once there are none.
+    pub fn drain(&mut self, id: StreamId, buffered_amount: usize) -> Result<(), AllocError>
+        ensures ok { OnOk result (self.new ≡ drain id.0 buffered_amount self.old) }
+        ensures err { OnErr result (self.new ≡ self.old) }
+    {
+        let Some(channel) = self.entries.get(id.0) else {
+            return Ok(());
+        };
+        let mut lifecycle = channel.lifecycle();
+        if !lifecycle.drain(buffered_amount) {
+            return Ok(());
+        }
+        self.emit(Output::Reset(id))?;
+        self.entries.drain(id.0, buffered_amount);
+        Ok(())
+    }
+
+    /// The peer opens a channel.
+    pub fn on_open(&mut self, id: StreamId, description: DataChannelOpen) -> Result<(), AllocError>
+        ensures ok { OnOk result (self.new ≡ on_open id.0 (open_of description) self.old) }
+        ensures err { OnErr result (Emits self.old self.new) }
+    {
+        if self.stream_count <= id.0 {
+            return self.tell(Output::Refused(id, Refusal::NoSuchStream));
+        }
+        if is_own(self.is_client, id.0) {
+            return self.turn_down(id, Refusal::WrongParity);
+        }
+        self.open_there(id, description)
+    }
+
+    /// Where the peer may open channels.
+    fn open_there(&mut self, id: StreamId, description: DataChannelOpen) -> Result<(), AllocError>
+        ensures ok { OnOk result (self.new ≡ open_from (channel_at id.0 self.old.entries) id.0 (open_of description) self.old) }
+        ensures err { OnErr result (Emits self.old self.new) }
+    {
+        let Some(channel) = self.entries.get(id.0) else {
+            return self.take_open(id, description, Lifecycle::accepted());
+        };
+        if !channel.lifecycle().may_reopen() {
+            return self.turn_down(id, Refusal::StreamInUse);
+        }
+        self.emit(Output::Closed(id))?;
+        self.take_open(id, description, Lifecycle::reopened())
+    }
+
+    /// As `emit`, for calls that may have emitted something where memory runs out.
+    fn tell(&mut self, output: Output) -> Result<(), AllocError>
+        ensures ok { OnOk result (self.new ≡ emit (output_of output) self.old) }
+        ensures err { OnErr result (Emits self.old self.new) }
+    {
+        self.emit(output)
+    }
+
+    /// A message came under the PPID 50 that is none.
+    pub fn on_bad_message(
+        &mut self,
+        id: StreamId,
+        fault: ChannelMessageFault,
+    ) -> Result<(), AllocError>
+        ensures ok { OnOk result (self.new ≡ turn_down id.0 (Refusal.BadMessage fault) self.old) }
+        ensures err { OnErr result (Emits self.old self.new) }
+    {
+        self.turn_down(id, Refusal::BadMessage(fault))
+    }
+
+    fn hand(&mut self, received: Received, id: StreamId) -> Result<(), AllocError>
+        ensures ok { OnOk result (self.new ≡ hand (received_as received) id.0 self.old) }
+        ensures err { OnErr result (self.new ≡ self.old) }
+    {
+        match received {
+            Received::Nothing => Ok(()),
+            Received::Message(kind, bytes) => self.emit(Output::Message(id, kind, bytes)),
+            Received::TooLong => self.emit(Output::Refused(id, Refusal::TooLong)),
+        }
+    }
+
+    /// Data of the channel on the stream, where it takes any.
+    fn deliver(
+        &mut self,
+        id: StreamId,
+        protocol: PayloadProtocol,
+        payload: Vec<u8>,
+    ) -> Result<(), AllocError>
+        ensures ok { OnOk result (self.new ≡ deliver id.0 protocol payload.items self.old) }
+        ensures err { OnErr result ((self.new ≡ self.old) ⊎ (self.new ≡ change (on_data self.old.limit protocol payload.items) id.0 self.old)) }
+    {
+        let takes = match self.entries.get(id.0) {
+            Some(channel) => channel.lifecycle().takes_data(),
+            None => false,
+        };
+        if !takes {
+            return self.emit(Output::Refused(id, Refusal::NoChannel));
+        }
+        let received = self.entries.on_data(id.0, self.limit, protocol, payload)?;
+        self.hand(received, id)
+    }
+
+    /// The peer, or the socket, has refused to reset this outgoing stream.
+    pub fn on_reset_denied(&mut self, id: StreamId) -> Result<(), AllocError>
+        ensures ok { OnOk result (self.new ≡ on_reset_denied id.0 self.old) }
+        ensures err { OnErr result (self.new ≡ self.old) }
+    {
+        let Some(channel) = self.entries.get(id.0) else {
+            return Ok(());
+        };
+        let before = channel.lifecycle();
+        let mut lifecycle = before;
+        lifecycle.deny();
+        if is_denied(lifecycle.outgoing) && is_shown(before) {
+            self.emit(Output::Closed(id))?;
+        }
+        self.entries.deny(id.0);
+        Ok(())
+    }
+
+    /// Data came on the stream, and with it the news that the peer has the channel.
+    fn on_payload(
+        &mut self,
+        id: StreamId,
+        protocol: PayloadProtocol,
+        payload: Vec<u8>,
+    ) -> Result<(), AllocError>
+        ensures ok { OnOk result (self.new ≡ on_payload id.0 protocol payload.items self.old) }
+        ensures err { OnErr result (Stands self.old self.new) }
+    {
+        self.on_ack(id)?;
+        self.deliver(id, protocol, payload)
+    }
+
+    fn on_control(&mut self, id: StreamId, payload: &[u8]) -> Result<(), AllocError>
+        ensures ok { OnOk result (OnControl id.0 payload.now self.old self.new) }
+        ensures err { OnErr result (Emits self.old self.new) }
+    {
+        match ChannelMessage::from_bytes(self.alloc, payload) {
+            Ok(ChannelMessage::Open(description)) => self.on_open(id, description),
+            Ok(ChannelMessage::Ack) => self.confirm(id),
+            Err(ChannelMessageFault::Memory) => Err(AllocError),
+            Err(fault) => self.on_bad_message(id, fault),
+        }
+    }
+
+    /// As `on_ack`, for calls that may have emitted something where memory runs out.
+    fn confirm(&mut self, id: StreamId) -> Result<(), AllocError>
+        ensures ok { OnOk result (self.new ≡ on_ack id.0 self.old) }
+        ensures err { OnErr result (Emits self.old self.new) }
+    {
+        self.on_ack(id)
+    }
+
+    /// A message of SCTP came.
+    pub fn on_message(&mut self, message: Message) -> Result<(), AllocError>
+        ensures ok { OnOk result (OnMessage (protocol_of message.ppid.0) message.stream_id.0 message.payload.items self.old self.new) }
+        ensures err { OnErr result (Stands self.old self.new) }
+    {
+        let id = message.stream_id;
+        match PayloadProtocol::from_ppid(message.ppid) {
+            None => self.emit(Output::Refused(id, Refusal::UnknownPayloadProtocol)),
+            Some(PayloadProtocol::Control) => self.on_control(id, &message.payload),
+            Some(protocol) => self.on_payload(id, protocol, message.payload),
+        }
+    }
+
+    /// The streams that have a channel, ascending.
+    pub fn streams(&self) -> Result<Vec<StreamId>, AllocError>
+        ensures { IfOk result (λ ids. map (λ id. id.0) ids.items ≡ keys_of self.now.entries) }
+    {
+        self.entries.streams()
+    }
+
+    fn tell_closed(&mut self, ids: &[StreamId]) -> Result<(), AllocError>
+        ensures ok { OnOk result (self.new ≡ record self.old { outputs = self.old.outputs ++ map tell_closed (map (λ id. id.0) ids.now) }) }
+        ensures err { OnErr result (Emits self.old self.new) }
+    {
+        for id in ids {
+            self.emit(Output::Closed(*id))?;
+        }
+        Ok(())
+    }
+
+    /// The association has ended: each channel is closed, and its stream is free.
+    pub fn end(&mut self) -> Result<(), AllocError>
+        ensures ok { OnOk result (self.new ≡ end self.old) }
+        ensures err { OnErr result (Emits self.old self.new) }
+    {
+        let ids = self.entries.shown_streams()?;
+        self.tell_closed(&ids)?;
+        self.entries = Entries::new(self.alloc);
+        Ok(())
+    }
+}
