@@ -1,4 +1,4 @@
-use Rattle.std.proofs.Common.{true, false, sym, ◌∙◌}
+use Rattle.std.proofs.Common.{sym, ◌∙◌}
 use Rattle.sctp_endpoint.specs.WrittenChunks.{written_tree}
 use Rattle.sctp_endpoint.proofs.OutgoingLemmas.{more_short_if, fits_as, length_as}
 use Rattle.sctp_endpoint.proofs.outgoing_packet.OutgoingPacket.write.Goals as goal
