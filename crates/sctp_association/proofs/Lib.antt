@@ -1,2 +1,5 @@
 pub mod ReceiveLemmas
 pub mod PlaceLemmas
+pub mod FirstChunkLemmas
+pub mod OutlineLemmas
+pub mod JudgeLemmas

@@ -22,6 +22,8 @@ ghost use Rattle.spec_endpoint.specs.Timers as time;
 
 use crate::api::DcSctpSocket;
 use crate::input::handle_input;
+use crate::judging::judge;
+use crate::validation::my_verification_tag;
 use rand_core::Rng;
 use sctp_calls::calls::{
     send, send_many, set_buffered_amount_low_threshold, set_max_message_size, set_stream_priority,
@@ -31,8 +33,6 @@ use sctp_calls::handover::{get_handover_readiness, hand_over, restore};
 use sctp_calls::metrics::metrics_in;
 use sctp_endpoint::{Association, Context, State};
 use sctp_handshake::opening::do_connect;
-use sctp_receiving::messages::{get_next_message, keeps_items, ready_count, ready_message};
-use sctp_receiving::{judge, my_verification_tag};
 use sctp_serial::{Message, SocketTime, StreamId};
 use sctp_state::{
     BatchFault, BatchSendError, CallError, GivenUp, HandoverError, HandoverReadiness, Metrics,
@@ -41,6 +41,7 @@ use sctp_state::{
 };
 use sctp_supervision::shutdown::{do_shutdown, handle_close};
 use sctp_supervision::timers::{advance_time, poll_timeout};
+use sctp_transfer::messages::{get_next_message, keeps_items, ready_count, ready_message};
 use sctp_transfer::stream_reset::reset_streams;
 use sctp_wire::Checksum;
 use std::alloc::Global;
