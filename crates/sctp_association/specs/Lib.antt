@@ -1,6 +1,5 @@
 pub mod Socket
 pub mod Kinds
-pub mod FirstChunks
 pub mod Outlines
 pub mod RefusalView
 pub use Rattle.spec_endpoint.specs.ResetRequests

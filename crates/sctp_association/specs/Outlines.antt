@@ -1,5 +1,6 @@
 -- What of a packet's chunks says whether it is taken.
-use Rattle.std.specs.Prelude.{ℕ, Bool, true, false, Option, Some, None, List, [], ◌==◌}
+use Rattle.std.specs.Prelude.{ℕ, Bool, true, false, ◌||◌, Option, Some, None, List, [], ◌==◌}
+use Rattle.std.specs.Option.{option_or}
 use Rattle.sctp_packet.specs.Chunk.{ChunkTree}
 use Rattle.spec_endpoint.specs.Association.{State}
 use Rattle.spec_endpoint.specs.Input.{my_tag, abort_flag, complete_flag, has_shutdown_ack, begins_with_cookie, is_single_init, has_data_chunk, packet_refusal_by, plain_refusal}
@@ -13,6 +14,17 @@ outline_of chunks = record {
   begins_with_cookie = begins_with_cookie chunks;
   is_single_init = is_single_init chunks;
   has_data = has_data_chunk chunks;
+}
+
+-- with the chunks of another packet behind: what the first ABORT and the first SHUTDOWN COMPLETE say, and what any chunk does
+abbrev pub followed_by : Outline → Outline → Outline
+followed_by o behind = record {
+  abort = option_or o.abort behind.abort;
+  complete = option_or o.complete behind.complete;
+  has_shutdown_ack = o.has_shutdown_ack || behind.has_shutdown_ack;
+  begins_with_cookie = o.begins_with_cookie;
+  is_single_init = false;
+  has_data = o.has_data || behind.has_data;
 }
 
 -- the first rule that applies; it looks at the chunks themselves only where all others don't

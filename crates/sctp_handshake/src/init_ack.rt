@@ -1,22 +1,24 @@
 //! The INIT ACK (RFC 9260 section 5.1): what an INIT is answered with, and what is read of an answer.
 
-ghost use Rattle.std.specs.Prelude.{◌≡◌, map, IfOk, OnOk};
+ghost use Rattle.std.specs.Prelude.{◌≡◌, ◌++◌, ◌∷◌, [], map, IfOk, OnOk};
 ghost use Rattle.std.specs.Option.{option_map};
 ghost use Rattle.sctp_parameter.specs.ParameterViews.{parameter_tree};
 ghost use Rattle.sctp_packet.specs.Chunk.{init_ack_chunk};
 ghost use Rattle.sctp_packet.specs.ChunkView.{chunk_tree};
 ghost use Rattle.sctp_control_chunk.specs.Views.{init_tree};
-ghost use Rattle.sctp_capabilities.specs.Capabilities.{capabilities_of, negotiate, announced_by};
-ghost use Rattle.sctp_capabilities.specs.StateCookie.{cookie_of};
+ghost use Rattle.sctp_wire.specs.Parameter.{state_cookie};
+ghost use Rattle.sctp_capabilities.specs.Capabilities.{announced_by, announced_parameters, capabilities_of, negotiate};
+ghost use Rattle.sctp_capabilities.specs.StateCookie.{cookie_bytes, cookie_of};
 ghost use Rattle.sctp_state.specs.Options.{IsValid, options_of};
-ghost use Rattle.spec_endpoint.specs.Opening.{agreed_by, answer, cookie_for, cookie_in, init_ack_of, maker};
+ghost use Rattle.spec_endpoint.specs.Opening.{answer, cookie_for, cookie_in, init_of, maker};
 ghost use Rattle.sctp_endpoint.specs.Views.{context_of};
 
+use crate::cookies::agreed;
 use sctp_capabilities::{Capabilities, StateCookie, announced_parameters};
 use sctp_endpoint::{Context, OutgoingPacket};
 use sctp_packet::{Chunk, InitAckChunk, InitChunk};
 use sctp_parameter::{Parameter, StateCookieParameter};
-use sctp_serial::Tsn;
+use sctp_serial::{Tsn, ZeroChecksumAlternateErrorDetectionMethod};
 use sctp_state::{Options, SctpImplementation};
 use sctp_wire::Checksum;
 use std::alloc::{AllocError, Global};
@@ -33,18 +35,6 @@ pub fn agreed_by(
 {
     Capabilities::from_parameters(nbr_outbound_streams, nbr_inbound_streams, parameters).negotiate(
         options,
-    )
-}
-
-/// The same by an INIT.
-fn agreed_with(options: &Options, init: &InitChunk) -> Capabilities
-    ensures { capabilities_of result ≡ agreed_by (options_of options.now) (init_tree init.now) }
-{
-    agreed_by(
-        options,
-        init.nbr_outbound_streams,
-        init.nbr_inbound_streams,
-        &init.parameters,
     )
 }
 
@@ -67,27 +57,27 @@ fn cookie_for(init: &InitChunk, tag: u32, initial_tsn: Tsn, tie_tag: u64) -> Sta
     }
 }
 
+/// The INIT ACK with this cookie, under the own tag and from the own first TSN that the cookie has.
 fn make_init_ack(
     alloc: Global,
     options: &Options,
-    init: &InitChunk,
-    tag: u32,
-    initial_tsn: Tsn,
-    tie_tag: u64,
+    cookie: &StateCookie,
+    method: ZeroChecksumAlternateErrorDetectionMethod,
 ) -> Result<Chunk, AllocError>
     requires { IsValid (options_of options.now) }
-    ensures { IfOk result (λ chunk. chunk_tree chunk ≡ init_ack_chunk (init_ack_of (options_of options.now) (init_tree init.now) tag initial_tsn.0 tie_tag)) }
+    ensures { let k = cookie_of cookie.now in IfOk result (λ chunk. chunk_tree chunk ≡ init_ack_chunk (init_of (options_of options.now) k.my_tag k.my_initial_tsn
+        (announced_parameters (options_of options.now) method.0 ++ state_cookie (cookie_bytes k) ∷ []))) }
 {
-    let agreed = agreed_with(options, init);
-    let mut parameters = announced_parameters(alloc, options, agreed.zero_checksum_method)?;
-    let cookie = cookie_for(init, tag, initial_tsn, tie_tag).serialize(alloc)?;
-    parameters.push(Parameter::StateCookie(StateCookieParameter { cookie }))?;
+    let mut parameters = announced_parameters(alloc, options, method)?;
+    parameters.push(Parameter::StateCookie(StateCookieParameter {
+        cookie: cookie.serialize(alloc)?,
+    }))?;
     Ok(Chunk::InitAck(InitAckChunk {
-        initiate_tag: tag,
+        initiate_tag: cookie.my_tag,
         a_rwnd: options.max_receiver_window_buffer_size as u32,
         nbr_outbound_streams: options.announced_maximum_outgoing_streams,
         nbr_inbound_streams: options.announced_maximum_incoming_streams,
-        initial_tsn,
+        initial_tsn: cookie.my_initial_tsn,
         parameters,
     }))
 }
@@ -131,15 +121,14 @@ pub fn send_init_ack<C: Checksum>(
 ) -> Result<(), AllocError>
     ensures { OnOk result (context_of C.word_of context.new ≡ answer (init_tree init.now) tag initial_tsn.0 tie_tag (context_of C.word_of context.old)) }
 {
+    let cookie = cookie_for(init, tag, initial_tsn, tie_tag);
+    let agreed = agreed(context, &cookie);
     let chunk = make_init_ack(
         context.alloc,
         &context.options,
-        init,
-        tag,
-        initial_tsn,
-        tie_tag,
+        &cookie,
+        agreed.zero_checksum_method,
     )?;
-    let agreed = agreed_with(&context.options, init);
     let mut packet = OutgoingPacket::new(context.alloc, init.initiate_tag, context.options.mtu);
     packet.write_checksum(!agreed.zero_checksum_enabled());
     context.emit_in(packet, chunk)

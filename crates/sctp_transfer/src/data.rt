@@ -37,6 +37,7 @@ pub fn handle_data<C: Checksum>(
 
 /// A fragment is observed, and copied and kept where its TSN is new; unless there is no room, for its bytes or
 /// for one fragment more, or the TSN lies too far away.
+#[tactic(auto, using(crate::proofs::DataLemmas::not_taken))]
 fn take_data(
     tcb: &mut TransmissionControlBlock,
     alloc: Global,
@@ -53,9 +54,6 @@ fn take_data(
         return Ok(());
     }
     let tsn = fragment.tsn;
-    if !tcb.data_tracker.is_tsn_valid(tsn) {
-        return Ok(());
-    }
     if tcb.data_tracker.observe(now, tsn, fragment.immediate_ack)? {
         let data = fragment.to_data(alloc)?;
         tcb.reassembly_queue.add(tsn, data)?;

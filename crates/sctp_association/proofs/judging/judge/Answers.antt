@@ -6,7 +6,7 @@ use Rattle.spec_endpoint.specs.Input.{packet_refusal}
 use Rattle.sctp_association.specs.RefusalView.{refusal_text}
 use Rattle.sctp_endpoint.specs.Views.{state_of}
 use Rattle.sctp_association.proofs.JudgeLemmas.{judged_as, not_judged, some_by}
-use Rattle.sctp_association.proofs.FirstChunkLemmas.{outline_refuses}
+use Rattle.sctp_association.proofs.OutlineLemmas.{outline_refuses}
 use Rattle.sctp_association.proofs.judging.judge.Goals as goal
 
 pub returns-in-Ok : goal.returns-in-Ok

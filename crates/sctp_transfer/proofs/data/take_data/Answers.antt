@@ -1,4 +1,4 @@
-use Rattle.std.proofs.Common.{rules, ◌≡◌, true, false, arith}
+use Rattle.std.proofs.Common.{rules, ◌≡◌, ◌&&◌, not, true, false, arith}
 use Rattle.sctp_packet.specs.Views.{viewed_fragment}
 use Rattle.sctp_rx.specs.DataTracker.{number_of, is_valid, has_seen}
 use Rattle.spec_endpoint.specs.Data.{is_full}
@@ -17,6 +17,5 @@ returns-in_ok-add c =
     let t = tcb_of c.args.tcb.now in
     let n = number_of t.tracker c.args.fragment.tsn.0 in
     let full : is_full t.reassembly ≡ false = search rules in
-    let valid : is_valid t.tracker.tracker n ≡ true = search rules in
-    let seen : has_seen t.tracker.tracker n ≡ false = search rules in
-    taken_new c.args.fragment.tsn.0 c.args.fragment.immediate_ack (viewed_fragment c.args.fragment) t c.observe.new.self c.add.new.self full valid seen (search rules) (search rules)
+    let new : (is_valid t.tracker.tracker n && not (has_seen t.tracker.tracker n)) ≡ true = search rules in
+    taken_new c.args.fragment.tsn.0 c.args.fragment.immediate_ack (viewed_fragment c.args.fragment) t c.observe.new.self c.add.new.self full new c.in_ok-observe.ensures.value (search rules)
