@@ -1,2 +1,4 @@
 pub mod ReceiveLemmas
 pub mod PlaceLemmas
+pub mod OutlineLemmas
+pub mod JudgeLemmas

@@ -18,13 +18,14 @@ ghost use Rattle.spec_endpoint.specs.Receiving.{Receives};
 ghost use Rattle.sctp_endpoint.specs.Views.{context_of, endpoint_of, after_chunk_of, opened_of, phase_of, endpoint_state_of, state_of, tcb_of};
 ghost use Rattle.spec_endpoint.specs.Input as table;
 
+use crate::judging::{packet_word, policy};
+use crate::validation::{Outline, validate_packet};
 use rand_core::Rng;
 use sctp_endpoint::{Context, Phase, State, TransmissionControlBlock};
 use sctp_handshake::cookie_echo::{handle_cookie_ack, handle_cookie_echo};
 use sctp_handshake::opening::{handle_init, handle_init_ack};
 use sctp_packet::{Chunk, DataView, HeartbeatAckChunk, IDataChunk, PacketView, RawChunk};
 use sctp_parameter::Parameter;
-use sctp_receiving::{Outline, packet_word, policy, validate_packet};
 use sctp_state::{ErrorKind, SocketEvent};
 use sctp_supervision::aborts::{handle_abort, handle_error, handle_misuse};
 use sctp_supervision::heartbeats::handle_heartbeat_ack;

@@ -6,7 +6,9 @@
 
 mod api;
 mod input;
+mod judging;
 mod socket;
+mod validation;
 
 pub use api::DcSctpSocket;
 pub use sctp_endpoint::{

@@ -1,6 +1,6 @@
 //! The socket.
 
-ghost use Rattle.std.specs.Prelude.{◌≡◌, ◌<◌, ◌^◌, ◌↔◌, false, true, Err, length, map, option_map, drop, slice_get, IfOk, IfErr, OnOk};
+ghost use Rattle.std.specs.Prelude.{◌≡◌, ◌<◌, ◌^◌, ◌↔◌, ◌||◌, false, true, Err, is_err, length, map, option_map, drop, slice_get, IfOk, IfErr, OnOk};
 ghost use Rattle.sctp_serial.specs.Messages.{message_of};
 ghost use Rattle.sctp_tx_queue.specs.SendQueue.{amount_of, stream, total_of};
 ghost use Rattle.sctp_state.specs.Events.{event_of, first_of, given_up_of, numbers_of};
@@ -22,6 +22,8 @@ ghost use Rattle.spec_endpoint.specs.Timers as time;
 
 use crate::api::DcSctpSocket;
 use crate::input::handle_input;
+use crate::judging::judge;
+use crate::validation::my_verification_tag;
 use rand_core::Rng;
 use sctp_calls::calls::{
     send, send_many, set_buffered_amount_low_threshold, set_max_message_size, set_stream_priority,
@@ -31,8 +33,6 @@ use sctp_calls::handover::{get_handover_readiness, hand_over, restore};
 use sctp_calls::metrics::metrics_in;
 use sctp_endpoint::{Association, Context, State};
 use sctp_handshake::opening::do_connect;
-use sctp_receiving::messages::{get_next_message, keeps_items, ready_count, ready_message};
-use sctp_receiving::{judge, my_verification_tag};
 use sctp_serial::{Message, SocketTime, StreamId};
 use sctp_state::{
     BatchFault, BatchSendError, CallError, GivenUp, HandoverError, HandoverReadiness, Metrics,
@@ -41,9 +41,10 @@ use sctp_state::{
 };
 use sctp_supervision::shutdown::{do_shutdown, handle_close};
 use sctp_supervision::timers::{advance_time, poll_timeout};
+use sctp_transfer::messages::{get_next_message, keeps_items, ready_count, ready_message};
 use sctp_transfer::stream_reset::reset_streams;
 use sctp_wire::Checksum;
-use std::alloc::Global;
+use std::alloc::{AllocError, Global};
 use std::marker::Model;
 
 /// An end of an association, which draws its words from `rng` and makes its checksums by `checksum`.
@@ -171,6 +172,17 @@ impl<R: Rng, C: Checksum> Socket<R, C> {
     }
 }
 
+/// What a call answers: where it found too little memory, the socket has failed for good.
+fn ended<T>(has_failed: &mut bool, answer: Result<T, AllocError>) -> Result<T, AllocError>
+    ensures same { result ≡ answer }
+    ensures failed { has_failed.new ≡ (is_err answer || has_failed.old) }
+{
+    if answer.is_err() {
+        *has_failed = true;
+    }
+    answer
+}
+
 impl<R: Rng, C: Checksum> DcSctpSocket for Socket<R, C> {
     fn poll_event(&mut self) -> Option<SocketEvent>
         ensures first { option_map event_of result ≡ first_of self.old.context.emitted.events }
@@ -195,11 +207,8 @@ impl<R: Rng, C: Checksum> DcSctpSocket for Socket<R, C> {
         if self.has_failed {
             return Err(CallError::Failed);
         }
-        if handle_input(&mut self.state, &mut self.context, &mut self.rng, bytes).is_err() {
-            self.has_failed = true;
-            return Err(CallError::Memory);
-        }
-        Ok(())
+        let done = handle_input(&mut self.state, &mut self.context, &mut self.rng, bytes);
+        Ok(ended(&mut self.has_failed, done)?)
     }
 
     fn advance_time(&mut self, now: SocketTime) -> Result<(), CallError>
@@ -209,11 +218,8 @@ impl<R: Rng, C: Checksum> DcSctpSocket for Socket<R, C> {
         if self.has_failed {
             return Err(CallError::Failed);
         }
-        if advance_time(&mut self.state, &mut self.context, now).is_err() {
-            self.has_failed = true;
-            return Err(CallError::Memory);
-        }
-        Ok(())
+        let done = advance_time(&mut self.state, &mut self.context, now);
+        Ok(ended(&mut self.has_failed, done)?)
     }
 
     fn poll_timeout(&self) -> SocketTime
@@ -229,11 +235,8 @@ impl<R: Rng, C: Checksum> DcSctpSocket for Socket<R, C> {
         if self.has_failed {
             return Err(CallError::Failed);
         }
-        if do_connect(&mut self.state, &mut self.context, &mut self.rng).is_err() {
-            self.has_failed = true;
-            return Err(CallError::Memory);
-        }
-        Ok(())
+        let done = do_connect(&mut self.state, &mut self.context, &mut self.rng);
+        Ok(ended(&mut self.has_failed, done)?)
     }
 
     fn close(&mut self) -> Result<(), CallError>
@@ -243,11 +246,8 @@ impl<R: Rng, C: Checksum> DcSctpSocket for Socket<R, C> {
         if self.has_failed {
             return Err(CallError::Failed);
         }
-        if handle_close(&mut self.state, &mut self.context).is_err() {
-            self.has_failed = true;
-            return Err(CallError::Memory);
-        }
-        Ok(())
+        let done = handle_close(&mut self.state, &mut self.context);
+        Ok(ended(&mut self.has_failed, done)?)
     }
 
     fn shutdown(&mut self) -> Result<(), CallError>
@@ -257,11 +257,8 @@ impl<R: Rng, C: Checksum> DcSctpSocket for Socket<R, C> {
         if self.has_failed {
             return Err(CallError::Failed);
         }
-        if do_shutdown(&mut self.state, &mut self.context).is_err() {
-            self.has_failed = true;
-            return Err(CallError::Memory);
-        }
-        Ok(())
+        let done = do_shutdown(&mut self.state, &mut self.context);
+        Ok(ended(&mut self.has_failed, done)?)
     }
 
     fn send(&mut self, message: Message, options: &SendOptions) -> Result<(), SendError>
@@ -273,13 +270,10 @@ impl<R: Rng, C: Checksum> DcSctpSocket for Socket<R, C> {
         if self.has_failed {
             return Err(SendError::Failed);
         }
-        match send(&mut self.state, &mut self.context, message, options) {
-            Ok(None) => Ok(()),
-            Ok(Some(refusal)) => Err(refusal),
-            Err(_) => {
-                self.has_failed = true;
-                Err(SendError::Memory)
-            }
+        let answer = send(&mut self.state, &mut self.context, message, options);
+        match ended(&mut self.has_failed, answer)? {
+            None => Ok(()),
+            Some(refusal) => Err(refusal),
         }
     }
 
@@ -294,14 +288,12 @@ impl<R: Rng, C: Checksum> DcSctpSocket for Socket<R, C> {
         if self.has_failed {
             return Err(BatchFault::Failed);
         }
-        match send_many(&mut self.state, &mut self.context, messages, options) {
-            Ok(refusals) if refusals.is_empty() => Ok(()),
-            Ok(refusals) => Err(BatchFault::Refused(BatchSendError(refusals))),
-            Err(_) => {
-                self.has_failed = true;
-                Err(BatchFault::Memory)
-            }
+        let answer = send_many(&mut self.state, &mut self.context, messages, options);
+        let refusals = ended(&mut self.has_failed, answer)?;
+        if refusals.is_empty() {
+            return Ok(());
         }
+        Err(BatchFault::Refused(BatchSendError(refusals)))
     }
 
     fn reset_streams(&mut self, streams: &[StreamId]) -> Result<(), ResetStreamsError>
@@ -313,13 +305,10 @@ impl<R: Rng, C: Checksum> DcSctpSocket for Socket<R, C> {
         if self.has_failed {
             return Err(ResetStreamsError::Failed);
         }
-        match reset_streams(&mut self.state, &mut self.context, streams) {
-            Ok(None) => Ok(()),
-            Ok(Some(refusal)) => Err(refusal),
-            Err(_) => {
-                self.has_failed = true;
-                Err(ResetStreamsError::Memory)
-            }
+        let answer = reset_streams(&mut self.state, &mut self.context, streams);
+        match ended(&mut self.has_failed, answer)? {
+            None => Ok(()),
+            Some(refusal) => Err(refusal),
         }
     }
 
@@ -330,11 +319,8 @@ impl<R: Rng, C: Checksum> DcSctpSocket for Socket<R, C> {
         if self.has_failed {
             return Err(CallError::Failed);
         }
-        if set_stream_priority(&mut self.context, id, priority).is_err() {
-            self.has_failed = true;
-            return Err(CallError::Memory);
-        }
-        Ok(())
+        let done = set_stream_priority(&mut self.context, id, priority);
+        Ok(ended(&mut self.has_failed, done)?)
     }
 
     fn get_stream_priority(&self, id: StreamId) -> u16
@@ -354,11 +340,8 @@ impl<R: Rng, C: Checksum> DcSctpSocket for Socket<R, C> {
         if self.has_failed {
             return Err(CallError::Failed);
         }
-        if set_buffered_amount_low_threshold(&mut self.context, id, bytes).is_err() {
-            self.has_failed = true;
-            return Err(CallError::Memory);
-        }
-        Ok(())
+        let done = set_buffered_amount_low_threshold(&mut self.context, id, bytes);
+        Ok(ended(&mut self.has_failed, done)?)
     }
 
     fn buffered_amount_low_threshold(&self, id: StreamId) -> usize
@@ -425,13 +408,8 @@ impl<R: Rng, C: Checksum> DcSctpSocket for Socket<R, C> {
         if !readiness.is_ready() {
             return Err(HandoverError::NotReady(readiness));
         }
-        match hand_over(&mut self.state, &mut self.context) {
-            Ok(state) => Ok(state),
-            Err(_) => {
-                self.has_failed = true;
-                Err(HandoverError::Memory)
-            }
-        }
+        let state = hand_over(&mut self.state, &mut self.context);
+        Ok(ended(&mut self.has_failed, state)?)
     }
 
     fn restore_from_state(&mut self, state: &SocketHandoverState) -> Result<(), RestoreError>
@@ -443,13 +421,10 @@ impl<R: Rng, C: Checksum> DcSctpSocket for Socket<R, C> {
         if self.has_failed {
             return Err(RestoreError::Failed);
         }
-        match restore(&mut self.state, &mut self.context, state) {
-            Ok(None) => Ok(()),
-            Ok(Some(refusal)) => Err(refusal),
-            Err(_) => {
-                self.has_failed = true;
-                Err(RestoreError::Memory)
-            }
+        let answer = restore(&mut self.state, &mut self.context, state);
+        match ended(&mut self.has_failed, answer)? {
+            None => Ok(()),
+            Some(refusal) => Err(refusal),
         }
     }
 }

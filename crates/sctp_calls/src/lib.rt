@@ -4,5 +4,3 @@
 pub mod calls;
 pub mod handover;
 pub mod metrics;
-
-pub use sctp_receiving::messages as receiving;

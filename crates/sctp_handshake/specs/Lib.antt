@@ -1,1 +1,1 @@
-pub use Rattle.sctp_receiving.specs.ResolutionView
+pub mod ResolutionView

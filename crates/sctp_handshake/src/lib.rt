@@ -2,7 +2,7 @@
 #![tactic(auto)]
 
 pub mod cookie_echo;
+pub mod cookies;
 pub mod draws;
+pub mod init_ack;
 pub mod opening;
-
-pub use sctp_receiving::handshake;

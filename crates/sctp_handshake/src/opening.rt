@@ -1,6 +1,8 @@
 //! How an association is opened (RFC 9260 section 5.1): INIT and INIT ACK.
 
-ghost use Rattle.std.specs.Prelude.{◌≡◌, false, [], ◌∷◌, map, OnOk};
+ghost use Rattle.std.specs.Prelude.{◌≡◌, false, [], ◌∷◌, None, map, OnOk};
+ghost use Rattle.std.specs.Duration.{as_nanos};
+ghost use Rattle.sctp_state.specs.Timer.{start, timer};
 ghost use Rattle.rand_core.specs.Stream.{next_u32};
 ghost use Rattle.sctp_wire.specs.Cause.{missing_mandatory_parameter};
 ghost use Rattle.sctp_parameter.specs.ParameterViews.{parameter_tree};
@@ -10,7 +12,9 @@ ghost use Rattle.spec_endpoint.specs.Packets.{add, emit, packet_to, round_down_t
 ghost use Rattle.sctp_endpoint.specs.Views.{context_of, endpoint_of, identity_of, opened_endpoint_of, phase_of, endpoint_state_of, tcb_of};
 ghost use Rattle.spec_endpoint.specs.Opening as table;
 
+use crate::cookies::reset_queue;
 use crate::draws::{tag_from, tsn_from};
+use crate::init_ack::{agreed_by, cookie_in, determine_sctp_implementation, send_init_ack};
 use rand_core::Rng;
 use sctp_endpoint::{
     Context, CookieEchoedState, CookieWaitState, Identity, OutgoingPacket, Phase, State,
@@ -18,17 +22,40 @@ use sctp_endpoint::{
 };
 use sctp_error_cause::{ErrorCause, MissingMandatoryParameterErrorCause};
 use sctp_packet::{AbortChunk, Chunk, InitAckChunk, InitChunk};
-pub use sctp_receiving::cookies::reset_queue;
-use sctp_receiving::handshake::{
-    agreed_by, cookie_in, determine_sctp_implementation, send_init_ack, t1_cookie, t1_init,
-};
 use sctp_serial::Tsn;
-use sctp_state::ErrorKind;
+use sctp_state::{BackoffAlgorithm, ErrorKind, Timer};
 use sctp_wire::Checksum;
 use std::alloc::AllocError;
+use std::time::Duration;
 
 /// The type of the parameter that holds a cookie.
 const STATE_COOKIE: u16 = 7;
+
+/// A timer that runs from now on.
+fn started<C: Checksum>(context: &Context<C>, duration: Duration) -> Timer
+    ensures { result ≡ start context.now.clock (timer (as_nanos duration) BackoffAlgorithm.Exponential context.now.options.max_init_retransmits None) }
+{
+    let mut timer = Timer::new(
+        duration,
+        BackoffAlgorithm::Exponential,
+        context.options.max_init_retransmits,
+        None,
+    );
+    timer.start(context.clock);
+    timer
+}
+
+fn t1_init<C: Checksum>(context: &Context<C>) -> Timer
+    ensures { result ≡ table.t1_init (context_of C.word_of context.now) }
+{
+    started(context, context.options.t1_init_timeout)
+}
+
+fn t1_cookie<C: Checksum>(context: &Context<C>) -> Timer
+    ensures { result ≡ table.t1_cookie (context_of C.word_of context.now) }
+{
+    started(context, context.options.t1_cookie_timeout)
+}
 
 /// A closed end draws its first TSN and its tag, and an INIT goes out.
 pub fn do_connect<R: Rng, C: Checksum>(

@@ -1,2 +1,3 @@
 pub mod PrepareLemmas
 pub mod CleanedLemmas
+pub mod DataLemmas

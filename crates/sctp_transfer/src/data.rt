@@ -5,18 +5,17 @@ ghost use Rattle.sctp_wire.specs.Cause.{no_user_data};
 ghost use Rattle.sctp_packet.specs.Chunk.{error_chunk};
 ghost use Rattle.spec_endpoint.specs.Packets.{emit_chunk};
 ghost use Rattle.sctp_packet.specs.Views.{viewed_fragment};
-ghost use Rattle.spec_endpoint.specs.Data.{on_data};
+ghost use Rattle.spec_endpoint.specs.Data.{accepts_point, accepts_tsn, fragment_if, handle_forward_tsn_if, on_data};
 ghost use Rattle.sctp_endpoint.specs.Views.{context_of, endpoint_state_of, state_of, tcb_of};
 ghost use Rattle.spec_endpoint.specs.Data as table;
 
 use sctp_endpoint::{Context, State, TransmissionControlBlock};
 use sctp_error_cause::{ErrorCause, NoUserDataErrorCause};
 use sctp_packet::{Chunk, DataView, ErrorChunk, SkippedStream};
-use sctp_receiving::data::{skip_to, take_data};
 use sctp_serial::{SocketTime, Tsn};
 use sctp_state::ErrorKind;
 use sctp_wire::Checksum;
-use std::alloc::AllocError;
+use std::alloc::{AllocError, Global};
 
 /// DATA or I-DATA, where it lies. Its payload is copied only where it is kept.
 pub fn handle_data<C: Checksum>(
@@ -34,6 +33,32 @@ pub fn handle_data<C: Checksum>(
         State::Closed | State::CookieWait(_) => emit_data_error(context),
         State::Open(_, tcb) => take_data(tcb, context.alloc, context.clock, fragment),
     }
+}
+
+/// A fragment is observed, and copied and kept where its TSN is new; unless there is no room, for its bytes or
+/// for one fragment more, or the TSN lies too far away.
+#[tactic(auto, using(crate::proofs::DataLemmas::not_taken))]
+fn take_data(
+    tcb: &mut TransmissionControlBlock,
+    alloc: Global,
+    now: SocketTime,
+    fragment: DataView<'_>,
+) -> Result<(), AllocError>
+    ensures { OnOk result (tcb_of tcb.new
+        ≡ fragment_if (accepts_tsn fragment.entry.tsn.0 (tcb_of tcb.old)) fragment.entry.tsn.0 fragment.entry.immediate_ack (viewed_fragment fragment.entry) (tcb_of tcb.old)) }
+{
+    if tcb.reassembly_queue.is_full()
+        || tcb.reassembly_queue.is_above_watermark()
+        || tcb.reassembly_queue.holds_most_fragments()
+    {
+        return Ok(());
+    }
+    let tsn = fragment.tsn;
+    if tcb.data_tracker.observe(now, tsn, fragment.immediate_ack)? {
+        let data = fragment.to_data(alloc)?;
+        tcb.reassembly_queue.add(tsn, data)?;
+    }
+    Ok(())
 }
 
 fn emit_data_error<C: Checksum>(context: &mut Context<C>) -> Result<(), AllocError>
@@ -76,6 +101,33 @@ fn send_no_user_data<C: Checksum>(
     let mut error_causes = Vec::new(context.alloc);
     error_causes.push(ErrorCause::NoUserData(NoUserDataErrorCause { tsn }))?;
     context.emit_chunk(tcb, Chunk::Error(ErrorChunk { error_causes }))
+}
+
+/// A forward point is observed, unless it lies too far away, or has no room behind a reset. It reaches reassembly where it moves the
+/// cumulative TSN.
+fn skip_to(
+    tcb: &mut TransmissionControlBlock,
+    now: SocketTime,
+    new_cumulative_tsn: Tsn,
+    skipped: &[SkippedStream],
+) -> Result<(), AllocError>
+    ensures { OnOk result (tcb_of tcb.new
+        ≡ handle_forward_tsn_if (accepts_point new_cumulative_tsn.0 skipped.now (tcb_of tcb.old)) new_cumulative_tsn.0 skipped.now (tcb_of tcb.old)) }
+{
+    if !tcb.data_tracker.is_tsn_valid(new_cumulative_tsn) {
+        return Ok(());
+    }
+    if !tcb
+        .reassembly_queue
+        .admits_point(new_cumulative_tsn, skipped)
+    {
+        return Ok(());
+    }
+    if tcb.data_tracker.handle_forward_tsn(now, new_cumulative_tsn) {
+        tcb.reassembly_queue
+            .handle_forward_tsn(new_cumulative_tsn, skipped)?;
+    }
+    Ok(())
 }
 
 /// FORWARD-TSN or I-FORWARD-TSN. It reaches reassembly where it moves the cumulative TSN.

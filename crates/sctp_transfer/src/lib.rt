@@ -2,5 +2,6 @@
 #![tactic(auto)]
 
 pub mod data;
+pub mod messages;
 pub mod sack;
 pub mod stream_reset;

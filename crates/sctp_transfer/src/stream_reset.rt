@@ -1,13 +1,17 @@
-//! Streams that are reset (RFC 6525): requests and responses, and the call.
+//! Streams that are reset (RFC 6525): the peer's requests, the answers to the own one, its timer, and the call.
 
-ghost use Rattle.std.specs.Prelude.{◌≡◌, ◌++◌, ◌∷◌, [], false, None, map, IfOk, OnOk};
+ghost use Rattle.std.specs.Prelude.{◌≡◌, ◌++◌, ◌∷◌, [], false, true, None, map, IfOk, OnOk};
 ghost use Rattle.sctp_wire.specs.Parameter.{reset_response};
 ghost use Rattle.sctp_parameter.specs.ParameterViews.{parameter_tree, result_number};
 ghost use Rattle.sctp_state.specs.Events.{numbers_of};
 ghost use Rattle.spec_endpoint.specs.Association.{where_open};
-ghost use Rattle.sctp_endpoint.specs.Views.{context_of, handled_parameters_of, handling_of, opened_of, phase_of, after_sending_of, endpoint_state_of, state_of, tcb_of};
+ghost use Rattle.spec_endpoint.specs.ResetRequests.{is_final};
+ghost use Rattle.sctp_endpoint.specs.RequestViews.{outcome_of};
+ghost use Rattle.sctp_endpoint.specs.Views.{context_of, handled_parameters_of, handling_of, opened_of, phase_of, after_sending_of, endpoint_state_of, state_of, tcb_of, ticking_of};
 ghost use Rattle.spec_endpoint.specs.StreamReset as table;
+ghost use Rattle.spec_endpoint.specs.Timers as timers;
 
+use sctp_endpoint::reset_requests::ResetOutcome;
 use sctp_endpoint::sending::send_waiting;
 use sctp_endpoint::{Context, Phase, State, TransmissionControlBlock};
 use sctp_packet::{Chunk, ReConfigChunk};
@@ -15,8 +19,7 @@ use sctp_parameter::{
     OutgoingSsnResetRequestParameter, Parameter, ReconfigurationResponseParameter,
     ReconfigurationResponseResult,
 };
-use sctp_receiving::resets::{handle_outcome, is_ahead, is_final};
-use sctp_serial::StreamId;
+use sctp_serial::{SerialNumber, StreamId, Tsn};
 use sctp_state::{ErrorKind, ResetStreamsError, SocketEvent};
 use sctp_wire::Checksum;
 use std::alloc::AllocError;
@@ -74,6 +77,13 @@ fn perform_reset<C: Checksum>(
     respond(responses, request.request_seq_nbr, answer)
 }
 
+/// Whether some TSN up to this one did not come yet.
+fn is_ahead(tcb: &TransmissionControlBlock, tsn: Tsn) -> bool
+    ensures { result ≡ table.is_ahead tsn.0 (tcb_of tcb.now) }
+{
+    tsn.greater_than(tcb.data_tracker.last_cumulative_acked_tsn())
+}
+
 fn reset_or_defer<C: Checksum>(
     context: &mut Context<C>,
     tcb: &mut TransmissionControlBlock,
@@ -88,6 +98,13 @@ fn reset_or_defer<C: Checksum>(
     } else {
         perform_reset(context, tcb, request, responses)
     }
+}
+
+/// Whether the request with this answer is done with.
+fn is_final(answer: ReconfigurationResponseResult) -> bool
+    ensures { result ≡ is_final (result_number answer) }
+{
+    !matches!(answer, ReconfigurationResponseResult::InProgress)
 }
 
 /// The peer resets its outgoing streams (RFC 6525 section 5.2.2). The last request again is answered as before, once
@@ -133,6 +150,26 @@ fn handle_incoming_request<C: Checksum>(
     let answer = ReconfigurationResponseResult::SuccessNothingToDo;
     tcb.reset_requests.process(number, answer);
     respond(responses, number, answer)
+}
+
+/// What an answer says of the streams of the own request, and of no others.
+fn handle_outcome<C: Checksum>(
+    context: &mut Context<C>,
+    outcome: ResetOutcome,
+) -> Result<(), AllocError>
+    ensures { OnOk result (context_of C.word_of context.new ≡ table.on_outcome (outcome_of outcome) (context_of C.word_of context.old)) }
+{
+    match outcome {
+        ResetOutcome::Unsettled => Ok(()),
+        ResetOutcome::Done(streams) => {
+            context.send_queue.commit_reset_streams(&streams)?;
+            context.emit_event(SocketEvent::OnStreamsResetPerformed(streams))
+        }
+        ResetOutcome::Denied(streams) => {
+            context.send_queue.rollback_reset_streams(&streams)?;
+            context.emit_event(SocketEvent::OnStreamsResetFailed(streams))
+        }
+    }
 }
 
 /// The peer answers a request (RFC 6525 section 5.2.7).
@@ -273,6 +310,42 @@ fn reconfig_open<C: Checksum>(
         return emit_reconfig_error(context, phase, tcb);
     }
     take_parameters(context, phase, tcb, parameters)
+}
+
+/// The own request to reset streams goes out again, unless there were too many errors.
+fn send_request_again<C: Checksum>(
+    context: &mut Context<C>,
+    tcb: &mut TransmissionControlBlock,
+) -> Result<(), AllocError>
+    ensures { OnOk result (ticking_of C.word_of tcb.new context.new true ≡ timers.requests_again (ticking_of C.word_of tcb.old context.old true)) }
+{
+    if context.tx_error_counter.is_exhausted() {
+        return Ok(());
+    }
+    tcb.reset_requests.update_rto(tcb.rto.rto());
+    match tcb.reset_requests.current_chunk()? {
+        Some(chunk) => context.emit_chunk(tcb, chunk),
+        None => Ok(()),
+    }
+}
+
+/// The reconfiguration timer (RFC 6525 section 5.1.1), after the other ones have expired or not. The answer is whether
+/// any did.
+pub fn tick_requests<C: Checksum>(
+    context: &mut Context<C>,
+    tcb: &mut TransmissionControlBlock,
+    has_expired: bool,
+) -> Result<bool, AllocError>
+    ensures { IfOk result (λ any. ticking_of C.word_of tcb.new context.new any ≡ timers.tick_requests (ticking_of C.word_of tcb.old context.old has_expired)) }
+{
+    if !tcb.reset_requests.expire(context.clock) {
+        return Ok(has_expired);
+    }
+    if tcb.reset_requests.wake() {
+        context.tx_error_counter.increment();
+    }
+    send_request_again(context, tcb)?;
+    Ok(true)
 }
 
 /// The reset of a stream is prepared: its messages of which nothing is sent are dropped.

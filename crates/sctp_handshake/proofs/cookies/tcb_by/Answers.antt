@@ -1,0 +1,5 @@
+use Rattle.std.proofs.Common.{rules}
+use Rattle.sctp_handshake.proofs.cookies.tcb_by.Goals as goal
+
+pub returns : goal.returns
+returns g c = search rules

@@ -1,0 +1,124 @@
+//! What becomes of an echoed cookie, the control block that it stands for, and the queue of an association that begins.
+
+ghost use Rattle.std.specs.Prelude.{◌≡◌, ◌==◌, OnOk};
+ghost use Rattle.sctp_capabilities.specs.Capabilities.{capabilities_of, negotiate};
+ghost use Rattle.sctp_capabilities.specs.StateCookie.{cookie_of};
+ghost use Rattle.sctp_endpoint.specs.Views.{context_of, identity_of, state_of, tcb_of};
+ghost use Rattle.sctp_handshake.specs.ResolutionView.{resolution_of};
+ghost use Rattle.spec_endpoint.specs.Opening as table;
+
+use sctp_capabilities::{Capabilities, StateCookie};
+use sctp_endpoint::{Context, Identity, State, TransmissionControlBlock};
+use sctp_wire::Checksum;
+use std::alloc::AllocError;
+
+/// What becomes of an echoed cookie (RFC 9260 section 5.2.4).
+#[derive(Clone, Copy, Debug, PartialEq, Eq)]
+pub enum CookieResolution {
+    /// Establish.
+    EstablishNew,
+    /// Establish anew, and say so.
+    RestartDetected,
+    /// Establish anew.
+    SimultaneousInit,
+    /// The association that there is.
+    MaintainExisting,
+    /// Nothing.
+    Discard,
+    /// An event says that its tag is wrong.
+    InvalidTag,
+}
+
+/// What becomes of a cookie where there is a control block, by three comparisons.
+fn resolve_by_tags(tag: u32, identity: Identity, cookie: &StateCookie) -> CookieResolution
+    ensures { resolution_of result ≡ table.resolve_by_tags tag (identity_of identity) (cookie_of cookie.now) }
+{
+    let is_other_tag = tag != identity.my_verification_tag;
+    let is_other_peer = cookie.peer_tag != identity.peer_verification_tag;
+    match (is_other_tag, is_other_peer) {
+        (true, true) => {
+            if cookie.tie_tag == identity.tie_tag {
+                CookieResolution::RestartDetected
+            } else {
+                CookieResolution::InvalidTag
+            }
+        }
+        (false, true) => CookieResolution::SimultaneousInit,
+        (true, false) => {
+            if cookie.tie_tag == 0 {
+                CookieResolution::Discard
+            } else {
+                CookieResolution::InvalidTag
+            }
+        }
+        (false, false) => CookieResolution::MaintainExisting,
+    }
+}
+
+/// What becomes of it where there is none: whether the packet's tag is the cookie's.
+fn new_if_own(tag: u32, cookie: &StateCookie) -> CookieResolution
+    ensures { resolution_of result ≡ table.new_if (tag == (cookie_of cookie.now).my_tag) }
+{
+    if tag == cookie.my_tag {
+        CookieResolution::EstablishNew
+    } else {
+        CookieResolution::InvalidTag
+    }
+}
+
+/// What becomes of a cookie in a packet under this tag.
+pub fn resolve_cookie(tag: u32, cookie: &StateCookie, state: &State) -> CookieResolution
+    ensures { resolution_of result ≡ table.resolve_cookie tag (cookie_of cookie.now) (state_of state.now) }
+{
+    match state {
+        State::Closed | State::CookieWait(_) => new_if_own(tag, cookie),
+        State::Open(_, tcb) => resolve_by_tags(tag, tcb.identity, cookie),
+    }
+}
+
+/// The control block that a cookie stands for. The peer's window counts at most as much as may be queued.
+pub fn tcb_by<C: Checksum>(
+    context: &Context<C>,
+    cookie: &StateCookie,
+    tie_tag: u64,
+) -> TransmissionControlBlock
+    ensures { tcb_of result ≡ table.tcb_by context.now.options (cookie_of cookie.now) tie_tag }
+{
+    let identity = Identity {
+        my_verification_tag: cookie.my_tag,
+        my_initial_tsn: cookie.my_initial_tsn,
+        peer_verification_tag: cookie.peer_tag,
+        peer_initial_tsn: cookie.peer_initial_tsn,
+        tie_tag,
+    };
+    let a_rwnd = (cookie.a_rwnd as usize).min(context.options.max_send_buffer_size) as u32;
+    TransmissionControlBlock::new(
+        context.alloc,
+        &context.options,
+        identity,
+        a_rwnd,
+        agreed(context, cookie),
+    )
+}
+
+/// What both ends do, by the own options and the cookie.
+pub fn agreed<C: Checksum>(context: &Context<C>, cookie: &StateCookie) -> Capabilities
+    ensures { capabilities_of result ≡ negotiate context.now.options (cookie_of cookie.now).peer_capabilities }
+{
+    cookie.peer_capabilities.negotiate(&context.options)
+}
+
+/// The queue begins anew, for an association with or without interleaving.
+pub fn reset_queue<C: Checksum>(
+    context: &mut Context<C>,
+    is_interleaved: bool,
+) -> Result<(), AllocError>
+    ensures { let c = context_of C.word_of context.old in
+        OnOk result (context_of C.word_of context.new ≡ record c { queue = table.queue_anew is_interleaved c.queue }) }
+{
+    context.send_queue.reset()?;
+    context
+        .send_queue
+        .enable_message_interleaving(is_interleaved);
+    Ok(())
+}

@@ -1,4 +1,0 @@
-pub mod DataLemmas
-pub mod KindLemmas
-pub mod OutlineLemmas
-pub mod JudgeLemmas

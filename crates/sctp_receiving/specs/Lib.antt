@@ -1,4 +1,0 @@
-pub mod RefusalView
-pub mod Kinds
-pub mod Outlines
-pub mod ResolutionView
