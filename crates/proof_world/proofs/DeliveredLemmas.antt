@@ -33,7 +33,7 @@ use Rattle.spec_world.specs.World.{Side, World, Action, CallOf, Give, GiveForeig
 use Rattle.proof_endpoint.specs.Sound.{ArgumentFits}
 use Rattle.proof_world.specs.Reachable.{ActionFits, IsInBytes}
 use Rattle.proof_world.specs.Traces.{is_a, end_of, give_action, IsActionOf}
-use Rattle.proof_world.specs.Delivered.{given_up_places, reported, AlongRun, SideIsWithin, WorldIsWithin, world_stamp, stamp_packets, stamps_after, IsTimely, WorldKeepsWindows, asked_after, AreAnswered, WorldKeepsRequests, accepted_messages_in, accepted_messages_by, accepted_messages, emitted_events, AcceptedMessagesAgree, AcceptedMessagesHaveEpochs}
+use Rattle.proof_world.specs.Delivered.{given_up_places, reported, AlongRun, SideIsWithin, WorldIsWithin, world_stamp, stamp_packets, stamps_after, ActionIsTimely, WorldKeepsWindows, asked_after, WorldIsAnswered, WorldKeepsRequests, accepted_messages_in, accepted_messages_by, accepted_messages, emitted_events, AcceptedMessagesAgree, AcceptedMessagesHaveEpochs}
 use Rattle.proof_world.specs.Consistent.{NoEndingIsLogged}
 use Rattle.proof_world.proofs.StandingLemmas.{stands_front}
 use Rattle.proof_world.proofs.UpToEndLemmas.{stamps_along}
@@ -192,7 +192,7 @@ module _ (word_of_a word_of_b : List ℕ → ℕ) where
   receiving_timely true n sum now stamps h = h
   receiving_timely false n sum now stamps h = tt
 
-  pub timely : (action : Action) (w : World) (c : Pair) (turn : EndAction) (s : Stamps) → Both word_of_a word_of_b w c → IsActionOf word_of_a word_of_b action turn c → IsTimely action (world_stamp w) s
+  pub timely : (action : Action) (w : World) (c : Pair) (turn : EndAction) (s : Stamps) → Both word_of_a word_of_b w c → IsActionOf word_of_a word_of_b action turn c → ActionIsTimely action (world_stamp w) s
       → windows.IsTimely turn (windows.stamp c) (windows.stamps_for (is_a (end_of action)) s)
   timely (CallOf x call) w c turn s h is t = subst (λ (z : EndAction). windows.IsTimely z (windows.stamp c) (windows.stamps_for (is_a x) s)) (sym is) tt
   timely (Give n A) w c turn s h is t =
@@ -210,7 +210,7 @@ module _ (word_of_a word_of_b : List ℕ → ℕ) where
   answered_same : (f : Mapping Carried (List ℕ)) (side : Side) (end : traces.Side) (n : ℕ) → side.socket ≡ map_end f end.end → IsAnswered side.socket.endpoint_state.state n → IsAnswered (state_of end) n
   answered_same f side end n e h = subst (λ (s : State). IsAnswered s n) (state_same f side end e) h
 
-  are_answered : (w : World) (c : Pair) (k : NumberedBefore) → Both word_of_a word_of_b w c → AreAnswered w k → requests.AreAnswered c k
+  are_answered : (w : World) (c : Pair) (k : NumberedBefore) → Both word_of_a word_of_b w c → WorldIsAnswered w k → requests.AreAnswered c k
   are_answered w c k h i = record {
     a = answered_same (as_bytes word_of_a) w.a c.a k.a h.a.image.socket i.a;
     b = answered_same (as_bytes word_of_b) w.b c.b k.b h.b.image.socket i.b;

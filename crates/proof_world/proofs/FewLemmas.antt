@@ -9,7 +9,7 @@ use Rattle.proof_delivery.specs.Windows.{numbered_count, IsNearNext, IsWithin, S
 use Rattle.spec_world.specs.Observations.{A, B}
 use Rattle.spec_world.specs.World.{World, Action, CallOf, Give, GiveForeign, AdvanceTime, Runs}
 use Rattle.proof_world.specs.Consistent.{NoEndingIsLogged}
-use Rattle.proof_world.specs.Delivered.{AlongRun, WorldIsWithin, world_stamp, stamps_after, IsTimely, WorldKeepsWindows, asked_after, AreAnswered, WorldKeepsRequests, WorldIsInBounds}
+use Rattle.proof_world.specs.Delivered.{AlongRun, WorldIsWithin, world_stamp, stamps_after, ActionIsTimely, WorldKeepsWindows, asked_after, WorldIsAnswered, WorldKeepsRequests, WorldIsInBounds}
 use Rattle.proof_world.specs.Few.{NumbersFew, AreFew, WorldNumbersFew, RunNumbersFew}
 
 -- ---- an end
@@ -44,7 +44,7 @@ young w old h =
     let few_b = counted w.b.socket.endpoint_state.state w.b.socket.endpoint_state.context.queue h.b in
     record { a = omega (arith, few_a); b = omega (arith, few_b) }
 
-timely : (action : Action) (w : World) (s : Stamps) → WorldNumbersFew w → IsTimely action (world_stamp w) s
+timely : (action : Action) (w : World) (s : Stamps) → WorldNumbersFew w → ActionIsTimely action (world_stamp w) s
 timely (Give packet A) w s h = λ old there. young w old h
 timely (Give packet B) w s h = λ old there. young w old h
 timely (CallOf x call) w s h = tt
@@ -57,7 +57,7 @@ world_within w h = record {
   b = within w.b.socket.endpoint_state.state w.b.socket.endpoint_state.context.queue h.b;
 }
 
-world_answered : (w : World) (k : NumberedBefore) → WorldNumbersFew w → AreAnswered w k
+world_answered : (w : World) (k : NumberedBefore) → WorldNumbersFew w → WorldIsAnswered w k
 world_answered w k h = record {
   a = answered w.a.socket.endpoint_state.state w.a.socket.endpoint_state.context.queue k.a h.a;
   b = answered w.b.socket.endpoint_state.state w.b.socket.endpoint_state.context.queue k.b h.b;

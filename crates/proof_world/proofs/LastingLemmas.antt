@@ -38,7 +38,7 @@ use Rattle.spec_world.specs.Observations.{End, A, B, Entry, BecameReady, ready, 
 use Rattle.spec_world.specs.World.{World, Action, Happens, other, is_at_rest, packets_in, emitted_entries}
 use Rattle.proof_world.specs.Reachable.{ActionFits, Origin, IsReachable, initial_world}
 use Rattle.proof_world.specs.Traces.{is_a, end_of, emitted_in}
-use Rattle.proof_world.specs.Delivered.{given_up_places, reported_by, reported, AlongRun, ready_places, world_stamp, IsTimely, WorldKeepsWindows, WorldKeepsRequests, accepted_messages_by, accepted_messages, emitted_events_by, emitted_events, IsInItsEpoch}
+use Rattle.proof_world.specs.Delivered.{given_up_places, reported_by, reported, AlongRun, ready_places, world_stamp, ActionIsTimely, WorldKeepsWindows, WorldKeepsRequests, accepted_messages_by, accepted_messages, emitted_events_by, emitted_events, IsInItsEpoch}
 use Rattle.proof_world.specs.Consistent.{association_ends_by, times_ended, NoEndingIsLogged, WorldKeepsRules}
 use Rattle.proof_world.proofs.EventLemmas.{mapped, entries_both, ended_emitted}
 use Rattle.proof_world.proofs.NewsLemmas.{emitted_both, ended_by_emitted}
@@ -442,7 +442,7 @@ module _ {origin : Origin} {actions : List Action} (w : World) (l : IsReachable 
 
     -- ---- the bounds, with that event
 
-    pub ends_delivering : ending.MessagesAreDeliveredThen → IsKept → IsTimely action (world_stamp w) (stamps_along actions first_world w l.runs windows.no_stamps)
+    pub ends_delivering : ending.MessagesAreDeliveredThen → IsKept → ActionIsTimely action (world_stamp w) (stamps_along actions first_world w l.runs windows.no_stamps)
         → length (accepted_messages x (w.log ++ b_parted.first ∷ [])) < 2 ^ 32
         → ending.DeliversThen (is_a x) r.trace step.turn first_pair
     ends_delivering law k t few =

@@ -43,6 +43,7 @@ pub mod PairLemmas
 pub mod NextLemmas
 pub mod WindowsKeptLemmas
 pub mod ConnectsLemmas
+pub mod FewRunLemmas
 pub mod ShownLemmas
 pub mod ComputedLemmas
 pub mod SkippingLemmas

@@ -30,6 +30,7 @@ use Rattle.proof_world.specs.Resetting.{one_is_reset, OneIsReset}
 use Rattle.proof_world.specs.Worlds.{BothEmitBytes}
 use Rattle.proof_world.proofs.HappenedLemmas.{bare_resets, bare_names}
 use Rattle.proof_world.proofs.DeliveredLemmas.{offers_accepted}
+use Rattle.proof_world.proofs.FewRunLemmas.{few_streams, few_in, is_few, both_few, few_along}
 use Rattle.proof_world.proofs.ShownLemmas.{Shown, shown}
 use Rattle.proof_world.proofs.ComputedLemmas.{no_sum, actions_of, is_there, are_there, actions_are, are_small, all_small, all_true, fits_defaults, each_fits, text_fits}
 use Rattle.proof_pair.proofs.OpensLemmas.{given_defaults}
@@ -54,6 +55,10 @@ small_b = refl
 two_accepted : accepted true delivery.one_is_reset at_first ≡ plain 97 ∷ plain 98 ∷ []
 unfolding next_u32 next_u64 be16 be32 be64 padded_item inner_items parameter_value cause_value cause_text join_texts chunk_bytes chunks_bytes chunk_value data_value idata_value init_fields block_bytes sack_value skip_bytes forward_value cookie_bytes capability_bytes cookie_from read_cookie tick_timers
 two_accepted = refl
+
+few_computed : few_along delivery.one_is_reset at_first ≡ true
+unfolding few_along both_few is_few few_in few_streams next_u32 next_u64 be16 be32 be64 padded_item inner_items parameter_value cause_value cause_text join_texts chunk_bytes chunks_bytes chunk_value data_value idata_value init_fields block_bytes sack_value skip_bytes forward_value cookie_bytes capability_bytes cookie_from read_cookie tick_timers
+few_computed = refl
 
 -- ---- the world
 
@@ -85,6 +90,7 @@ one_reset_there =
       reachable = s.reachable;
       undisturbed = record { follows = s.follows (drop 1 one_is_reset) refl refl; stands = s.over };
       bounds = s.bounds refl one_reset.bounds;
+      few = s.few refl one_reset.bounds few_computed;
       accepts = offers_accepted A s.world.log ∙ (ap (map (λ (o : AcceptedMessage). o.message)) s.offers_a ∙ ap (map (λ (o : AcceptedMessage). o.message)) two_accepted);
       epochs = s.epochs_a ∙ one_reset.epochs;
       readies = s.ready_b ∙ one_reset.readies;

@@ -46,6 +46,8 @@ use Rattle.proof_world.proofs.BlockLemmas.{AreBlocks, run_more, IsReached, nothi
 use Rattle.proof_world.proofs.DeliveredLemmas.{Delivering, delivering, stands_along}
 use Rattle.proof_world.proofs.ConnectsLemmas.{asks_rules, connects_first}
 use Rattle.proof_world.proofs.NextLemmas.{one_trace, in_bytes, Reaches, reaches}
+use Rattle.proof_world.specs.Few.{RunNumbersFew}
+use Rattle.proof_world.proofs.FewRunLemmas.{few_along, few_along_run}
 use Rattle.proof_world.proofs.WindowsKeptLemmas.{AllAreReceived, keeps, keeps_requests}
 
 -- ---- no association is over
@@ -210,6 +212,16 @@ module _ (a b : Options) (draws_a draws_b : Stream) (word_of_a word_of_b : List 
       few = λ x early late is stands. few_front x there.log early late is (few k.few x);
     }
 
+    -- and few numbers are used
+    pub numbers_few : AllAreReceived trace → delivery.IsInBounds trace first_pair → few_along trace first_pair ≡ true → RunNumbersFew actions first_world there reached.runs
+    numbers_few received k h =
+        let b : WorldIsInBounds actions first_world there reached.runs = bounds received k in
+        record {
+          numbers = few_along_run word_of_a word_of_b actions trace first_world there first_pair fit none are reached.runs small first_both h;
+          resets = b.resets.few;
+          accepted = b.few;
+        }
+
 -- ---- in one record
 
 pub record Shown (actions : List Action) (trace : List (Bool × EndAction)) (c : Pair) : Type 0 where
@@ -226,6 +238,7 @@ pub record Shown (actions : List Action) (trace : List (Bool × EndAction)) (c :
   pub over : (x : End) → times_ended x world.log ≡ 0
   pub follows : (rest : List Action) → actions ≡ CallOf A Connect ∷ rest → list_any asks_rules rest ≡ false → WorldKeepsRules world
   pub bounds : AllAreReceived trace → delivery.IsInBounds trace c → WorldIsInBounds actions (initial_world origin) world reachable.runs
+  pub few : AllAreReceived trace → delivery.IsInBounds trace c → few_along trace c ≡ true → RunNumbersFew actions (initial_world origin) world reachable.runs
   pub rests : IsAtRest (run trace c).a → is_at_rest A world ≡ true
 
 pub shown : (a b : Options) (draws_a draws_b : Stream) (word_of_a word_of_b : List ℕ → ℕ) (actions : List Action) (trace : List (Bool × EndAction))
@@ -252,5 +265,6 @@ shown a b draws_a draws_b f g actions trace valid_a valid_b fits_a fits_b fit no
       over = over a b draws_a draws_b f g actions trace valid_a valid_b fits_a fits_b fit none are bytes follows not_ended;
       follows = λ rest is quiet. connects_first rest from r.world refl quiet (subst (λ (l : List Action). Runs l from r.world) is r.runs);
       bounds = bounds a b draws_a draws_b f g actions trace valid_a valid_b fits_a fits_b fit none are bytes follows not_ended;
+      few = numbers_few a b draws_a draws_b f g actions trace valid_a valid_b fits_a fits_b fit none are bytes follows not_ended;
       rests = at_rest_a a b draws_a draws_b f g actions trace valid_a valid_b fits_a fits_b fit none are bytes;
     }

@@ -18,7 +18,7 @@ use Rattle.spec_world.specs.Observations.{A, B}
 use Rattle.spec_world.specs.World.{Side, World, Action, CallOf, Give, GiveForeign, AdvanceTime, Runs}
 use Rattle.proof_world.specs.Reachable.{ActionFits, IsInBytes}
 use Rattle.proof_world.specs.Traces.{is_a, end_of, is_let_through, give_action, IsGiveAction, IsActionOf, AreActionsOf}
-use Rattle.proof_world.specs.Delivered.{SideIsWithin, WorldIsWithin, world_stamp, stamps_after, IsTimely, WorldKeepsWindows, asked_after, AreAnswered, WorldKeepsRequests}
+use Rattle.proof_world.specs.Delivered.{SideIsWithin, WorldIsWithin, world_stamp, stamps_after, ActionIsTimely, WorldKeepsWindows, asked_after, WorldIsAnswered, WorldKeepsRequests}
 use Rattle.proof_world.specs.Worlds.{is_foreign, NoneIsForeign}
 use Rattle.proof_world.proofs.WorldLemmas.{Both, extends_then, in_bytes_before}
 use Rattle.proof_world.proofs.RunsLemmas.{runs_extends, happens_extends}
@@ -55,7 +55,7 @@ module _ (word_of_a word_of_b : List ℕ → ℕ) where
   }
 
   timely : (action : Action) (w : World) (c : Pair) (turn : EndAction) (s : Stamps) → Both word_of_a word_of_b w c → is_of_none turn ≡ false → IsActionOf word_of_a word_of_b action turn c
-      → windows.IsTimely turn (windows.stamp c) (windows.stamps_for (is_a (end_of action)) s) → IsTimely action (world_stamp w) s
+      → windows.IsTimely turn (windows.stamp c) (windows.stamps_for (is_a (end_of action)) s) → ActionIsTimely action (world_stamp w) s
   timely (CallOf x call) w c turn s h k is t = tt
   timely (Give n A) w c turn s h k is t = λ old e.
       subst (λ (z : Stamp). IsYoung z old) (sym (stamp_same word_of_a word_of_b w c h)) (given_timely word_of_a word_of_b n c.a c.b turn (windows.stamp c) s.of_b is k t old e)
@@ -93,7 +93,7 @@ module _ (word_of_a word_of_b : List ℕ → ℕ) where
   answered_of : (f : Mapping Carried (List ℕ)) (side : Side) (end : traces.Side) (n : ℕ) → side.socket ≡ map_end f end.end → IsAnswered (state_of end) n → IsAnswered side.socket.endpoint_state.state n
   answered_of f side end n e h = subst (λ (z : Endpoint (List ℕ)). IsAnswered z.endpoint_state.state n) (sym e) h
 
-  are_answered : (w : World) (c : Pair) (k : NumberedBefore) → Both word_of_a word_of_b w c → requests.AreAnswered c k → AreAnswered w k
+  are_answered : (w : World) (c : Pair) (k : NumberedBefore) → Both word_of_a word_of_b w c → requests.AreAnswered c k → WorldIsAnswered w k
   are_answered w c k h i = record {
     a = answered_of (as_bytes word_of_a) w.a c.a k.a h.a.image.socket i.a;
     b = answered_of (as_bytes word_of_b) w.b c.b k.b h.b.image.socket i.b;

@@ -94,16 +94,16 @@ abbrev pub stamps_after : (w u : World) → Stamps → Stamps
 stamps_after w u s = record { of_a = stamp_packets w.a u.a (world_stamp w) s.of_a; of_b = stamp_packets w.b u.b (world_stamp w) s.of_b }
 
 -- no packet is given once an end has numbered 2^30 fragments since
-abbrev pub IsTimely : Action → (now : Stamp) → Stamps → Type 0
-IsTimely (Give packet A) now s = (old : Stamp) → slice_get s.of_b packet ≡ Some old → IsYoung now old
-IsTimely (Give packet B) now s = (old : Stamp) → slice_get s.of_a packet ≡ Some old → IsYoung now old
-IsTimely action now s = ⊤
+abbrev pub ActionIsTimely : Action → (now : Stamp) → Stamps → Type 0
+ActionIsTimely (Give packet A) now s = (old : Stamp) → slice_get s.of_b packet ≡ Some old → IsYoung now old
+ActionIsTimely (Give packet B) now s = (old : Stamp) → slice_get s.of_a packet ≡ Some old → IsYoung now old
+ActionIsTimely action now s = ⊤
 
 -- at each world in which no association is over
 abbrev pub WorldKeepsWindows : (actions : List Action) (w v : World) → Runs actions w v → Stamps → Type 0
 WorldKeepsWindows [] w v r s = NoEndingIsLogged w.log → WorldIsWithin w
 WorldKeepsWindows (action ∷ actions) w v r s =
-    (NoEndingIsLogged w.log → WorldIsWithin w × IsTimely action (world_stamp w) s) × WorldKeepsWindows actions r.0 v r.2 (stamps_after w r.0 s)
+    (NoEndingIsLogged w.log → WorldIsWithin w × ActionIsTimely action (world_stamp w) s) × WorldKeepsWindows actions r.0 v r.2 (stamps_after w r.0 s)
 
 -- ---- requests to reset streams, along a run
 
@@ -114,14 +114,14 @@ asked_after w u k = record {
   b = numbered_before w.b.socket.endpoint_state.state u.b.socket.endpoint_state.state k.b;
 }
 
-pub record AreAnswered (w : World) (k : NumberedBefore) : Type 0 where
+pub record WorldIsAnswered (w : World) (k : NumberedBefore) : Type 0 where
   pub a : IsAnswered w.a.socket.endpoint_state.state k.a
   pub b : IsAnswered w.b.socket.endpoint_state.state k.b
 
 -- at each world in which no association is over
 abbrev pub WorldKeepsRequests : (actions : List Action) (w v : World) → Runs actions w v → NumberedBefore → Type 0
-WorldKeepsRequests [] w v r k = NoEndingIsLogged w.log → AreAnswered w k
-WorldKeepsRequests (action ∷ actions) w v r k = (NoEndingIsLogged w.log → AreAnswered w k) × WorldKeepsRequests actions r.0 v r.2 (asked_after w r.0 k)
+WorldKeepsRequests [] w v r k = NoEndingIsLogged w.log → WorldIsAnswered w k
+WorldKeepsRequests (action ∷ actions) w v r k = (NoEndingIsLogged w.log → WorldIsAnswered w k) × WorldKeepsRequests actions r.0 v r.2 (asked_after w r.0 k)
 
 -- none waits too long, and not too many are reported as performed
 pub record WorldKeepsResets (actions : List Action) (w v : World) (runs : Runs actions w v) : Type 0 where

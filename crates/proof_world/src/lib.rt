@@ -125,9 +125,9 @@ pub fn runs_have_one_outcome()
 {}
 
 /// All that `worlds_compose` of `proof_world` asks can be had. In one run of a new world, computed, the rules are followed,
-/// no association is over and the bounds are kept, while of three messages that are sent on one stream the packet of the second is
-/// lost, and it may not be sent again. It is given up, the others become ready, the first is reported as delivered, and in the end the
-/// sender is at rest.
+/// no association is over, few numbers are used and the bounds are kept, while of three messages that are sent on one stream the packet
+/// of the second is lost, and it may not be sent again. It is given up, the others become ready, the first is reported as delivered, and in
+/// the end the sender is at rest.
 pub fn a_message_is_skipped()
     ensures { OneIsSkipped }
 {}
