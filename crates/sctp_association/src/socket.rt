@@ -20,7 +20,6 @@ ghost use Rattle.spec_endpoint.specs.Opening as opening;
 ghost use Rattle.spec_endpoint.specs.StreamReset as resets;
 ghost use Rattle.spec_endpoint.specs.Timers as time;
 
-use crate::api::DcSctpSocket;
 use crate::input::handle_input;
 use rand_core::Rng;
 use sctp_calls::calls::{
@@ -34,6 +33,7 @@ use sctp_handshake::opening::do_connect;
 use sctp_receiving::messages::{get_next_message, keeps_items, ready_count, ready_message};
 use sctp_receiving::{judge, my_verification_tag};
 use sctp_serial::{Message, SocketTime, StreamId};
+use sctp_socket_interface::DcSctpSocket;
 use sctp_state::{
     BatchFault, BatchSendError, CallError, GivenUp, HandoverError, HandoverReadiness, Metrics,
     Options, ResetStreamsError, RestoreError, SendError, SendOptions, SocketEvent,
