@@ -1,5 +1,13 @@
 //! The channels of an association, and the socket below.
 
+ghost use Rattle.std.specs.Prelude.{◌≡◌, ◌⊎◌, ◌<◌, true, None, Some, length, IfOk, OnOk, OnErr, option_copied, option_map};
+ghost use Rattle.std.specs.Duration.{as_nanos};
+ghost use Rattle.sctp_channel.specs.Channel.{goes_unordered};
+ghost use Rattle.sctp_channel_messages.specs.Views.{open_of};
+ghost use Rattle.sctp_channels.specs.Channels.{is_own, negotiate, no_channels, open_own, sent};
+ghost use Rattle.sctp_channels.specs.Entries.{channel_at};
+ghost use Rattle.sctp_channel_socket.specs.DataChannels.{DataChannels, IsOpenAt, IsShortEnough, lifetime, retransmissions, with_channels};
+
 use crate::{ChannelEvent, OpenError, SendRefusal};
 use sctp_channel::Channel;
 use sctp_channel_messages::{
@@ -11,6 +19,7 @@ use sctp_socket_interface::DcSctpSocket;
 use sctp_state::{CallError, ResetStreamsError, SendError, SendOptions, SocketEvent};
 use std::alloc::{AllocError, Global};
 use std::collections::VecDeque;
+use std::marker::Model;
 use std::time::Duration;
 
 /// More messages, or events, are not looked for in one `collect`.
@@ -28,20 +37,41 @@ pub struct DataChannels {
     max_buffered_amount: usize,
 }
 
+impl Model for DataChannels {
+    ghost use Rattle.sctp_channel_socket.specs.DataChannels.{DataChannels};
+
+    ghost Value = { DataChannels };
+
+    ghost view = { λ d. record { channels = d.channels; peer_limit = d.peer_max_message_size; buffer_limit = d.max_buffered_amount } };
+}
+
 /// How a message of this channel goes.
-fn send_options(channel: &Channel) -> SendOptions {
-    let mut options = SendOptions::default();
-    options.unordered = channel.goes_unordered();
-    match channel.description().reliability {
-        Reliability::Reliable => {}
-        Reliability::MaxRetransmissions(count) => {
-            options.max_retransmissions = Some(count.min(65535) as u16);
-        }
+fn send_options(channel: &Channel) -> SendOptions
+    ensures unordered { result.unordered ≡ goes_unordered channel.now }
+    ensures again { result.max_retransmissions ≡ retransmissions channel.now.description.reliability }
+    ensures lifetime { option_map as_nanos result.lifetime ≡ lifetime channel.now.description.reliability }
+    ensures silent { result.lifecycle_id ≡ None }
+{
+    let (max_retransmissions, lifetime) = limits(channel.description().reliability);
+    SendOptions {
+        unordered: channel.goes_unordered(),
+        lifetime,
+        max_retransmissions,
+        lifecycle_id: None,
+    }
+}
+
+fn limits(reliability: Reliability) -> (Option<u16>, Option<Duration>)
+    ensures again { result.0 ≡ retransmissions reliability }
+    ensures lifetime { option_map as_nanos result.1 ≡ lifetime reliability }
+{
+    match reliability {
+        Reliability::Reliable => (None, None),
+        Reliability::MaxRetransmissions(count) => (Some(count.min(65535) as u16), None),
         Reliability::MaxLifetime(milliseconds) => {
-            options.lifetime = Some(Duration::from_millis(milliseconds as u64));
+            (None, Some(Duration::from_millis(milliseconds as u64)))
         }
     }
-    options
 }
 
 impl DataChannels {
@@ -55,7 +85,9 @@ impl DataChannels {
         max_message_size: usize,
         peer_max_message_size: usize,
         max_buffered_amount: usize,
-    ) -> DataChannels {
+    ) -> DataChannels
+        ensures { result ≡ record { channels = no_channels is_client stream_count max_message_size; peer_limit = peer_max_message_size; buffer_limit = max_buffered_amount } }
+    {
         DataChannels {
             alloc,
             channels: Channels::new(alloc, is_client, stream_count, max_message_size),
@@ -67,12 +99,16 @@ impl DataChannels {
     }
 
     /// The channel on a stream.
-    pub fn get(&self, id: StreamId) -> Option<&Channel> {
+    pub fn get(&self, id: StreamId) -> Option<&Channel>
+        ensures { option_copied result ≡ channel_at id.0 self.now.channels.entries }
+    {
         self.channels.get(id)
     }
 
     /// Takes what happened first.
-    pub fn next_event(&mut self) -> Option<ChannelEvent> {
+    pub fn next_event(&mut self) -> Option<ChannelEvent>
+        ensures { self.new ≡ self.old }
+    {
         self.events.pop_front()
     }
 
@@ -81,7 +117,13 @@ impl DataChannels {
         &mut self,
         socket: &mut S,
         description: DataChannelOpen,
-    ) -> Result<StreamId, OpenError> {
+    ) -> Result<StreamId, OpenError>
+        ensures ok { IfOk result (λ id. self.new ≡ with_channels (open_own id.0 (open_of description) self.old.channels) self.old) }
+        ensures free { IfOk result (λ id. channel_at id.0 self.old.channels.entries ≡ None) }
+        ensures own { IfOk result (λ id. is_own self.old.channels.is_client id.0 ≡ true) }
+        ensures there { IfOk result (λ id. id.0 < self.old.channels.stream_count) }
+        ensures err { OnErr result (self.new ≡ self.old) }
+    {
         let message = ChannelMessage::Open(description);
         if !message.is_encodable() {
             return Err(OpenError::TooLong);
@@ -94,18 +136,19 @@ impl DataChannels {
             Message::new(id, CONTROL_PPID, bytes),
             &SendOptions::default(),
         )?;
-        if let ChannelMessage::Open(description) = message {
-            self.channels.open(id, description)?;
-        }
+        let ChannelMessage::Open(description) = message else {
+            unreachable!();
+        };
+        self.channels.open(id, description)?;
         Ok(id)
     }
 
     /// A channel that both ends have agreed on, on a stream that is free. It is open at once.
-    pub fn negotiate(
-        &mut self,
-        id: StreamId,
-        description: DataChannelOpen,
-    ) -> Result<(), OpenError> {
+    pub fn negotiate(&mut self, id: StreamId, description: DataChannelOpen) -> Result<(), OpenError>
+        ensures ok { OnOk result (self.new ≡ with_channels (negotiate id.0 (open_of description) self.old.channels) self.old) }
+        ensures free { OnOk result (channel_at id.0 self.old.channels.entries ≡ None) }
+        ensures err { OnErr result (self.new ≡ self.old) }
+    {
         if self.channels.get(id).is_some() {
             return Err(OpenError::StreamInUse);
         }
@@ -120,7 +163,12 @@ impl DataChannels {
         id: StreamId,
         kind: PayloadKind,
         payload: Vec<u8>,
-    ) -> Result<(), SendRefusal> {
+    ) -> Result<(), SendRefusal>
+        ensures ok { OnOk result (self.new ≡ with_channels (sent id.0 (length payload.items) self.old.channels) self.old) }
+        ensures opened { OnOk result (IsOpenAt (channel_at id.0 self.old.channels.entries)) }
+        ensures short { OnOk result (IsShortEnough (length payload.items) self.old) }
+        ensures err { OnErr result (self.new ≡ self.old) }
+    {
         let Some(channel) = self.channels.get(id) else {
             return Err(SendRefusal::NoChannel);
         };
@@ -135,7 +183,9 @@ impl DataChannels {
         Ok(())
     }
 
-    fn admit(&self, buffered: usize, size: usize) -> Result<(), SendRefusal> {
+    fn admit(&self, buffered: usize, size: usize) -> Result<(), SendRefusal>
+        ensures { OnOk result (IsShortEnough size self.now) }
+    {
         if self.peer_max_message_size != 0 && self.peer_max_message_size < size {
             return Err(SendRefusal::TooLong);
         }
