@@ -51,6 +51,14 @@ fn tell<S: DcSctpSocket>(rt: &HostRuntime, end: &mut End<S>) -> Result<()> {
     for _ in 0..MANY {
         match end.channels.next_event() {
             Some(ChannelEvent::Socket(SocketEvent::SendPacket(bytes))) => end.sent.push(bytes)?,
+            Some(ChannelEvent::Message(id, kind, bytes)) => {
+                println!(rt;
+                    "{} has {kind:?} of {} bytes on {id}",
+                    end.name,
+                    bytes.len()
+                )?;
+            }
+            Some(ChannelEvent::BufferedAmountLow(_id)) => {}
             Some(event) => println!(rt; "{} {event:?}", end.name)?,
             None => break,
         }
@@ -152,7 +160,9 @@ fn talk<S: DcSctpSocket>(rt: &HostRuntime, a: &mut End<S>, b: &mut End<S>) -> Re
     let now = exchange(rt, a, b, now)?;
     b.socket.advance_time(now)?;
     b.socket.close()?;
-    exchange(rt, a, b, now)?;
+    turn(rt, b, now)?;
+    a.came.append(&mut b.sent)?;
+    turn(rt, a, now)?;
     Ok(())
 }
 
