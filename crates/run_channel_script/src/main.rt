@@ -10,6 +10,7 @@
 //! | `ppid NUMBER HEX` | what a payload under this PPID is, and what is handed out of it |
 //! | `text HEX`, `binary HEX` | the PPID and the payload of a message of this kind |
 //! | `client COUNT LIMIT`, `server COUNT LIMIT` | an end without channels that has so many streams, and takes messages of so many bytes |
+//! | `streams COUNT` | it has so many from now on |
 //! | `open`, `negotiate ID`, `close ID`, `sent ID SIZE` | calls of its owner; the stream that was opened |
 //! | `got ID PPID HEX`, `reset ID`, `performed ID`, `denied ID`, `buffered ID SIZE`, `end` | what the socket hands out: a message, a reset of the incoming stream, what became of one of the outgoing stream; the bytes that wait in it; the end of the association |
 //! | `show ID` | a channel |

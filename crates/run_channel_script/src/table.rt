@@ -53,6 +53,7 @@ fn call(
         "denied" => channels.on_reset_denied(id)?,
         "reset" => channels.on_incoming_reset(id)?,
         "sent" => channels.sent(id, second as usize),
+        "streams" => channels.set_stream_count(id.0),
         "show" => show(rt, channels, id)?,
         _ => return Ok(false),
     }

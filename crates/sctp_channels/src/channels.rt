@@ -71,6 +71,13 @@ impl Channels {
         }
     }
 
+    /// Streams have numbers below this one from now on, the lesser of what was negotiated for both directions. Channels above it stay.
+    pub fn set_stream_count(&mut self, stream_count: u16)
+        ensures { self.new ≡ record self.old { stream_count = stream_count } }
+    {
+        self.stream_count = stream_count;
+    }
+
     /// The channel on a stream.
     pub fn get(&self, id: StreamId) -> Option<&Channel>
         ensures { option_copied result ≡ channel_at id.0 self.now.entries }
