@@ -75,7 +75,8 @@ fn limits(reliability: Reliability) -> (Option<u16>, Option<Duration>)
 }
 
 impl DataChannels {
-    /// No channels. The client of DTLS opens even streams, the server odd ones, below `stream_count`. A message of more than
+    /// No channels. The client of DTLS opens even streams, the server odd ones, below `stream_count`,
+    /// and once the association stands below the number that was negotiated. A message of more than
     /// `max_message_size` bytes isn't taken, and none is sent of more than `peer_max_message_size`, as the session descriptions say, where 0 is
     /// any; nor one by which more than `max_buffered_amount` bytes of its channel would wait.
     pub fn new(
@@ -229,11 +230,23 @@ impl DataChannels {
         socket: &mut S,
         event: SocketEvent,
     ) -> Result<(), CallError> {
+        self.note_streams(socket, &event);
         if let Some(event) = self.on_event(event)? {
             self.carry_out(socket)?;
             self.tell(event)?;
         }
         Ok(())
+    }
+
+    /// Once the association stands, streams are those that were negotiated for both directions.
+    fn note_streams<S: DcSctpSocket>(&mut self, socket: &S, event: &SocketEvent) {
+        if let SocketEvent::OnConnected() = event {
+            if let Some(metrics) = socket.get_metrics() {
+                let incoming = metrics.negotiated_maximum_incoming_streams;
+                let outgoing = metrics.negotiated_maximum_outgoing_streams;
+                self.channels.set_stream_count(incoming.min(outgoing));
+            }
+        }
     }
 
     fn tell(&mut self, event: ChannelEvent) -> Result<(), AllocError> {
