@@ -1,0 +1,3 @@
+pub mod TimerLemmas
+pub mod ItemsLemmas
+pub mod SenderLemmas

@@ -1,0 +1,2 @@
+//! Progress: between events an end that owes something has a timer that runs.
+#![tactic(auto)]
