@@ -1,3 +1,4 @@
 pub mod TimerLemmas
 pub mod ItemsLemmas
 pub mod SenderLemmas
+pub mod BlockLemmas

@@ -13,6 +13,7 @@ use Rattle.sctp_tx_outstanding.specs.Item.{Item}
 use Rattle.sctp_tx_outstanding.specs.OutstandingData.{Items, flight_items, flight_part}
 use Rattle.sctp_tx_outstanding.specs.Losses.{Step, nack_all}
 use Rattle.sctp_tx_outstanding.specs.Resending.{Resent}
+use Rattle.sctp_tx_outstanding.specs.Sack.{leaving, staying, reported_below, receive_sack_first, ack_or_uncover_all}
 use Rattle.sctp_tx_queue.specs.SendQueue.{Queue}
 use Rattle.sctp_tx_queue.specs.Produced.{Produced, Turn, produce}
 use Rattle.sctp_tx_queue.specs.Settings.{Changed}
@@ -96,3 +97,162 @@ none_taken : (n : ℕ) (is : List Item) → is ≡ [] → is_none (drop n is) �
 none_taken zero [] e = refl
 none_taken (suc n) [] e = refl
 none_taken n (i ∷ is) e = absurd (cc)
+
+-- the cumulative TSN moved
+lasts_or_stops : (b : Bool) (now : ℕ) (t : Timer) → Lasts t → Lasts (restart_or_stop b now t)
+lasts_or_stops true now t l = lasts_stopped t l
+lasts_or_stops false now t l = lasts_started now t l
+
+lasts_if : (moved : Bool) (s : Items) (now : ℕ) (t : Timer) → Lasts t → Lasts (t3_after_sack moved s now t)
+lasts_if true s now t l = lasts_kept (nothing_in_flight s) now _ (lasts_or_stops (length s.kept == 0) now t l)
+lasts_if false s now t l = lasts_kept (nothing_in_flight s) now t l
+
+some_items : (is : List Item) → is_none is ≡ false → (length is == 0) ≡ false
+some_items [] e = absurd (cc)
+some_items (i ∷ is) e = positive (length is)
+  where
+    positive : (n : ℕ) → (suc n == 0) ≡ false
+    positive n = grind (arith, nat_tests)
+
+-- it is started again for what is left
+restarted : (s : Items) (now : ℕ) (t : Timer) → Lasts t → ItemsAreTimed s.kept (t3_after_sack true s now t)
+restarted s now t l = go (is_none s.kept) refl
+  where
+    go : (b : Bool) → is_none s.kept ≡ b → ItemsAreTimed s.kept (t3_after_sack true s now t)
+    go true e = inl e
+    go false e =
+        inr (kept_on (nothing_in_flight s) now (restart_or_stop (length s.kept == 0) now t)
+        (subst (λ b. Runs (restart_or_stop b now t)) (sym (some_items s.kept e)) (started now t l.duration)))
+
+module _ {P : Type 0} (now n a_rwnd : ℕ) (blocks : List GapAckBlock) (s : Sender) (e : Emitted P) where
+  abbrev after : Items
+  after = (step_of n blocks s e).items
+
+  none_of_none : s.outstanding.items.kept ≡ [] → is_none after.kept ≡ true
+  none_of_none z =
+      none_below false (not (not (is_open n s.windows))) (reported_below blocks (staying n s.outstanding.items)) (receive_sack_first n blocks s.outstanding.items e)
+      ∙ none_acked (drop (leaving n s.outstanding.items) s.outstanding.items.kept) (none_taken (leaving n s.outstanding.items) s.outstanding.items.kept z)
+    where
+      none_acked : (is : List Item) → is_none is ≡ true → is_none (ack_or_uncover_all blocks 1 is) ≡ true
+      none_acked [] h = refl
+      none_acked (i ∷ is) h = absurd (cc)
+
+  sack_times : (moved : Bool) → Lasts s.t3 → ItemsAreTimed s.outstanding.items.kept s.t3 → ItemsAreTimed after.kept (t3_after_sack moved after now s.t3)
+  sack_times true l h = restarted after now s.t3 l
+  sack_times false l (inl z) = inl (none_of_none (is_no_item s.outstanding.items.kept z))
+  sack_times false l (inr r) = inr (kept_on (nothing_in_flight after) now s.t3 r)
+
+  pub sack_holds : (b valid : Bool) → SenderHolds b s → SenderHolds false (sender_if valid now n a_rwnd blocks s e)
+  sack_holds b true h = record {
+    lasts = lasts_if (nat_lt s.outstanding.items.acked n) after now s.t3 h.lasts;
+    timed = sack_times (nat_lt s.outstanding.items.acked n) h.lasts h.timed;
+    some = tt;
+  }
+  sack_holds b false h = record { lasts = h.lasts; timed = h.timed; some = tt }
+
+-- ---- the packet that ignores the congestion window
+
+starts_lasts : (b : Bool) (now : ℕ) (s : Sender) → Lasts s.t3 → Lasts (start_t3_if b now s).t3
+starts_lasts true now s l = lasts_kept (nothing_in_flight s.outstanding.items) now s.t3 l
+starts_lasts false now s l = l
+
+starts_on : (b : Bool) (now : ℕ) (s : Sender) → Runs s.t3 → Runs (start_t3_if b now s).t3
+starts_on true now s r = kept_on (nothing_in_flight s.outstanding.items) now s.t3 r
+starts_on false now s r = r
+
+starts_same : (b : Bool) (now : ℕ) (s : Sender) → (start_t3_if b now s).outstanding.items.kept ≡ s.outstanding.items.kept
+starts_same true now s = refl
+starts_same false now s = refl
+
+-- of a sender whose items are as empty as they were, whatever was sent
+sent_holds : (b sent : Bool) (now : ℕ) (s u : Sender) → u.t3 ≡ s.t3 → Alike s.outstanding.items.kept u.outstanding.items.kept → SenderHolds b s → SenderHolds b (start_t3_if sent now u)
+sent_holds b sent now s u t n h =
+    let after : List Item = (start_t3_if sent now u).outstanding.items.kept in
+    let m : Alike s.outstanding.items.kept after = ap is_none (starts_same sent now u) ∙ n in
+    record {
+      lasts = starts_lasts sent now u (subst Lasts (sym t) h.lasts);
+      timed = timed_alike s.outstanding.items.kept after s.t3 (start_t3_if sent now u).t3 m (λ r. starts_on sent now u (subst Runs (sym t) r)) h.timed;
+      some = has_alike b s.outstanding.items.kept after m h.some;
+    }
+
+pub fast_holds : (b : Bool) (now most : ℕ) (s : Sender) → SenderHolds b s → SenderHolds b (send_fast now most s)
+fast_holds b now most s h =
+    let x : Resent = resent_fast most s in
+    sent_holds b (nat_lt 0 (length x.chunks)) now s (resent_by s x) refl (none_resent true most 0 s.outstanding) h
+
+-- ---- what a packet takes
+
+-- as empty as before, or something new is in flight
+data Grown (before after : Items) (chunks : List (ℕ × FragmentTree)) : Type 0 where
+  as_before : Alike before.kept after.kept → Grown before after chunks
+  new : is_none after.kept ≡ false → nat_lt 0 (length chunks) ≡ true → nothing_in_flight after ≡ false → Grown before after chunks
+
+record Filled {P : Type 0} (s : Sender) (x : Filling P) : Type 0 where
+  t3 : x.sender.t3 ≡ s.t3
+  items : Grown s.outstanding.items x.sender.outstanding.items x.chunks
+
+some_chunk : (xs : List (ℕ × FragmentTree)) (x : ℕ × FragmentTree) → nat_lt 0 (length (xs ++ x ∷ [])) ≡ true
+some_chunk xs x = let l = length-append xs (x ∷ []) in subst (λ n. nat_lt 0 n ≡ true) (sym l) (positive (length xs))
+  where
+    positive : (n : ℕ) → nat_lt 0 (n + 1) ≡ true
+    positive n = grind (arith, nat_tests)
+
+some_more : (is : List Item) (i : Item) → is_none (is ++ i ∷ []) ≡ false
+some_more [] i = refl
+some_more (j ∷ is) i = refl
+
+more_in_flight : (is : List Item) (i : Item) → flight_part i ≡ 1 → (sum_by flight_part (is ++ i ∷ []) == 0) ≡ false
+more_in_flight is i one =
+    let one_more : sum_by flight_part (is ++ i ∷ []) ≡ sum_by flight_part is + (0 + flight_part i) = sum_by-append flight_part is (i ∷ []) in
+    subst (λ n. (n == 0) ≡ false) (sym (one_more ∙ ap (λ n. sum_by flight_part is + (0 + n)) one)) (positive (sum_by flight_part is))
+  where
+    positive : (n : ℕ) → (n + (0 + 1) == 0) ≡ false
+    positive n = grind (arith, nat_tests)
+
+module _ {P : Type 0} (s : Sender) where
+  appended_fills : (now : ℕ) (o : Option Produced) (x : Filling P) → Filled s x → Filled s (append now o x)
+  appended_fills now None x h = h
+  appended_fills now (Some p) x h = record {
+    t3 = h.t3;
+    items = new (some_more x.sender.outstanding.items.kept (item_of now p)) (some_chunk x.chunks _) (more_in_flight x.sender.outstanding.items.kept (item_of now p) refl);
+  }
+
+  turn_fills : (b : Bool) (now : ℕ) (x : Filling P) → Filled s x → Filled s (queue_step_if b now x).filling
+  turn_fills true now x h =
+      let y : Turn P = produce now (offered_payload x.left x.sender) x.queue x.emitted in
+      appended_fills now y.made (record x { queue = y.queue; emitted = y.emitted }) (record { t3 = h.t3; items = h.items })
+  turn_fills false now x h = h
+
+  fills_if : (b : Bool) (x y : Filling P) → Filled s x → Filled s y → Filled s (cond b x y)
+  fills_if true x y h k = h
+  fills_if false x y h k = k
+
+  fills : (n now : ℕ) (x : Filling P) → Filled s x → Filled s (fill n now x)
+  fills zero now x h = h
+  fills (suc n) now x h =
+      let y : QueueStep P = next_turn now x in
+      let k : Filled s y.filling = turn_fills (may_send_new x.sender && nat_lt 0 (offered_payload x.left x.sender)) now x h in
+      fills_if y.is_more (fill n now y.filling) y.filling (fills n now y.filling k) k
+
+  started_holds : (b : Bool) (now : ℕ) (x : Filling P) → Grown s.outstanding.items x.sender.outstanding.items x.chunks → x.sender.t3 ≡ s.t3 → SenderHolds b s
+      → SenderHolds b (timed_filling now x).sender
+  started_holds b now x (as_before n) t h = sent_holds b (nat_lt 0 (length x.chunks)) now s x.sender t n h
+  started_holds b now x (new some sent flight) t h =
+      subst (λ (c : Bool). SenderHolds b (start_t3_if c now x.sender)) (sym sent) (record {
+        lasts = lasts_kept (nothing_in_flight x.sender.outstanding.items) now x.sender.t3 (subst Lasts (sym t) h.lasts);
+        timed = inr (made_run (nothing_in_flight x.sender.outstanding.items) now x.sender.t3 (subst Lasts (sym t) h.lasts) flight);
+        some = has_some b some;
+      })
+    where
+      has_some : (b : Bool) → is_none x.sender.outstanding.items.kept ≡ false → HasItems b x.sender.outstanding.items.kept
+      has_some true e = e
+      has_some false e = tt
+
+  pub send_holds : (b : Bool) (now most : ℕ) (q : Queue) (e : Emitted P) → SenderHolds b s → SenderHolds b (send now most s q e).sender
+  send_holds b now most q e h =
+      let left : Changed P = discard_all s.outstanding.items.discards q e in
+      let again : Resent = resent most (without_discards s) in
+      let x : Filling P = filled_with most (without_discards s) again left in
+      let y : Filling P = fill (suc x.left) now x in
+      let f : Filled s y = fills (suc x.left) now x (record { t3 = refl; items = as_before (none_resent false _ _ (without_discards s).outstanding) }) in
+      started_holds b now y f.items f.t3 h
