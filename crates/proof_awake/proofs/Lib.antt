@@ -2,3 +2,5 @@ pub mod TimerLemmas
 pub mod ItemsLemmas
 pub mod SenderLemmas
 pub mod BlockLemmas
+pub mod SendingRowLemmas
+pub mod RowLemmas
