@@ -4,3 +4,5 @@ pub mod SenderLemmas
 pub mod BlockLemmas
 pub mod SendingRowLemmas
 pub mod RowLemmas
+pub mod CallRowLemmas
+pub mod OpeningRowLemmas
