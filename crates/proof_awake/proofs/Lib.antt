@@ -6,3 +6,4 @@ pub mod SendingRowLemmas
 pub mod RowLemmas
 pub mod CallRowLemmas
 pub mod OpeningRowLemmas
+pub mod InputRowLemmas

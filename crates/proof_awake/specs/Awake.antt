@@ -5,6 +5,7 @@ use Rattle.sctp_state.specs.Timer.{Timer, is_running}
 use Rattle.sctp_tracker.specs.declared.data_tracker.AckState.{AckState}
 use Rattle.sctp_tracker.specs.declared.data_tracker.AckState.TheVariants.{Idle, Becoming, Delayed, Immediate}
 use Rattle.sctp_tx_outstanding.specs.Item.{Item}
+use Rattle.spec_endpoint.specs.Laws.{Call, Restore}
 use Rattle.spec_endpoint.specs.Association.{Tcb, Phase, CookieEchoed, Established, ShutdownPending, ShutdownSent, ShutdownReceived, ShutdownAckSent, State, Closed, CookieWait, Open, Heartbeats, EndpointState}
 
 abbrev pub Runs : Timer → Type 0
@@ -70,3 +71,9 @@ pub record HasTimes (o : Options) : Type 0 where
   pub t1_init : 1 ≤ o.t1_init_timeout
   pub t1_cookie : 1 ≤ o.t1_cookie_timeout
   pub delayed_ack : 1 ≤ o.delayed_ack_max_timeout
+
+-- ---- calls
+
+abbrev pub is_restore : Call → Bool
+is_restore (Restore h) = true
+is_restore call = false
