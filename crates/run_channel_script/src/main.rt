@@ -13,7 +13,7 @@
 //! | `streams COUNT` | it has so many from now on |
 //! | `open`, `negotiate ID`, `close ID`, `sent ID SIZE` | calls of its owner; the stream that was opened |
 //! | `got ID PPID HEX`, `reset ID`, `performed ID`, `denied ID`, `buffered ID SIZE`, `end` | what the socket hands out: a message, a reset of the incoming stream, what became of one of the outgoing stream; the bytes that wait in it; the end of the association |
-//! | `show ID` | a channel |
+//! | `show ID`, `list` | a channel; the streams that have one |
 #![tactic(auto)]
 
 mod table;

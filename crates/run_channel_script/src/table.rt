@@ -72,6 +72,11 @@ fn show(rt: &HostRuntime, channels: &Channels, id: StreamId) -> io::Result<()> {
     }
 }
 
+fn list(rt: &HostRuntime, channels: &Channels) -> io::Result<()> {
+    let ids = channels.streams()?;
+    println!(rt; "{ids:?}")
+}
+
 fn open(rt: &HostRuntime, channels: &mut Channels) -> io::Result<()> {
     match channels.free_stream() {
         Some(id) => {
@@ -131,6 +136,10 @@ pub fn answer(
         }
         ("end", _) => {
             channels.end()?;
+            true
+        }
+        ("list", _) => {
+            list(rt, channels)?;
             true
         }
         ("got", _) => got(rt, channels, words)?,

@@ -4,13 +4,11 @@
 //! [`Checksum`] is written big-endian, so a CRC32c (RFC 9260 appendix A) is handed in with its bytes swapped.
 #![tactic(auto)]
 
-mod api;
 mod input;
 mod judging;
 mod socket;
 mod validation;
 
-pub use api::DcSctpSocket;
 pub use sctp_endpoint::{
     Association, Context, CookieEchoedState, CookieWaitState, Identity, OutgoingPacket, Phase,
     ResetRequests, State, TransmissionControlBlock,
@@ -20,6 +18,7 @@ pub use sctp_serial::{
     ZERO_CHECKSUM_ALTERNATE_ERROR_DETECTION_METHOD_LOWER_LAYER_DTLS,
     ZERO_CHECKSUM_ALTERNATE_ERROR_DETECTION_METHOD_NONE, ZeroChecksumAlternateErrorDetectionMethod,
 };
+pub use sctp_socket_interface::DcSctpSocket;
 pub use sctp_state::api::handover::{
     HandoverCapabilities, HandoverOrderedStream, HandoverOutgoingStream, HandoverOutstandingData,
     HandoverReceive, HandoverSocketState, HandoverStreamMessage, HandoverTransmission,

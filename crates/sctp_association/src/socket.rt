@@ -20,7 +20,6 @@ ghost use Rattle.spec_endpoint.specs.Opening as opening;
 ghost use Rattle.spec_endpoint.specs.StreamReset as resets;
 ghost use Rattle.spec_endpoint.specs.Timers as time;
 
-use crate::api::DcSctpSocket;
 use crate::input::handle_input;
 use crate::judging::judge;
 use crate::validation::my_verification_tag;
@@ -34,6 +33,7 @@ use sctp_calls::metrics::metrics_in;
 use sctp_endpoint::{Association, Context, State};
 use sctp_handshake::opening::do_connect;
 use sctp_serial::{Message, SocketTime, StreamId};
+use sctp_socket_interface::DcSctpSocket;
 use sctp_state::{
     BatchFault, BatchSendError, CallError, GivenUp, HandoverError, HandoverReadiness, Metrics,
     Options, ResetStreamsError, RestoreError, SendError, SendOptions, SocketEvent,

@@ -108,7 +108,8 @@ impl<R: Rng + Drop, C: Checksum + Drop> World<R, C> {
     }
 
     /// A new world, and what these events make of it: `World::new`, and then `run`. What the clauses conclude rests on what is handed in
-    /// here and on the log alone: `delivers` gives the one run of these events from this new world, of which its premises speak.
+    /// here: `delivers` gives the one run of these events from this new world. Its premises speak of that run, by its log and by how many
+    /// numbers each end has used between events; `composes` has it for longer runs, by windows.
     pub fn after(
         alloc: Global,
         options_a: &Options,
@@ -131,6 +132,7 @@ impl<R: Rng + Drop, C: Checksum + Drop> World<R, C> {
         ensures agrees { IfOk result (λ w. EachEndDrawsDistinctTags
             (origin (options_of options_a.now) (options_of options_b.now) (R.stream rng_a) (R.stream rng_b) (C.word_of checksum_a) (C.word_of checksum_b)) (map action_of events.now)
             → WorldAgrees (world_of R.stream C.word_of w).log) }
+        ensures works { IfOk result (λ w. w.has_failed ≡ false) }
         ensures stopped { IfErr result (λ e. e ≡ WorldError.NoSuchPacket → (v : table.World) × RunsUpToDisabled (map action_of events.now)
             (fresh_world (options_of options_a.now) (options_of options_b.now) (R.stream rng_a) (R.stream rng_b) (C.word_of checksum_a) (C.word_of checksum_b)) v) }
     {

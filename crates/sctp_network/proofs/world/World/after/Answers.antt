@@ -30,6 +30,9 @@ returns-in-Ok-clause-agrees g c =
     let l : IsReachable o (map action_of c.args.events.now) last = c.in-Ok.ensures.reachable o [] c.in_ok-world.ensures.reachable in
     λ distinct. c.run.ensures.agrees o (map action_of c.args.events.now) l distinct
 
+pub returns-in-Ok-clause-works : goal.returns-in-Ok-clause-works
+returns-in-Ok-clause-works g c = c.in-Ok.ensures.works.1
+
 pub returns-in-Err-clause-stopped : goal.returns-in-Err-clause-stopped
 returns-in-Err-clause-stopped g c =
     let last : World = world_of g.R.Rng.stream g.C.Checksum.word_of c.run.new.world in

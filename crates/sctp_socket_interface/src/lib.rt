@@ -1,4 +1,5 @@
-//! The calls of a socket.
+//! The calls of a socket, whichever it is. What drives one stands on this crate alone, and not on how a socket is built.
+#![tactic(auto)]
 
 ghost use Rattle.std.specs.Prelude.{◌<◌, ◌^◌};
 
