@@ -13,16 +13,12 @@ use Rattle.sctp_tx.specs.RetransmissionQueue.{Sender}
 use Rattle.spec_endpoint.specs.Association.{Identity, Tcb, tcb}
 use Rattle.spec_endpoint.specs.ResetRequests.{Request, Requests, requests, start_request, lasting, without_deferral, clear_deferral, expire_reconfig_timer, is_final, end_or_defer, response_if, handle_response_in, handle_response, set_last_request}
 use Rattle.spec_endpoint.specs.Sack.{timed_by, sample_rtt}
-use Rattle.proof_awake.specs.Awake.{Runs, AckIsTimed, RequestIsTimed, Lasts, HasTimes, BlockIsAwake}
+use Rattle.proof_awake.specs.Awake.{Runs, AckIsTimed, RequestIsTimed, BlockIsAwake}
+use Rattle.proof_awake.specs.Invariant.{HasTimes, SenderHolds, RttHolds, AckHolds, TrackerHolds, RequestsHold, BlockHolds}
 use Rattle.proof_awake.proofs.TimerLemmas.{started, goes_on, lasts_started, lasts_stopped, lasts_set, lasts_on, expire_duration}
-use Rattle.proof_awake.proofs.SenderLemmas.{HasItems, SenderHolds, timed_holds}
+use Rattle.proof_awake.proofs.SenderLemmas.{timed_holds}
 
 -- ---- round trips
-
-pub record RttHolds (r : Rtt) : Type 0 where
-  pub range : r.rto_min ≤ r.rto_max
-  pub least : 2 ≤ r.rto_min
-  pub initial : 2 ≤ r.rto_initial
 
 pub rto_least : (r : Rtt) → RttHolds r → 2 ≤ rto r
 rto_least r h = go r.is_sampled
@@ -40,14 +36,6 @@ rtt_holds sample r h = go (is_dropped sample r) r.is_sampled
     go false false = record { range = h.range; least = h.least; initial = h.initial }
 
 -- ---- acknowledgements
-
-pub record AckHolds (ack : AckState) (delay : Timer) (most : ℕ) : Type 0 where
-  pub duration : 1 ≤ delay.duration
-  pub most_delay : 1 ≤ most
-  pub timed : AckIsTimed ack delay
-
-abbrev pub TrackerHolds : Tracker → Type 0
-TrackerHolds t = AckHolds t.ack t.delay t.most_delay
 
 delay_least : (n most : ℕ) → 2 ≤ n → 1 ≤ most → 1 ≤ ack_delay n most
 delay_least n most a b = omega (arith, a, b)
@@ -98,10 +86,6 @@ delay_holds now t h = go (is_due now t.delay)
 
 -- ---- requests
 
-pub record RequestsHold (r : Requests) : Type 0 where
-  pub lasts : Lasts r.timer
-  pub timed : RequestIsTimed r.current r.timer
-
 pub request_starts : (now n last_tsn : ℕ) (streams : List ℕ) (r : Requests) → 1 ≤ n → RequestsHold r → RequestsHold (start_request now n last_tsn streams r)
 request_starts now n last_tsn streams r l h =
     let t : Timer = set_duration n r.timer in
@@ -140,12 +124,6 @@ woken_holds now r h = record { lasts = lasts_on now r.timer h.lasts; timed = by 
     by (Some q) (inr k) = inr (goes_on now r.timer h.lasts.restarts k)
 
 -- ---- the control block
-
-pub record BlockHolds (waits : Bool) (t : Tcb) : Type 0 where
-  pub sender : SenderHolds waits t.sender
-  pub requests : RequestsHold t.requests
-  pub tracker : TrackerHolds t.tracker.tracker
-  pub rtt : RttHolds t.rtt
 
 pub block_awake : (b : Bool) (t : Tcb) → BlockHolds b t → BlockIsAwake t
 block_awake b t h = record { items = h.sender.timed; request = h.requests.timed; ack = h.tracker.timed }

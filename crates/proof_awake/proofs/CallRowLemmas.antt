@@ -29,12 +29,13 @@ use Rattle.spec_endpoint.specs.StreamReset.{Handling, handling, respond, process
 use Rattle.spec_endpoint.specs.Timers.{Ticking, tick_ack, t3_if, tick_t3, tick_interval, tick_timeout, request_again, errs_if, reconfig_timeout, requests_if, ticking, tick_timers, TimerOutcome, after_timers, abort_if, abort_if_exhausted, abort_or_send_if, abort_or_send, after_ticks_if, after_ticks, t2_expired, t2_if, tick_t2, waits_if, t1_expired, t1_if, after_init_timer, init_expired, init_if, tick_open, tick_in, advance_if, advance}
 use Rattle.spec_endpoint.specs.Opening.{send_init}
 use Rattle.spec_endpoint.specs.Calls.{shown_state, send_refusal, send_refusal_of, refuse, accept, offered, offer, offer_all, sent_if, send, send_many, take_message}
-use Rattle.proof_awake.specs.Awake.{Runs, BeatsOn, HasTimes}
+use Rattle.proof_awake.specs.Awake.{Runs, BeatsOn}
+use Rattle.proof_awake.specs.Invariant.{BlockHolds, Beats, ContextHolds, is_established, waits, PhaseRuns, StateHolds}
 use Rattle.proof_awake.proofs.TimerLemmas.{goes_on, expire_restarts, beats_after}
-use Rattle.proof_awake.proofs.SenderLemmas.{SenderHolds, timeout_holds}
-use Rattle.proof_awake.proofs.BlockLemmas.{rto_least, RequestsHold, request_lasts, last_set, handled_holds, woken_holds, delay_holds, BlockHolds, with_sender, with_requests, with_tracker}
-use Rattle.proof_awake.proofs.SendingRowLemmas.{Beats, ContextHolds, Beside, goes_out, chunk_goes_out, Holds, Left, sends_buffered, cookie_goes}
-use Rattle.proof_awake.proofs.RowLemmas.{is_established, waits, PhaseRuns, OpenHolds, StateHolds, Going, EndHolds, where_open_holds, send_in_holds, closes, abort_holds}
+use Rattle.proof_awake.proofs.SenderLemmas.{timeout_holds}
+use Rattle.proof_awake.proofs.BlockLemmas.{rto_least, request_lasts, last_set, handled_holds, woken_holds, delay_holds, with_sender, with_requests, with_tracker}
+use Rattle.proof_awake.proofs.SendingRowLemmas.{Beside, goes_out, chunk_goes_out, Holds, Left, sends_buffered, cookie_goes}
+use Rattle.proof_awake.proofs.RowLemmas.{Going, EndHolds, where_open_holds, send_in_holds, closes, abort_holds}
 
 with_reassembly : (b : Bool) (t : Tcb) (r : Reassembly) → BlockHolds b t → BlockHolds b (record t { reassembly = r })
 with_reassembly b t r h = record { sender = h.sender; requests = h.requests; tracker = h.tracker; rtt = h.rtt }

@@ -22,10 +22,11 @@ use Rattle.spec_endpoint.specs.Calls.{set_low_threshold, set_priority, set_max_m
 use Rattle.spec_endpoint.specs.Handover.{left_in, left_if, readiness}
 use Rattle.spec_endpoint.specs.Input.{packet_refusal, report_unrecognized_in, on_unknown_if, emit_unknown_chunk_error, is_reported, on_heartbeat, on_chunk, AfterChunk, violation, abort_for_violation_in, received_if, receive, receive_rest, receive_all, has_data_chunk, repeats, repeats_if, in_endpoint_state, ack_if_due, at_end, packet_ended_at, on_packet_end, count_packet_at, packet_if, on_packet}
 use Rattle.spec_endpoint.specs.Laws.{Call, Connect, Close, Shutdown, Send, SendMany, ResetStreams, TakeMessage, SetLowThreshold, SetPriority, SetMaxMessageSize, Advance, HandOver, Restore, ReceivePacket, ReceiveNoPacket, called}
-use Rattle.proof_awake.specs.Awake.{HasTimes, is_restore}
-use Rattle.proof_awake.proofs.BlockLemmas.{taken_holds, ended_holds, BlockHolds, with_tracker}
-use Rattle.proof_awake.proofs.SendingRowLemmas.{ContextHolds, quieter, Beside, chunk_goes_out, sends_with}
-use Rattle.proof_awake.proofs.RowLemmas.{is_established, waits, PhaseRuns, OpenHolds, StateHolds, emptier, t2_runs_again, Going, EndHolds, where_open_holds, closes, shutdown_holds, on_shutdown_holds, on_shutdown_ack_holds, on_complete_holds, abort_holds, close_holds, on_data_holds, on_forward_holds, on_sack_holds}
+use Rattle.proof_awake.specs.Awake.{is_restore}
+use Rattle.proof_awake.specs.Invariant.{HasTimes, BlockHolds, is_established, waits, StateHolds}
+use Rattle.proof_awake.proofs.BlockLemmas.{taken_holds, ended_holds, with_tracker}
+use Rattle.proof_awake.proofs.SendingRowLemmas.{Beside, chunk_goes_out, sends_with}
+use Rattle.proof_awake.proofs.RowLemmas.{emptier, t2_runs_again, Going, EndHolds, where_open_holds, closes, shutdown_holds, on_shutdown_holds, on_shutdown_ack_holds, on_complete_holds, abort_holds, close_holds, on_data_holds, on_forward_holds, on_sack_holds}
 use Rattle.proof_awake.proofs.CallRowLemmas.{reconfig_holds, reset_streams_holds, send_call_holds, send_many_holds, take_holds, advance_holds}
 use Rattle.proof_awake.proofs.OpeningRowLemmas.{Whole, connect_holds, init_holds, init_ack_holds, cookie_ack_holds, cookie_echo_holds}
 
@@ -156,13 +157,16 @@ module _ {P : Type 0} where
   leaves true s h = left s.state s.context h
   leaves false s h = h
 
-  sized : (n : ℕ) (s : State) (c : Context P) → Same s c → Same s (set_max_message_size n c)
-  sized n Closed c h = record { options = times h.options; restarts = h.restarts; interval = tt }
+  sized_beside : (n : ℕ) (b : Bool) (c : Context P) → Beside b c → Beside b (set_max_message_size n c)
+  sized_beside n b c h = record { options = times h.options; restarts = h.restarts; interval = h.interval }
     where
       times : HasTimes c.options → HasTimes (set_max_message_size n c).options
       times k = record { rto_range = k.rto_range; rto_min = k.rto_min; rto_initial = k.rto_initial; t1_init = k.t1_init; t1_cookie = k.t1_cookie; delayed_ack = k.delayed_ack }
-  sized n (CookieWait tag first t1) c h = (sized n Closed c h.0, h.1)
-  sized n (Open phase t) c h = (record { options = (sized n Closed c (quieter (is_established phase) c.options c.heartbeats h.0)).options; restarts = h.0.restarts; interval = h.0.interval }, h.1)
+
+  sized : (n : ℕ) (s : State) (c : Context P) → Same s c → Same s (set_max_message_size n c)
+  sized n Closed c h = sized_beside n false c h
+  sized n (CookieWait tag first t1) c h = (sized_beside n false c h.0, h.1)
+  sized n (Open phase t) c h = (sized_beside n (is_established phase) c h.0, h.1)
 
   pub each_call : (call : Call) (s : Endpoint P) → is_restore call ≡ false → Whole s → Whole (called call s)
   each_call Connect s e h = connect_holds s.endpoint_state.state s h h

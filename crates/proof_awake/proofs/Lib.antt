@@ -7,3 +7,4 @@ pub mod RowLemmas
 pub mod CallRowLemmas
 pub mod OpeningRowLemmas
 pub mod InputRowLemmas
+pub mod LawLemmas

@@ -17,11 +17,12 @@ use Rattle.spec_endpoint.specs.Packets.{PacketDraft, add, packet_to, new_packet,
 use Rattle.spec_endpoint.specs.Heartbeats.{restart_interval}
 use Rattle.spec_endpoint.specs.Sending.{AfterSending, open_with, send_cookie}
 use Rattle.spec_endpoint.specs.Opening.{waiting, start_connecting, connect_in, answers, on_init_open, on_init_in, without_cookie, queue_anew, agreed_by, maker, echo, identity_of_init_ack, echo_or_abort, cookie_in, long_word, on_init_ack_in, enter_connected, establish, on_cookie_ack, CookieResolution, EstablishNew, RestartDetected, SimultaneousInit, MaintainExisting, Discard, InvalidTag, resolve_cookie, cookie_ack, tcb_by, queue_for, identity_of, anew, maintain_existing, maintain_existing_in, restarts_in, restart, on_resolution, on_read_cookie, on_cookie_echo}
-use Rattle.proof_awake.specs.Awake.{Runs, HasTimes}
+use Rattle.proof_awake.specs.Awake.{Runs}
+use Rattle.proof_awake.specs.Invariant.{is_established, StateHolds}
 use Rattle.proof_awake.proofs.TimerLemmas.{started}
-use Rattle.proof_awake.proofs.BlockLemmas.{BlockHolds, new_block}
-use Rattle.proof_awake.proofs.SendingRowLemmas.{ContextHolds, quieter, interval_started, Beside, goes_out, chunk_goes_out, Holds, Left, sends_with, sends_buffered, cookie_goes}
-use Rattle.proof_awake.proofs.RowLemmas.{is_established, waits, PhaseRuns, OpenHolds, StateHolds, Going, EndHolds, closes}
+use Rattle.proof_awake.proofs.BlockLemmas.{new_block}
+use Rattle.proof_awake.proofs.SendingRowLemmas.{quieter, interval_started, Beside, goes_out, chunk_goes_out, Holds, Left, sends_with, sends_buffered, cookie_goes}
+use Rattle.proof_awake.proofs.RowLemmas.{Going, EndHolds, closes}
 
 module _ {P : Type 0} where
   abbrev pub Whole : Endpoint P → Type 0

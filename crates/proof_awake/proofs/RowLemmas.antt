@@ -23,47 +23,15 @@ use Rattle.spec_endpoint.specs.Sending.{AfterSending, is_before_cookie_ack, open
 use Rattle.spec_endpoint.specs.Shutdown.{close_with, over, t2_shutdown, PhaseStep, phase_step, pending_next, received_next, maybe_send_shutdown_or_ack, shutdown_in_phase, open_phase_step, shutdown_in, shut_by_peer, on_shutdown, on_shutdown_ack_open, on_shutdown_ack_in, on_shutdown_complete, abort, close_in}
 use Rattle.spec_endpoint.specs.Data.{fragment_if, take_fragment, accepts_tsn, handle_forward_tsn, handle_forward_tsn_if, accepts_point, on_no_data, on_data_in, on_data_if, on_data, on_forward}
 use Rattle.spec_endpoint.specs.Sack.{clean_blocks, sample_rtt, clear_errors_if, send_after, send_after_sack, after_sack, on_clean_sack, on_sack_in, on_sack}
-use Rattle.proof_awake.specs.Awake.{Runs, BeatsOn, HasTimes, is_none}
+use Rattle.proof_awake.specs.Awake.{Runs, BeatsOn, is_none}
+use Rattle.proof_awake.specs.Invariant.{TrackerHolds, BlockHolds, is_established, waits, PhaseRuns, OpenHolds, StateHolds}
 use Rattle.proof_awake.proofs.TimerLemmas.{started}
 use Rattle.proof_awake.proofs.ItemsLemmas.{some_flight}
-use Rattle.proof_awake.proofs.SenderLemmas.{SenderHolds, sack_holds}
-use Rattle.proof_awake.proofs.BlockLemmas.{rto_least, TrackerHolds, observed_holds, forward_holds, BlockHolds, with_sender, with_tracker, sampled_holds}
-use Rattle.proof_awake.proofs.SendingRowLemmas.{Beats, ContextHolds, quieter, Beside, goes_out, chunk_goes_out, Holds, Left, sends_buffered, lost_goes}
+use Rattle.proof_awake.proofs.SenderLemmas.{sack_holds}
+use Rattle.proof_awake.proofs.BlockLemmas.{rto_least, observed_holds, forward_holds, with_sender, with_tracker, sampled_holds}
+use Rattle.proof_awake.proofs.SendingRowLemmas.{quieter, Beside, goes_out, chunk_goes_out, Holds, Left, sends_buffered, lost_goes}
 
 -- ---- states
-
-abbrev pub is_established : Phase → Bool
-is_established (CookieEchoed t1 cookie) = false
-is_established Established = true
-is_established ShutdownPending = false
-is_established (ShutdownSent t2) = false
-is_established ShutdownReceived = false
-is_established (ShutdownAckSent t2) = false
-
--- a shutdown that waits for items
-abbrev pub waits : Phase → Bool
-waits (CookieEchoed t1 cookie) = false
-waits Established = false
-waits ShutdownPending = true
-waits (ShutdownSent t2) = false
-waits ShutdownReceived = true
-waits (ShutdownAckSent t2) = false
-
-abbrev pub PhaseRuns : Phase → Type 0
-PhaseRuns (CookieEchoed t1 cookie) = Runs t1
-PhaseRuns Established = Unit {0}
-PhaseRuns ShutdownPending = Unit {0}
-PhaseRuns (ShutdownSent t2) = Runs t2
-PhaseRuns ShutdownReceived = Unit {0}
-PhaseRuns (ShutdownAckSent t2) = Runs t2
-
-abbrev pub OpenHolds : Phase → Tcb → Options → Heartbeats → Type 0
-OpenHolds phase t o h = ContextHolds (is_established phase) o h × (PhaseRuns phase × BlockHolds (waits phase) t)
-
-abbrev pub StateHolds : State → Options → Heartbeats → Type 0
-StateHolds Closed o h = ContextHolds false o h
-StateHolds (CookieWait tag first t1) o h = ContextHolds false o h × Runs t1
-StateHolds (Open phase t) o h = OpenHolds phase t o h
 
 pub emptier : (b : Bool) (t : Tcb) → BlockHolds b t → BlockHolds false t
 emptier b t h = record {

@@ -22,19 +22,10 @@ use Rattle.sctp_tx.specs.RetransmissionQueue.{Sender, kept_running, nothing_in_f
 use Rattle.sctp_tx.specs.Resent.{may_send_new, resent, resent_fast, resent_by, start_t3_if, start_t3_if_sent, send_fast}
 use Rattle.sctp_tx.specs.ForwardPoints.{abandon_expired}
 use Rattle.sctp_tx.specs.Sending.{Filling, QueueStep, item_of, append, offered_payload, queue_step_if, next_turn, fill, discard_all, without_discards, filled_with, timed_filling, send}
-use Rattle.proof_awake.specs.Awake.{Runs, is_none, ItemsAreTimed, Lasts}
+use Rattle.proof_awake.specs.Awake.{Runs, is_none, ItemsAreTimed}
+use Rattle.proof_awake.specs.Invariant.{Lasts, HasItems, SenderHolds}
 use Rattle.proof_awake.proofs.TimerLemmas.{started, goes_on, lasts_started, lasts_stopped, lasts_set, lasts_on}
 use Rattle.proof_awake.proofs.ItemsLemmas.{Alike, is_no_item, none_below, none_lost, none_expired, none_resent, some_flight}
-
--- what a shutdown waits for
-abbrev pub HasItems : Bool → List Item → Type 0
-HasItems true kept = is_none kept ≡ false
-HasItems false kept = Unit {0}
-
-pub record SenderHolds (waits : Bool) (s : Sender) : Type 0 where
-  pub lasts : Lasts s.t3
-  pub timed : ItemsAreTimed s.outstanding.items.kept s.t3
-  pub some : HasItems waits s.outstanding.items.kept
 
 pub has_alike : (b : Bool) (before after : List Item) → Alike before after → HasItems b before → HasItems b after
 has_alike true before after e h = e ∙ h

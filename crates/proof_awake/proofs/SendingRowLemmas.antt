@@ -19,21 +19,13 @@ use Rattle.spec_endpoint.specs.Association.{Tcb, Phase, CookieEchoed, Establishe
 use Rattle.spec_endpoint.specs.Packets.{PacketDraft, room, fits, add, packet_to, new_packet, has_chunks, emit_if, emit, emit_chunk}
 use Rattle.spec_endpoint.specs.Heartbeats.{restart_interval_if}
 use Rattle.spec_endpoint.specs.Sending.{Filling, take_due_ack, without_duplicates, ack_if, has_data_to_send, with_ack, forward_added_if, forward_if, with_expired_abandoned, forward_if_time, with_forward, most_streams, last_assigned, add_reset_breakpoint, request_started, request_of, request_at_most, request_if, with_request, with_fragments, with_data, filled_as, emit_packet, BurstStep, burst_step_if, next_packet, continue_burst, burst, AfterSending, send_with, send_buffered, cookie_if, send_cookie, fast_most, fast_packet, fast_if, send_lost}
-use Rattle.proof_awake.specs.Awake.{Runs, BeatsOn, HasTimes, is_none}
+use Rattle.proof_awake.specs.Awake.{Runs, BeatsOn, is_none}
+use Rattle.proof_awake.specs.Invariant.{BlockHolds, Beats, ContextHolds, waits}
 use Rattle.proof_awake.proofs.TimerLemmas.{beats_on}
-use Rattle.proof_awake.proofs.SenderLemmas.{SenderHolds, expired_holds, fast_holds, send_holds}
-use Rattle.proof_awake.proofs.BlockLemmas.{taken_holds, rto_least, RequestsHold, request_starts, BlockHolds, with_sender, with_requests, with_tracker}
+use Rattle.proof_awake.proofs.SenderLemmas.{expired_holds, fast_holds, send_holds}
+use Rattle.proof_awake.proofs.BlockLemmas.{taken_holds, rto_least, request_starts, with_sender, with_requests, with_tracker}
 
 -- ---- what is held beside the control block
-
-abbrev pub Beats : Bool → Timer → Type 0
-Beats true interval = BeatsOn interval
-Beats false interval = Unit {0}
-
-pub record ContextHolds (beats : Bool) (o : Options) (h : Heartbeats) : Type 0 where
-  pub options : HasTimes o
-  pub restarts : h.interval.restarts ≡ None
-  pub interval : Beats beats h.interval
 
 pub quieter : (b : Bool) (o : Options) (h : Heartbeats) → ContextHolds b o h → ContextHolds false o h
 quieter b o h k = record { options = k.options; restarts = k.restarts; interval = tt }

@@ -5,7 +5,8 @@ use Rattle.std.proofs.lemmas.Bool.Decides.{nat_tests}
 use Rattle.sctp_serial.specs.Time.{later}
 use Rattle.sctp_state.specs.Numbers.{more}
 use Rattle.sctp_state.specs.Timer.{Timer, start, stop, set_duration, is_running, is_due, expire, expire_once, next_due, is_last_expiry, backoff}
-use Rattle.proof_awake.specs.Awake.{Runs, BeatsOn, Lasts}
+use Rattle.proof_awake.specs.Awake.{Runs, BeatsOn}
+use Rattle.proof_awake.specs.Invariant.{Lasts}
 
 is_not_zero : (n : ℕ) → 1 ≤ n → (n == 0) ≡ false
 is_not_zero n h = grind (arith, nat_tests, h)

@@ -1,6 +1,5 @@
 -- Between events an end that owes something has a timer that runs.
-use Rattle.std.specs.Prelude.{◌≡◌, ℕ, ◌≤◌, ◌==◌, ◌⊎◌, Bool, true, false, Option, None, List, [], ◌∷◌, length}
-use Rattle.sctp_state.specs.Options.{Options}
+use Rattle.std.specs.Prelude.{◌≡◌, ◌==◌, ◌⊎◌, Bool, true, false, Option, None, List, [], ◌∷◌}
 use Rattle.sctp_state.specs.Timer.{Timer, is_running}
 use Rattle.sctp_tracker.specs.declared.data_tracker.AckState.{AckState}
 use Rattle.sctp_tracker.specs.declared.data_tracker.AckState.TheVariants.{Idle, Becoming, Delayed, Immediate}
@@ -22,6 +21,12 @@ ItemsAreTimed kept t3 = (is_none kept ≡ true) ⊎ Runs t3
 -- a request to reset streams goes out again (RFC 6525 section 5.1.1)
 abbrev pub RequestIsTimed : {A : Type 0} → Option A → Timer → Type 0
 RequestIsTimed current timer = (current ≡ None) ⊎ Runs timer
+
+abbrev pub is_delayed : AckState → Bool
+is_delayed Delayed = true
+is_delayed Idle = false
+is_delayed Becoming = false
+is_delayed Immediate = false
 
 -- an acknowledgement that is delayed goes out (RFC 9260 section 6.2)
 abbrev pub AckIsTimed : AckState → Timer → Type 0
@@ -55,22 +60,6 @@ StateIsAwake (Open phase t) h = PhaseIsAwake phase t.sender.outstanding.items.ke
 
 abbrev pub IsAwake : {P : Type 0} → EndpointState P → Type 0
 IsAwake s = StateIsAwake s.state s.context.heartbeats
-
--- ---- the invariant: timers that run go on after an expiry, and those that are started do run
-
--- a timer without a last expiry, whose start isn't in vain
-pub record Lasts (t : Timer) : Type 0 where
-  pub restarts : t.restarts ≡ None
-  pub duration : 1 ≤ t.duration
-
--- of the options: valid ones have it
-pub record HasTimes (o : Options) : Type 0 where
-  pub rto_range : o.rto_min ≤ o.rto_max
-  pub rto_min : 2 ≤ o.rto_min
-  pub rto_initial : 2 ≤ o.rto_initial
-  pub t1_init : 1 ≤ o.t1_init_timeout
-  pub t1_cookie : 1 ≤ o.t1_cookie_timeout
-  pub delayed_ack : 1 ≤ o.delayed_ack_max_timeout
 
 -- ---- calls
 

@@ -1,1 +1,3 @@
 pub mod Awake
+pub mod Invariant
+pub mod Laws
