@@ -1,2 +1,21 @@
-//! Progress: between events an end that owes something has a timer that runs.
+//! Progress of an SCTP association, as laws over the table of steps: between calls an end that owes something has a timer that
+//! runs, so that it names a moment at which to call it next.
 #![tactic(auto)]
+
+ghost use Rattle.proof_awake.specs.Laws.{EachCallKeepsTimed, NewEndsAreTimed, OnlyQuietEndsNameNoMoment, TimedEndsAreAwake};
+
+/// A new end, with valid options, and what each call leaves of one is awake: where an item is kept T3-rtx runs; where a request to
+/// reset streams waits its timer runs, and where an acknowledgement is delayed its delay; T1 and T2 run in their states, and the
+/// heartbeats' interval once connected. A shutdown waits for nothing but items. The one call that starts no timer takes up the
+/// record of a handover.
+pub fn ends_are_awake()
+    ensures new { NewEndsAreTimed }
+    ensures calls { EachCallKeepsTimed }
+    ensures awake { TimedEndsAreAwake }
+{}
+
+/// So `poll_timeout` names no moment only of an end that is closed, or connected with nothing kept, no request, no delayed
+/// acknowledgement and no heartbeats.
+pub fn only_quiet_ends_name_no_moment()
+    ensures quiet { OnlyQuietEndsNameNoMoment }
+{}
