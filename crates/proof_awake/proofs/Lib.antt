@@ -8,3 +8,4 @@ pub mod CallRowLemmas
 pub mod OpeningRowLemmas
 pub mod InputRowLemmas
 pub mod LawLemmas
+pub mod WorldLemmas

@@ -1,3 +1,4 @@
 pub mod Awake
 pub mod Invariant
 pub mod Laws
+pub mod Worlds

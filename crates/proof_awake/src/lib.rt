@@ -3,6 +3,7 @@
 #![tactic(auto)]
 
 ghost use Rattle.proof_awake.specs.Laws.{EachCallKeepsTimed, NewEndsAreTimed, OnlyQuietEndsNameNoMoment, TimedEndsAreAwake};
+ghost use Rattle.proof_awake.specs.Worlds.{WorldsAreAwake};
 
 /// A new end, with valid options, and what each call leaves of one is awake: where an item is kept T3-rtx runs; where a request to
 /// reset streams waits its timer runs, and where an acknowledgement is delayed its delay; T1 and T2 run in their states, and the
@@ -18,4 +19,9 @@ pub fn ends_are_awake()
 /// acknowledgement and no heartbeats.
 pub fn only_quiet_ends_name_no_moment()
     ensures quiet { OnlyQuietEndsNameNoMoment }
+{}
+
+/// Each end of a world is awake between events, whatever led it there.
+pub fn worlds_are_awake()
+    ensures worlds { WorldsAreAwake }
 {}
