@@ -9,3 +9,4 @@ pub mod OpeningRowLemmas
 pub mod InputRowLemmas
 pub mod LawLemmas
 pub mod WorldLemmas
+pub mod LeftBehindLemmas

@@ -2,3 +2,4 @@ pub mod Awake
 pub mod Invariant
 pub mod Laws
 pub mod Worlds
+pub mod LeftBehind
