@@ -1,40 +1,37 @@
 -- Rows of the calls that send, of resets and of the passing of time: its timers run after each where they ran before.
-use Rattle.std.proofs.Common.{◌≡◌, ◌∙◌, cond, ℕ, ◌≤◌, inl, inr, Bool, true, false, Option, Some, None, List, [], ◌∷◌, ◌++◌, length, codes, refl, sym, ap, subst, arith}
-use Rattle.std.specs.Prelude.{◌==◌, ◌&&◌, ◌||◌, nat_lt}
+use Rattle.std.proofs.Common.{◌≡◌, ◌∙◌, cond, ℕ, Bool, true, false, Option, Some, None, List, [], ◌∷◌, codes, refl, sym, ap, subst, arith}
+use Rattle.std.specs.Prelude.{◌&&◌, ◌||◌, nat_lt}
 use Rattle.sctp_serial.specs.Messages.{Message}
 use Rattle.sctp_serial.specs.declared.api.StreamId.{StreamId}
 use Rattle.sctp_wire.specs.Parameter.{ParameterTree, outgoing_reset_request, incoming_reset_request, reset_response}
 use Rattle.sctp_wire.specs.Cause.{user_initiated_abort}
-use Rattle.sctp_packet.specs.Chunk.{ChunkTree, re_config_chunk}
+use Rattle.sctp_packet.specs.Chunk.{re_config_chunk}
 use Rattle.sctp_state.specs.declared.api.ErrorKind.TheVariants.{TooManyRetries}
 use Rattle.sctp_state.specs.declared.api.SocketState.{SocketState}
 use Rattle.sctp_state.specs.declared.api.errors.SendError.{SendError}
 use Rattle.sctp_state.specs.declared.api.errors.ResetStreamsError.{ResetStreamsError}
 use Rattle.sctp_state.specs.TxErrorCounter.{is_exhausted}
 use Rattle.sctp_state.specs.Options.{Options, SendOptions}
-use Rattle.sctp_state.specs.Events.{Event, OnAborted, OnIncomingStreamReset, numbers_of}
+use Rattle.sctp_state.specs.Events.{OnAborted, OnIncomingStreamReset, numbers_of}
 use Rattle.sctp_state.specs.RetransmissionTimeout.{rto}
 use Rattle.sctp_state.specs.Timer.{Timer, is_due, is_running, expire, expire_once}
 use Rattle.sctp_tracker.specs.DataTracker.{ack_timeout}
 use Rattle.sctp_reassembly.specs.ReassemblyQueue.{Reassembly, defer, reset}
-use Rattle.sctp_tx_outstanding.specs.Losses.{nack_all}
-use Rattle.sctp_tx.specs.RetransmissionQueue.{timed_out_sender}
-use Rattle.spec_endpoint.specs.Association.{Tcb, Phase, CookieEchoed, Established, ShutdownPending, ShutdownSent, ShutdownReceived, ShutdownAckSent, State, Closed, CookieWait, Open, Heartbeats, Context, EndpointState, open_as, where_open}
-use Rattle.spec_endpoint.specs.Packets.{add, new_packet, emit_event_in}
+use Rattle.spec_endpoint.specs.Association.{Tcb, Phase, CookieEchoed, Established, ShutdownPending, ShutdownSent, ShutdownReceived, ShutdownAckSent, State, Closed, CookieWait, Open, Heartbeats, Context, EndpointState, open_as}
+use Rattle.spec_endpoint.specs.Packets.{new_packet, emit_event_in}
 use Rattle.spec_endpoint.specs.Heartbeats.{counted_on, heartbeat_chunk, send_heartbeat_if, heartbeat_timeout_if, next_beat}
-use Rattle.spec_endpoint.specs.ResetRequests.{Requests, Outcome, Unsettled, Done, Denied, outcome, in_progress, performed, nothing_to_do, bad_number, is_last_request, is_next_request, is_known_request, is_final, lasting, expire_reconfig_timer, clear_deferral, is_unanswered, set_last_request, handle_response}
+use Rattle.spec_endpoint.specs.ResetRequests.{Requests, Outcome, Unsettled, Done, Denied, outcome, in_progress, performed, nothing_to_do, is_last_request, is_next_request, is_known_request, is_final, lasting, expire_reconfig_timer, clear_deferral, is_unanswered}
 use Rattle.spec_endpoint.specs.Sending.{AfterSending, is_before_cookie_ack, add_request, send_cookie, send_in}
-use Rattle.spec_endpoint.specs.Shutdown.{over, send_shutdown, send_shutdown_ack, too_many}
-use Rattle.spec_endpoint.specs.StreamReset.{Handling, handling, respond, process, is_ahead, resets_if, outgoing_by, incoming_if, on_outcome, is_outgoing, on_parameter, HandledParameters, handle_next, handle_all, send_responses, finish_reconfig_if, on_reconfig, prepare_reset_stream, prepare_all, reset_if, reset_refusal}
-use Rattle.spec_endpoint.specs.Timers.{Ticking, tick_ack, t3_if, tick_t3, tick_interval, tick_timeout, request_again, errs_if, reconfig_timeout, requests_if, ticking, tick_timers, TimerOutcome, after_timers, abort_if, abort_if_exhausted, abort_or_send_if, abort_or_send, after_ticks_if, after_ticks, t2_expired, t2_if, tick_t2, waits_if, t1_expired, t1_if, after_init_timer, init_expired, init_if, tick_open, tick_in, advance_if, advance}
-use Rattle.spec_endpoint.specs.Opening.{send_init}
-use Rattle.spec_endpoint.specs.Calls.{shown_state, send_refusal, send_refusal_of, refuse, accept, offered, offer, offer_all, sent_if, send, send_many, take_message}
-use Rattle.proof_awake.specs.Awake.{Runs, BeatsOn}
+use Rattle.spec_endpoint.specs.Shutdown.{send_shutdown, send_shutdown_ack, too_many}
+use Rattle.spec_endpoint.specs.StreamReset.{Handling, handling, process, is_ahead, resets_if, outgoing_by, incoming_if, on_outcome, is_outgoing, on_parameter, HandledParameters, handle_next, handle_all, send_responses, finish_reconfig_if, on_reconfig, prepare_reset_stream, prepare_all, reset_if, reset_refusal}
+use Rattle.spec_endpoint.specs.Timers.{Ticking, tick_ack, t3_if, tick_t3, tick_interval, tick_timeout, request_again, errs_if, requests_if, ticking, tick_timers, TimerOutcome, after_timers, abort_if, abort_or_send_if, after_ticks_if, after_ticks, t2_expired, t2_if, waits_if, t1_expired, t1_if, after_init_timer, init_expired, init_if, tick_open, tick_in, advance_if, advance}
+use Rattle.spec_endpoint.specs.Calls.{shown_state, send_refusal, send_refusal_of, offered, offer, offer_all, sent_if, send, send_many, take_message}
+use Rattle.proof_awake.specs.Awake.{Runs}
 use Rattle.proof_awake.specs.Invariant.{BlockHolds, Beats, ContextHolds, is_established, waits, PhaseRuns, StateHolds}
-use Rattle.proof_awake.proofs.TimerLemmas.{goes_on, expire_restarts, beats_after}
+use Rattle.proof_awake.proofs.TimerLemmas.{expire_restarts, beats_after}
 use Rattle.proof_awake.proofs.SenderLemmas.{timeout_holds}
 use Rattle.proof_awake.proofs.BlockLemmas.{rto_least, request_lasts, last_set, handled_holds, woken_holds, delay_holds, with_sender, with_requests, with_tracker}
-use Rattle.proof_awake.proofs.SendingRowLemmas.{Beside, goes_out, chunk_goes_out, Holds, Left, sends_buffered, cookie_goes}
+use Rattle.proof_awake.proofs.SendingRowLemmas.{Beside, goes_out, chunk_goes_out, Holds, sends_buffered, cookie_goes}
 use Rattle.proof_awake.proofs.RowLemmas.{Going, EndHolds, where_open_holds, send_in_holds, closes, abort_holds}
 
 with_reassembly : (b : Bool) (t : Tcb) (r : Reassembly) → BlockHolds b t → BlockHolds b (record t { reassembly = r })
@@ -90,9 +87,10 @@ module _ {P : Type 0} where
         outgoing (is_last_request number x.tcb.requests) (is_next_request number x.tcb.requests) (is_final x.tcb.requests.result) number last_tsn.0 streams x h
     parameter (incoming_reset_request number streams) x h = incoming (is_known_request number x.tcb.requests) number x h
     parameter (reset_response number result sender receiver) x h =
-        let l = rto_least x.tcb.rtt h.1.rtt in
-        (outcome_beside (outcome number result x.tcb.requests.current) x.context h.0,
-        with_requests waits x.tcb _ (handled_holds x.context.now (rto x.tcb.rtt) number result x.tcb.requests (omega (arith, l)) h.1.requests) h.1)
+        let l = rto_least x.tcb.rtt h.1.rtt in (
+          outcome_beside (outcome number result x.tcb.requests.current) x.context h.0,
+          with_requests waits x.tcb _ (handled_holds x.context.now (rto x.tcb.rtt) number result x.tcb.requests (omega (arith, l)) h.1.requests) h.1,
+        )
     parameter p x h = h
 
     next : (b : Bool) (rest : Handling P → HandledParameters P) (p : ParameterTree) (x : Handling P) → ((y : Handling P) → Handled y → Handled (rest y).handling)
@@ -111,7 +109,7 @@ module _ {P : Type 0} where
   finished : (b : Bool) (phase : Phase) (x : Handling P) → PhaseRuns phase → Holds (is_established phase) (waits phase) x.tcb x.context → EndHolds (finish_reconfig_if b phase x)
   finished true phase x r h =
       let k = sends_buffered (is_established phase) (waits phase) (is_before_cookie_ack phase) x.tcb (send_responses x.responses x.tcb x.context)
-          (responses_go (is_established phase) (waits phase) x.responses x.tcb x.context h.0, h.1) in
+      (responses_go (is_established phase) (waits phase) x.responses x.tcb x.context h.0, h.1) in
       (k.0, (r, k.1))
   finished false phase x r h = (h.0, (r, h.1))
 
@@ -195,9 +193,10 @@ module _ {P : Type 0} where
     ticks_request_again true x h = h
     ticks_request_again false x h =
         let l = rto_least x.tcb.rtt h.1.rtt in
-        let t : Tcb = record x.tcb { requests = lasting (rto x.tcb.rtt) x.tcb.requests } in
-        (goes_out (is_established phase) (add_request t.requests.current (new_packet x.context.options t)) x.context h.0,
-        with_requests (waits phase) x.tcb _ (request_lasts (rto x.tcb.rtt) x.tcb.requests (omega (arith, l)) h.1.requests) h.1)
+        let t : Tcb = record x.tcb { requests = lasting (rto x.tcb.rtt) x.tcb.requests } in (
+          goes_out (is_established phase) (add_request t.requests.current (new_packet x.context.options t)) x.context h.0,
+          with_requests (waits phase) x.tcb _ (request_lasts (rto x.tcb.rtt) x.tcb.requests (omega (arith, l)) h.1.requests) h.1,
+        )
 
     errs : (b : Bool) (c : Context P) → Beside (is_established phase) c → Beside (is_established phase) (errs_if b c)
     errs true c h = h

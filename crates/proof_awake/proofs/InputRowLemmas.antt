@@ -1,9 +1,8 @@
 -- What a packet leaves, and each call: timers that run.
-use Rattle.std.proofs.Common.{◌≡◌, ℕ, inl, inr, Bool, true, false, Option, Some, None, List, [], ◌∷◌, length, refl}
+use Rattle.std.proofs.Common.{◌≡◌, ℕ, Bool, true, false, Option, Some, None, List, [], ◌∷◌, length}
 use Rattle.std.specs.Prelude.{◌==◌}
 use Rattle.sctp_packet.specs.Chunk.{ChunkTree, data_chunk, init_chunk, init_ack_chunk, sack_chunk, heartbeat_request_chunk, heartbeat_ack_chunk, abort_chunk, shutdown_chunk, shutdown_ack_chunk, error_chunk, cookie_echo_chunk, cookie_ack_chunk, shutdown_complete_chunk, idata_chunk, re_config_chunk, forward_tsn_chunk, i_forward_tsn_chunk, unknown_chunk}
 use Rattle.sctp_wire.specs.Cause.{CauseTree, protocol_violation}
-use Rattle.sctp_wire.specs.Parameter.{ParameterTree}
 use Rattle.sctp_packet.specs.Packet.{PacketTree}
 use Rattle.sctp_state.specs.declared.api.ErrorKind.TheVariants.{PeerReported, ProtocolViolation}
 use Rattle.sctp_state.specs.Options.{Options}
@@ -15,18 +14,18 @@ use Rattle.spec_endpoint.specs.Association.{Tcb, Phase, CookieEchoed, Establishe
 use Rattle.spec_endpoint.specs.Packets.{add, new_packet}
 use Rattle.spec_endpoint.specs.Heartbeats.{on_heartbeat_info, ack_by_length, clear_if_last, is_last_info, info_in}
 use Rattle.spec_endpoint.specs.Sending.{take_due_ack, without_duplicates, selective_ack, is_before_cookie_ack}
-use Rattle.spec_endpoint.specs.Shutdown.{send_shutdown, on_shutdown, on_shutdown_complete, abort_for_violation, on_abort, on_error, causes_text}
+use Rattle.spec_endpoint.specs.Shutdown.{on_shutdown, on_shutdown_complete, abort_for_violation, on_abort, on_error, causes_text}
 use Rattle.spec_endpoint.specs.StreamReset.{on_reconfig}
 use Rattle.spec_endpoint.specs.Opening.{on_cookie_ack}
-use Rattle.spec_endpoint.specs.Calls.{set_low_threshold, set_priority, set_max_message_size}
+use Rattle.spec_endpoint.specs.Calls.{set_max_message_size}
 use Rattle.spec_endpoint.specs.Handover.{left_in, left_if, readiness}
-use Rattle.spec_endpoint.specs.Input.{packet_refusal, report_unrecognized_in, on_unknown_if, emit_unknown_chunk_error, is_reported, on_heartbeat, on_chunk, AfterChunk, violation, abort_for_violation_in, received_if, receive, receive_rest, receive_all, has_data_chunk, repeats, repeats_if, in_endpoint_state, ack_if_due, at_end, packet_ended_at, on_packet_end, count_packet_at, packet_if, on_packet}
+use Rattle.spec_endpoint.specs.Input.{packet_refusal, report_unrecognized_in, on_unknown_if, emit_unknown_chunk_error, is_reported, on_heartbeat, on_chunk, AfterChunk, violation, received_if, receive, receive_rest, receive_all, has_data_chunk, repeats, repeats_if, in_endpoint_state, ack_if_due, at_end, on_packet_end, count_packet_at, packet_if, on_packet}
 use Rattle.spec_endpoint.specs.Laws.{Call, Connect, Close, Shutdown, Send, SendMany, ResetStreams, TakeMessage, SetLowThreshold, SetPriority, SetMaxMessageSize, Advance, HandOver, Restore, ReceivePacket, ReceiveNoPacket, called}
 use Rattle.proof_awake.specs.Awake.{is_restore}
 use Rattle.proof_awake.specs.Invariant.{HasTimes, BlockHolds, is_established, waits, StateHolds}
 use Rattle.proof_awake.proofs.BlockLemmas.{taken_holds, ended_holds, with_tracker}
 use Rattle.proof_awake.proofs.SendingRowLemmas.{Beside, chunk_goes_out, sends_with}
-use Rattle.proof_awake.proofs.RowLemmas.{emptier, t2_runs_again, Going, EndHolds, where_open_holds, closes, shutdown_holds, on_shutdown_holds, on_shutdown_ack_holds, on_complete_holds, abort_holds, close_holds, on_data_holds, on_forward_holds, on_sack_holds}
+use Rattle.proof_awake.proofs.RowLemmas.{t2_runs_again, Going, EndHolds, where_open_holds, closes, shutdown_holds, on_shutdown_holds, on_shutdown_ack_holds, on_complete_holds, abort_holds, close_holds, on_data_holds, on_forward_holds, on_sack_holds}
 use Rattle.proof_awake.proofs.CallRowLemmas.{reconfig_holds, reset_streams_holds, send_call_holds, send_many_holds, take_holds, advance_holds}
 use Rattle.proof_awake.proofs.OpeningRowLemmas.{Whole, connect_holds, init_holds, init_ack_holds, cookie_ack_holds, cookie_echo_holds}
 

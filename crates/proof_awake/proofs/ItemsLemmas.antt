@@ -1,12 +1,11 @@
 -- What is kept is empty after a loss, an expiry or a sending again just where it was before.
-use Rattle.std.proofs.Common.{◌≡◌, ℕ, zero, suc, Bool, true, false, cond, Option, Some, None, List, [], ◌∷◌, ◌++◌, length, map, refl, sym, ap, ◌∙◌}
-use Rattle.std.specs.Prelude.{◌==◌, ◌||◌, ◌&&◌, ◌-◌, option_map, unwrap_or, slice_get, nat_le}
-use Rattle.sctp_chunk.specs.declared.sack.GapAckBlock.{GapAckBlock}
+use Rattle.std.proofs.Common.{◌≡◌, ℕ, zero, suc, Bool, true, false, cond, Option, Some, None, List, [], ◌∷◌, length, refl, ◌∙◌}
+use Rattle.std.specs.Prelude.{◌==◌, ◌||◌, ◌-◌, option_map, unwrap_or, slice_get, nat_le}
 use Rattle.sctp_state.specs.Events.{Emitted}
-use Rattle.sctp_state.specs.declared.api.GivenUpCause.TheVariants.{Retransmissions, Lifetime}
+use Rattle.sctp_state.specs.declared.api.GivenUpCause.TheVariants.{Retransmissions}
 use Rattle.sctp_tx_outstanding.specs.Item.{Item, is_fast, should_be_retransmitted, nack, mark_as_retransmitted, miss_fast}
-use Rattle.sctp_tx_outstanding.specs.OutstandingData.{Items, Outstanding, change_at, abandon_if_of, flight_items}
-use Rattle.sctp_tx_outstanding.specs.Losses.{Step, abandon_message, abandon_with_record, change_items, is_to_be_abandoned, loses, nack_item, nack_at, nack_below, nack_all, first_step, given_up_if, expired_at, expire_at, expire_below, expire_outstanding}
+use Rattle.sctp_tx_outstanding.specs.OutstandingData.{Items, Outstanding, change_at, flight_items}
+use Rattle.sctp_tx_outstanding.specs.Losses.{Step, abandon_message, abandon_with_record, change_items, is_to_be_abandoned, loses, nack_item, nack_at, nack_below, nack_all, first_step, given_up_if, expired_at, expire_below, expire_outstanding}
 use Rattle.sctp_tx_outstanding.specs.Resending.{Resent, size_in, allowance, again_of, apply_turn, turn_of, step_at, resent_below, resend, empty_packet}
 use Rattle.proof_awake.specs.Awake.{is_none}
 

@@ -1,19 +1,17 @@
 -- The laws of progress.
-use Rattle.std.proofs.Common.{◌≡◌, ℕ, ◌≤◌, ◌<◌, ◌⊎◌, inl, inr, Bool, true, false, min, max, Option, Some, None, List, [], refl, arith}
-use Rattle.std.specs.Prelude.{◌==◌, ◌^◌, is_some}
+use Rattle.std.proofs.Common.{◌≡◌, ℕ, ◌≤◌, ◌<◌, ◌⊎◌, inl, inr, true, false, min, max, Option, Some, None, refl, arith}
+use Rattle.std.specs.Prelude.{◌==◌, is_some}
 use Rattle.rand_core.specs.Stream.{Stream}
 use Rattle.sctp_serial.specs.Time.{forever}
-use Rattle.sctp_state.specs.Numbers.{ms}
 use Rattle.sctp_state.specs.Options.{Options, IsValid}
 use Rattle.sctp_state.specs.Timer.{Timer, next_expiry, moment_of}
 use Rattle.sctp_tracker.specs.declared.data_tracker.AckState.{AckState}
 use Rattle.sctp_tracker.specs.declared.data_tracker.AckState.TheVariants.{Idle, Becoming, Delayed, Immediate}
-use Rattle.spec_endpoint.specs.Association.{Tcb, Phase, CookieEchoed, Established, ShutdownPending, ShutdownSent, ShutdownReceived, ShutdownAckSent, State, Closed, CookieWait, Open, Heartbeats, Packing, EndpointState, Endpoint, fresh}
-use Rattle.spec_endpoint.specs.Timers.{tcb_expiry, running_expiry, phase_expiry, timeout_in, poll_timeout}
-use Rattle.spec_endpoint.specs.Laws.{Call, called}
+use Rattle.spec_endpoint.specs.Association.{Tcb, CookieEchoed, Established, ShutdownPending, ShutdownSent, ShutdownReceived, ShutdownAckSent, State, Closed, CookieWait, Open, Heartbeats, Packing, EndpointState, fresh}
+use Rattle.spec_endpoint.specs.Timers.{running_expiry, timeout_in}
 use Rattle.proof_awake.specs.Awake.{Runs, is_none, is_delayed, AckIsTimed, BeatsOn, BlockIsAwake, StateIsAwake, IsAwake}
-use Rattle.proof_awake.specs.Invariant.{HasTimes, BlockHolds, ContextHolds, StateHolds, IsTimed}
-use Rattle.proof_awake.specs.Laws.{NewEndsAreTimed, EachCallKeepsTimed, TimedEndsAreAwake, IsInTime, BlockIsInTime, StateIsInTime, IsQuiet, StateIsQuiet, OnlyQuietEndsNameNoMoment}
+use Rattle.proof_awake.specs.Invariant.{HasTimes, StateHolds, IsTimed}
+use Rattle.proof_awake.specs.Laws.{EachCallKeepsTimed, IsInTime, StateIsInTime, StateIsQuiet, OnlyQuietEndsNameNoMoment}
 use Rattle.proof_awake.proofs.BlockLemmas.{block_awake}
 use Rattle.proof_awake.proofs.InputRowLemmas.{each_call}
 

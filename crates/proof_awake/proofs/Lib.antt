@@ -10,3 +10,4 @@ pub mod InputRowLemmas
 pub mod LawLemmas
 pub mod WorldLemmas
 pub mod LeftBehindLemmas
+pub mod LineLemmas

@@ -1,27 +1,22 @@
 -- Rows that open an association: its timers run from the first on.
-use Rattle.std.proofs.Common.{◌≡◌, ℕ, ◌≤◌, inl, inr, Bool, true, false, Option, Some, None, Result, Ok, Err, List, [], ◌∷◌, codes, refl, arith}
-use Rattle.std.specs.Prelude.{◌==◌, min, not}
-use Rattle.sctp_wire.specs.Parameter.{ParameterTree}
+use Rattle.std.proofs.Common.{ℕ, Bool, true, false, Option, Some, None, Result, Ok, Err, List, [], ◌∷◌, codes}
+use Rattle.std.specs.Prelude.{min, not}
 use Rattle.sctp_wire.specs.Cause.{missing_mandatory_parameter}
 use Rattle.sctp_packet.specs.Chunk.{InitTree, abort_chunk, cookie_ack_chunk}
-use Rattle.sctp_state.specs.Options.{Options}
-use Rattle.sctp_state.specs.declared.api.ErrorKind.TheVariants.{ProtocolViolation, ParseFailed}
+use Rattle.sctp_state.specs.declared.api.ErrorKind.TheVariants.{ProtocolViolation}
 use Rattle.sctp_state.specs.declared.timer.BackoffAlgorithm.TheVariants.{Exponential}
-use Rattle.sctp_state.specs.Timer.{Timer, timer, start}
-use Rattle.sctp_state.specs.Events.{OnAborted, OnConnected, OnConnectionRestarted}
+use Rattle.sctp_state.specs.Timer.{timer}
+use Rattle.sctp_state.specs.Events.{OnAborted, OnConnectionRestarted}
 use Rattle.sctp_capabilities.specs.declared.state_cookie.StateCookieError.{StateCookieError}
 use Rattle.sctp_capabilities.specs.Capabilities.{negotiate, zero_checksum_enabled}
 use Rattle.sctp_capabilities.specs.StateCookie.{Cookie, read_cookie}
-use Rattle.spec_endpoint.specs.Association.{Identity, Tcb, tcb, Phase, CookieEchoed, Established, ShutdownPending, ShutdownSent, ShutdownReceived, ShutdownAckSent, State, Closed, CookieWait, Open, Heartbeats, Context, EndpointState, Endpoint}
-use Rattle.spec_endpoint.specs.Packets.{PacketDraft, add, packet_to, new_packet, round_down_to_4, emit_event_in, emit}
-use Rattle.spec_endpoint.specs.Heartbeats.{restart_interval}
-use Rattle.spec_endpoint.specs.Sending.{AfterSending, open_with, send_cookie}
-use Rattle.spec_endpoint.specs.Opening.{waiting, start_connecting, connect_in, answers, on_init_open, on_init_in, without_cookie, queue_anew, agreed_by, maker, echo, identity_of_init_ack, echo_or_abort, cookie_in, long_word, on_init_ack_in, enter_connected, establish, on_cookie_ack, CookieResolution, EstablishNew, RestartDetected, SimultaneousInit, MaintainExisting, Discard, InvalidTag, resolve_cookie, cookie_ack, tcb_by, queue_for, identity_of, anew, maintain_existing, maintain_existing_in, restarts_in, restart, on_resolution, on_read_cookie, on_cookie_echo}
-use Rattle.proof_awake.specs.Awake.{Runs}
+use Rattle.spec_endpoint.specs.Association.{Identity, Tcb, tcb, Phase, CookieEchoed, Established, ShutdownPending, ShutdownSent, ShutdownReceived, ShutdownAckSent, State, Closed, CookieWait, Open, Context, Endpoint}
+use Rattle.spec_endpoint.specs.Packets.{PacketDraft, add, packet_to, round_down_to_4, emit_event_in, emit}
+use Rattle.spec_endpoint.specs.Opening.{waiting, connect_in, answers, on_init_open, on_init_in, queue_anew, agreed_by, maker, echo, echo_or_abort, cookie_in, on_init_ack_in, enter_connected, on_cookie_ack, CookieResolution, EstablishNew, RestartDetected, SimultaneousInit, MaintainExisting, Discard, InvalidTag, resolve_cookie, cookie_ack, tcb_by, queue_for, identity_of, anew, maintain_existing, maintain_existing_in, restarts_in, on_resolution, on_read_cookie, on_cookie_echo}
 use Rattle.proof_awake.specs.Invariant.{is_established, StateHolds}
 use Rattle.proof_awake.proofs.TimerLemmas.{started}
 use Rattle.proof_awake.proofs.BlockLemmas.{new_block}
-use Rattle.proof_awake.proofs.SendingRowLemmas.{quieter, interval_started, Beside, goes_out, chunk_goes_out, Holds, Left, sends_with, sends_buffered, cookie_goes}
+use Rattle.proof_awake.proofs.SendingRowLemmas.{quieter, interval_started, Beside, goes_out, Holds, Left, sends_with, sends_buffered, cookie_goes}
 use Rattle.proof_awake.proofs.RowLemmas.{Going, EndHolds, closes}
 
 module _ {P : Type 0} where

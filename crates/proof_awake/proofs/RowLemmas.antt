@@ -1,35 +1,31 @@
 -- Rows that an end goes through with a control block: its timers run after each where they ran before.
-use Rattle.std.proofs.Common.{◌≡◌, ℕ, ◌≤◌, inl, inr, Bool, true, false, Option, Some, None, List, [], ◌∷◌, ◌++◌, length, codes, refl, sym, ap, subst, arith}
-use Rattle.std.specs.Prelude.{◌==◌, ◌&&◌, ◌||◌, nat_lt}
-use Rattle.sctp_serial.specs.declared.api.StreamId.{StreamId}
-use Rattle.sctp_wire.specs.Parameter.{ParameterTree, outgoing_reset_request, incoming_reset_request, reset_response}
-use Rattle.sctp_packet.specs.Chunk.{ChunkTree, FragmentTree, SackTree, re_config_chunk, abort_chunk, shutdown_complete_chunk}
+use Rattle.std.proofs.Common.{◌≡◌, ℕ, Bool, true, false, Option, None, List, [], ◌∷◌, length, refl, arith}
+use Rattle.std.specs.Prelude.{◌==◌, nat_lt}
+use Rattle.sctp_packet.specs.Chunk.{ChunkTree, FragmentTree, SackTree, abort_chunk, shutdown_complete_chunk}
 use Rattle.sctp_wire.specs.Cause.{CauseTree}
 use Rattle.sctp_chunk.specs.declared.forward_tsn.SkippedStream.{SkippedStream}
 use Rattle.sctp_chunk.specs.declared.sack.GapAckBlock.{GapAckBlock}
-use Rattle.sctp_state.specs.Options.{Options}
 use Rattle.sctp_state.specs.Events.{Event, OnClosed}
 use Rattle.sctp_state.specs.RetransmissionTimeout.{rto}
 use Rattle.sctp_state.specs.declared.timer.BackoffAlgorithm.TheVariants.{Exponential}
 use Rattle.sctp_state.specs.Timer.{Timer, timer, start, set_duration}
-use Rattle.sctp_tracker.specs.DataTracker.{Tracker, number_of, is_valid, observe, forward}
+use Rattle.sctp_tracker.specs.DataTracker.{Tracker, number_of, is_valid}
 use Rattle.sctp_reassembly.specs.ReassemblyQueue.{Reassembly}
 use Rattle.sctp_tx_outstanding.specs.Sack as sack
-use Rattle.sctp_tx_outstanding.specs.OutstandingData.{Items}
-use Rattle.sctp_tx.specs.RetransmissionQueue.{Sender, SackAnswer, Invalid, Valid, nothing_in_flight, answer_if, sender_if, emitted_if}
-use Rattle.spec_endpoint.specs.Association.{Tcb, Phase, CookieEchoed, Established, ShutdownPending, ShutdownSent, ShutdownReceived, ShutdownAckSent, State, Closed, CookieWait, Open, Heartbeats, Context, EndpointState, open_as, where_open}
-use Rattle.spec_endpoint.specs.Packets.{PacketDraft, add, packet_to, emit_event_in, emit_chunk}
-use Rattle.spec_endpoint.specs.Sending.{AfterSending, is_before_cookie_ack, open_with, send_buffered, send_lost, send_in}
-use Rattle.spec_endpoint.specs.Shutdown.{close_with, over, t2_shutdown, PhaseStep, phase_step, pending_next, received_next, maybe_send_shutdown_or_ack, shutdown_in_phase, open_phase_step, shutdown_in, shut_by_peer, on_shutdown, on_shutdown_ack_open, on_shutdown_ack_in, on_shutdown_complete, abort, close_in}
-use Rattle.spec_endpoint.specs.Data.{fragment_if, take_fragment, accepts_tsn, handle_forward_tsn, handle_forward_tsn_if, accepts_point, on_no_data, on_data_in, on_data_if, on_data, on_forward}
-use Rattle.spec_endpoint.specs.Sack.{clean_blocks, sample_rtt, clear_errors_if, send_after, send_after_sack, after_sack, on_clean_sack, on_sack_in, on_sack}
-use Rattle.proof_awake.specs.Awake.{Runs, BeatsOn, is_none}
+use Rattle.sctp_tx.specs.RetransmissionQueue.{Sender, nothing_in_flight, answer_if, sender_if, emitted_if}
+use Rattle.spec_endpoint.specs.Association.{Tcb, Phase, CookieEchoed, Established, ShutdownPending, ShutdownSent, ShutdownReceived, ShutdownAckSent, State, Closed, CookieWait, Open, Context, EndpointState, where_open}
+use Rattle.spec_endpoint.specs.Packets.{add, packet_to, emit_chunk}
+use Rattle.spec_endpoint.specs.Sending.{AfterSending, is_before_cookie_ack, send_lost, send_in}
+use Rattle.spec_endpoint.specs.Shutdown.{close_with, PhaseStep, pending_next, received_next, maybe_send_shutdown_or_ack, shutdown_in_phase, shutdown_in, shut_by_peer, on_shutdown, on_shutdown_ack_open, on_shutdown_ack_in, on_shutdown_complete, abort, close_in}
+use Rattle.spec_endpoint.specs.Data.{fragment_if, accepts_tsn, handle_forward_tsn_if, accepts_point, on_no_data, on_data_in, on_data_if, on_data, on_forward}
+use Rattle.spec_endpoint.specs.Sack.{clean_blocks, sample_rtt, clear_errors_if, send_after_sack, after_sack, on_sack_in}
+use Rattle.proof_awake.specs.Awake.{Runs}
 use Rattle.proof_awake.specs.Invariant.{TrackerHolds, BlockHolds, is_established, waits, PhaseRuns, OpenHolds, StateHolds}
 use Rattle.proof_awake.proofs.TimerLemmas.{started}
 use Rattle.proof_awake.proofs.ItemsLemmas.{some_flight}
 use Rattle.proof_awake.proofs.SenderLemmas.{sack_holds}
-use Rattle.proof_awake.proofs.BlockLemmas.{rto_least, observed_holds, forward_holds, with_sender, with_tracker, sampled_holds}
-use Rattle.proof_awake.proofs.SendingRowLemmas.{quieter, Beside, goes_out, chunk_goes_out, Holds, Left, sends_buffered, lost_goes}
+use Rattle.proof_awake.proofs.BlockLemmas.{rto_least, observed_holds, forward_holds, with_sender, sampled_holds}
+use Rattle.proof_awake.proofs.SendingRowLemmas.{quieter, Beside, goes_out, chunk_goes_out, sends_buffered, lost_goes}
 
 -- ---- states
 

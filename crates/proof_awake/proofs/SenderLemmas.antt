@@ -1,6 +1,6 @@
 -- Where an item is kept T3-rtx runs: what each operation of a sender leaves.
-use Rattle.std.proofs.Common.{◌≡◌, ℕ, zero, suc, ◌+◌, ◌≤◌, ◌⊎◌, inl, inr, Bool, true, false, cond, Option, Some, None, List, [], ◌∷◌, ◌++◌, length, refl, sym, ap, subst, ◌∙◌, arith}
-use Rattle.std.specs.Prelude.{◌==◌, ◌||◌, ◌&&◌, nat_lt, not, is_some, drop}
+use Rattle.std.proofs.Common.{◌≡◌, ℕ, zero, suc, ◌+◌, ◌≤◌, inl, inr, Bool, true, false, cond, Option, Some, None, List, [], ◌∷◌, ◌++◌, length, refl, sym, ap, subst, ◌∙◌, arith}
+use Rattle.std.specs.Prelude.{◌==◌, ◌||◌, ◌&&◌, nat_lt, not, drop}
 use Rattle.std.specs.List.{sum_by}
 use Rattle.std.proofs.lemmas.List.{length-append}
 use Rattle.std.proofs.lemmas.List.Sums.{sum_by-append}
@@ -8,24 +8,24 @@ use Rattle.std.proofs.lemmas.Bool.Decides.{nat_tests}
 use Rattle.sctp_chunk.specs.Chunk.{FragmentTree}
 use Rattle.sctp_chunk.specs.declared.sack.GapAckBlock.{GapAckBlock}
 use Rattle.sctp_state.specs.Events.{Emitted}
-use Rattle.sctp_state.specs.Timer.{Timer, start, stop, is_running, expire, set_duration}
+use Rattle.sctp_state.specs.Timer.{Timer, start, is_running, expire, set_duration}
 use Rattle.sctp_tx_outstanding.specs.Item.{Item}
-use Rattle.sctp_tx_outstanding.specs.OutstandingData.{Items, flight_items, flight_part}
-use Rattle.sctp_tx_outstanding.specs.Losses.{Step, nack_all}
+use Rattle.sctp_tx_outstanding.specs.OutstandingData.{Items, flight_part}
+use Rattle.sctp_tx_outstanding.specs.Losses.{nack_all}
 use Rattle.sctp_tx_outstanding.specs.Resending.{Resent}
 use Rattle.sctp_tx_outstanding.specs.Sack.{leaving, staying, reported_below, receive_sack_first, ack_or_uncover_all}
 use Rattle.sctp_tx_queue.specs.SendQueue.{Queue}
 use Rattle.sctp_tx_queue.specs.Produced.{Produced, Turn, produce}
 use Rattle.sctp_tx_queue.specs.Settings.{Changed}
 use Rattle.sctp_tx.specs.Windows.{is_open}
-use Rattle.sctp_tx.specs.RetransmissionQueue.{Sender, kept_running, nothing_in_flight, restart_or_stop, t3_after_sack, step_of, handle_sack, sender_if, timed_out_sender}
-use Rattle.sctp_tx.specs.Resent.{may_send_new, resent, resent_fast, resent_by, start_t3_if, start_t3_if_sent, send_fast}
+use Rattle.sctp_tx.specs.RetransmissionQueue.{Sender, kept_running, nothing_in_flight, restart_or_stop, t3_after_sack, step_of, sender_if, timed_out_sender}
+use Rattle.sctp_tx.specs.Resent.{may_send_new, resent, resent_fast, resent_by, start_t3_if, send_fast}
 use Rattle.sctp_tx.specs.ForwardPoints.{abandon_expired}
 use Rattle.sctp_tx.specs.Sending.{Filling, QueueStep, item_of, append, offered_payload, queue_step_if, next_turn, fill, discard_all, without_discards, filled_with, timed_filling, send}
 use Rattle.proof_awake.specs.Awake.{Runs, is_none, ItemsAreTimed}
 use Rattle.proof_awake.specs.Invariant.{Lasts, HasItems, SenderHolds}
 use Rattle.proof_awake.proofs.TimerLemmas.{started, goes_on, lasts_started, lasts_stopped, lasts_set, lasts_on}
-use Rattle.proof_awake.proofs.ItemsLemmas.{Alike, is_no_item, none_below, none_lost, none_expired, none_resent, some_flight}
+use Rattle.proof_awake.proofs.ItemsLemmas.{Alike, is_no_item, none_below, none_lost, none_expired, none_resent}
 
 pub has_alike : (b : Bool) (before after : List Item) → Alike before after → HasItems b before → HasItems b after
 has_alike true before after e h = e ∙ h
@@ -151,7 +151,7 @@ starts_on : (b : Bool) (now : ℕ) (s : Sender) → Runs s.t3 → Runs (start_t3
 starts_on true now s r = kept_on (nothing_in_flight s.outstanding.items) now s.t3 r
 starts_on false now s r = r
 
-starts_same : (b : Bool) (now : ℕ) (s : Sender) → (start_t3_if b now s).outstanding.items.kept ≡ s.outstanding.items.kept
+pub starts_same : (b : Bool) (now : ℕ) (s : Sender) → (start_t3_if b now s).outstanding.items.kept ≡ s.outstanding.items.kept
 starts_same true now s = refl
 starts_same false now s = refl
 
@@ -188,7 +188,7 @@ some_chunk xs x = let l = length-append xs (x ∷ []) in subst (λ n. nat_lt 0 n
     positive : (n : ℕ) → nat_lt 0 (n + 1) ≡ true
     positive n = grind (arith, nat_tests)
 
-some_more : (is : List Item) (i : Item) → is_none (is ++ i ∷ []) ≡ false
+pub some_more : (is : List Item) (i : Item) → is_none (is ++ i ∷ []) ≡ false
 some_more [] i = refl
 some_more (j ∷ is) i = refl
 

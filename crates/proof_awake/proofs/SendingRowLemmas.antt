@@ -1,5 +1,5 @@
 -- What a sending leaves: timers of items, requests and heartbeats that run.
-use Rattle.std.proofs.Common.{◌≡◌, ℕ, zero, suc, ◌≤◌, inl, inr, Bool, true, false, Option, Some, None, List, [], ◌∷◌, length, refl, arith}
+use Rattle.std.proofs.Common.{ℕ, zero, suc, Bool, true, false, List, [], ◌∷◌, length, arith}
 use Rattle.std.specs.Prelude.{◌==◌, not, nat_lt, nat_le, is_some}
 use Rattle.sctp_packet.specs.Chunk.{ChunkTree, cookie_echo_chunk}
 use Rattle.sctp_state.specs.Options.{Options}
@@ -15,11 +15,10 @@ use Rattle.sctp_tx.specs.Resent.{send_fast}
 use Rattle.sctp_tx.specs.ForwardPoints.{abandon_expired, forward_chunk}
 use Rattle.sctp_tx.specs.Sending as fragments
 use Rattle.sctp_tx.specs.Sending.{send}
-use Rattle.spec_endpoint.specs.Association.{Tcb, Phase, CookieEchoed, Established, ShutdownPending, ShutdownSent, ShutdownReceived, ShutdownAckSent, State, Closed, CookieWait, Open, Heartbeats, Context, EndpointState}
+use Rattle.spec_endpoint.specs.Association.{Tcb, Heartbeats, Context}
 use Rattle.spec_endpoint.specs.Packets.{PacketDraft, room, fits, add, packet_to, new_packet, has_chunks, emit_if, emit, emit_chunk}
 use Rattle.spec_endpoint.specs.Heartbeats.{restart_interval_if}
-use Rattle.spec_endpoint.specs.Sending.{Filling, take_due_ack, without_duplicates, ack_if, has_data_to_send, with_ack, forward_added_if, forward_if, with_expired_abandoned, forward_if_time, with_forward, most_streams, last_assigned, add_reset_breakpoint, request_started, request_of, request_at_most, request_if, with_request, with_fragments, with_data, filled_as, emit_packet, BurstStep, burst_step_if, next_packet, continue_burst, burst, AfterSending, send_with, send_buffered, cookie_if, send_cookie, fast_most, fast_packet, fast_if, send_lost}
-use Rattle.proof_awake.specs.Awake.{Runs, BeatsOn, is_none}
+use Rattle.spec_endpoint.specs.Sending.{Filling, take_due_ack, ack_if, has_data_to_send, with_ack, forward_added_if, forward_if, with_expired_abandoned, forward_if_time, with_forward, most_streams, last_assigned, add_reset_breakpoint, request_started, request_of, request_if, with_request, with_data, filled_as, BurstStep, burst_step_if, next_packet, continue_burst, burst, AfterSending, send_with, send_buffered, cookie_if, send_cookie, fast_most, fast_packet, fast_if, send_lost}
 use Rattle.proof_awake.specs.Invariant.{BlockHolds, Beats, ContextHolds, waits}
 use Rattle.proof_awake.proofs.TimerLemmas.{beats_on}
 use Rattle.proof_awake.proofs.SenderLemmas.{expired_holds, fast_holds, send_holds}
@@ -112,9 +111,10 @@ module _ {P : Type 0} where
 
     takes_data : (x : Filling P) → Fine x → Fine (with_data x)
     takes_data x h =
-        let f : fragments.Filling P = send x.context.now (room x.packet) x.tcb.sender x.context.queue x.context.emitted in
-        (interval_if beats (not (length f.chunks == 0)) x.context.now x.context.options x.context.heartbeats h.0,
-        with_sender waits waits x.tcb f.sender (send_holds x.tcb.sender waits x.context.now (room x.packet) x.context.queue x.context.emitted h.1.sender) h.1)
+        let f : fragments.Filling P = send x.context.now (room x.packet) x.tcb.sender x.context.queue x.context.emitted in (
+          interval_if beats (not (length f.chunks == 0)) x.context.now x.context.options x.context.heartbeats h.0,
+          with_sender waits waits x.tcb f.sender (send_holds x.tcb.sender waits x.context.now (room x.packet) x.context.queue x.context.emitted h.1.sender) h.1,
+        )
 
     fills : (is_first : Bool) (x : Filling P) → Fine x → Fine (filled_as is_first x)
     fills true x h =
@@ -154,9 +154,10 @@ module _ {P : Type 0} where
     cookie_goes cookie t c h = cookie_goes_if (fits (packet_to t.identity.peer_tag c.options.mtu) (cookie_echo_chunk cookie)) cookie t c h
 
     fast_goes_if : (b : Bool) (t : Tcb) (c : Context P) → Holds t c → Left (fast_if b t c)
-    fast_goes_if true t c h =
-        (goes_out beats (fast_packet c.options t) c h.0,
-        with_sender waits waits t (send_fast c.now (fast_most c.options) t.sender) (fast_holds waits c.now (fast_most c.options) t.sender h.1.sender) h.1)
+    fast_goes_if true t c h = (
+      goes_out beats (fast_packet c.options t) c h.0,
+      with_sender waits waits t (send_fast c.now (fast_most c.options) t.sender) (fast_holds waits c.now (fast_most c.options) t.sender h.1.sender) h.1,
+    )
     fast_goes_if false t c h = h
 
     pub lost_goes : (t : Tcb) (c : Context P) → Holds t c → Left (send_lost t c)

@@ -1,10 +1,10 @@
 -- What becomes of a timer that runs.
-use Rattle.std.proofs.Common.{◌≡◌, ℕ, suc, ◌+◌, ◌≤◌, ◌<◌, ◌⊎◌, inl, inr, Bool, true, false, cond, Option, Some, None, refl, sym, ap, subst, ◌∙◌, arith}
+use Rattle.std.proofs.Common.{◌≡◌, ℕ, ◌≤◌, inl, inr, Bool, true, false, cond, Option, Some, None, refl, sym, ap, subst, ◌∙◌, arith}
 use Rattle.std.specs.Prelude.{◌==◌, is_some}
 use Rattle.std.proofs.lemmas.Bool.Decides.{nat_tests}
 use Rattle.sctp_serial.specs.Time.{later}
 use Rattle.sctp_state.specs.Numbers.{more}
-use Rattle.sctp_state.specs.Timer.{Timer, start, stop, set_duration, is_running, is_due, expire, expire_once, next_due, is_last_expiry, backoff}
+use Rattle.sctp_state.specs.Timer.{Timer, start, stop, set_duration, is_due, expire, expire_once, next_due, is_last_expiry, backoff}
 use Rattle.proof_awake.specs.Awake.{Runs, BeatsOn}
 use Rattle.proof_awake.specs.Invariant.{Lasts}
 

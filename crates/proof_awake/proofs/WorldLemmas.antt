@@ -1,5 +1,5 @@
 -- Each end of a world is awake: each event is a call of one end, or a packet that it takes.
-use Rattle.std.proofs.Common.{◌≡◌, ℕ, Bool, false, List, [], ◌∷◌, refl, sym, subst}
+use Rattle.std.proofs.Common.{◌≡◌, ℕ, false, List, [], ◌∷◌, refl, sym, subst}
 use Rattle.rand_core.specs.Stream.{Stream}
 use Rattle.sctp_state.specs.Options.{Options, IsValid}
 use Rattle.spec_endpoint.specs.Association.{Endpoint}
@@ -7,10 +7,10 @@ use Rattle.spec_endpoint.specs.Laws.{Advance, ReceivePacket, ReceiveNoPacket}
 use Rattle.spec_endpoint.specs.Wire.{writing}
 use Rattle.spec_endpoint.specs.Receiving.{Receives, read, not_read}
 use Rattle.spec_world.specs.Observations.{End, A, B, Call, Connect, Shutdown, Close, Send, SendMany, TakeMessage, Reset, SetPriority, SetMaxMessageSize, SetLowThreshold, HandOver, Entry}
-use Rattle.spec_world.specs.World.{Side, World, Action, CallOf, Give, GiveForeign, AdvanceTime, table_call, call_entry, after_call, time_entry, after_time, take_emitted, side_of, other, record_news, TakesBytes, Gives, MeetsForeignAt, given, withheld, MeetsForeign, Happens, Runs, fresh_world}
-use Rattle.proof_awake.specs.Awake.{is_restore, IsAwake}
+use Rattle.spec_world.specs.World.{Side, World, Action, CallOf, Give, GiveForeign, AdvanceTime, table_call, call_entry, after_call, time_entry, after_time, side_of, other, record_news, TakesBytes, MeetsForeignAt, given, withheld, Happens, Runs, fresh_world}
+use Rattle.proof_awake.specs.Awake.{is_restore}
 use Rattle.proof_awake.specs.Invariant.{IsTimed}
-use Rattle.proof_awake.specs.Worlds.{EndsAreAwake, WorldsAreAwake}
+use Rattle.proof_awake.specs.Worlds.{WorldsAreAwake}
 use Rattle.proof_awake.proofs.InputRowLemmas.{each_call}
 use Rattle.proof_awake.proofs.LawLemmas.{new_ends, awake}
 

@@ -7,7 +7,7 @@ use Rattle.sctp_tracker.specs.declared.data_tracker.AckState.{AckState}
 use Rattle.sctp_tracker.specs.DataTracker.{Tracker}
 use Rattle.sctp_tx_outstanding.specs.Item.{Item}
 use Rattle.sctp_tx.specs.RetransmissionQueue.{Sender}
-use Rattle.spec_endpoint.specs.Association.{Tcb, Phase, CookieEchoed, Established, ShutdownPending, ShutdownSent, ShutdownReceived, ShutdownAckSent, State, Closed, CookieWait, Open, Heartbeats, EndpointState, Endpoint}
+use Rattle.spec_endpoint.specs.Association.{Tcb, Phase, CookieEchoed, Established, ShutdownPending, ShutdownSent, ShutdownReceived, ShutdownAckSent, State, Closed, CookieWait, Open, Heartbeats, EndpointState}
 use Rattle.spec_endpoint.specs.ResetRequests.{Requests}
 use Rattle.proof_awake.specs.Awake.{Runs, is_none, ItemsAreTimed, RequestIsTimed, AckIsTimed, BeatsOn}
 

@@ -1,5 +1,5 @@
 -- Progress, as laws of the table: between calls an end that owes something has a timer that runs.
-use Rattle.std.specs.Prelude.{◌≡◌, ℕ, ◌<◌, ◌==◌, Bool, true, false, Option, Some, None, List}
+use Rattle.std.specs.Prelude.{◌≡◌, ℕ, ◌<◌, ◌==◌, true, false, Some, None, List}
 use Rattle.rand_core.specs.Stream.{Stream}
 use Rattle.sctp_serial.specs.Time.{forever}
 use Rattle.sctp_state.specs.Options.{Options, IsValid}

@@ -1,9 +1,9 @@
 -- What is queued may wait for a reset of an association that is over: a closed end to which a cookie comes back keeps its queue, and with it
 -- the streams that waited for an answer.
-use Rattle.std.specs.Prelude.{◌≡◌, Bool, true, false, Some, None, List, [], ◌∷◌, ◌++◌, length}
+use Rattle.std.specs.Prelude.{◌≡◌, true, false, None, List, [], ◌∷◌, ◌++◌}
 use Rattle.sctp_state.specs.Options.{plainly}
 use Rattle.sctp_tx_queue.specs.SendQueue.{is_empty}
-use Rattle.spec_endpoint.specs.Association.{Tcb, Phase, Established, State, Closed, CookieWait, Open}
+use Rattle.spec_endpoint.specs.Association.{Established, State, Open}
 use Rattle.spec_endpoint.specs.Pair.{Move, Connect, Give, Send, Close, Reset, after_moves}
 use Rattle.spec_endpoint.specs.Rows.{message, opened}
 

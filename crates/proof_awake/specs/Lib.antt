@@ -3,3 +3,4 @@ pub mod Invariant
 pub mod Laws
 pub mod Worlds
 pub mod LeftBehind
+pub mod Line

@@ -3,6 +3,8 @@
 #![tactic(auto)]
 
 ghost use Rattle.proof_awake.specs.Laws.{EachCallKeepsTimed, NewEndsAreTimed, OnlyQuietEndsNameNoMoment, TimedEndsAreAwake};
+ghost use Rattle.proof_awake.specs.LeftBehind.{AResetIsLeftBehind};
+ghost use Rattle.proof_awake.specs.Line.{SendingsLeaveNoLine};
 ghost use Rattle.proof_awake.specs.Worlds.{WorldsAreAwake};
 
 /// A new end, with valid options, and what each call leaves of one is awake: where an item is kept T3-rtx runs; where a request to
@@ -24,4 +26,16 @@ pub fn only_quiet_ends_name_no_moment()
 /// Each end of a world is awake between events, whatever led it there.
 pub fn worlds_are_awake()
     ensures worlds { WorldsAreAwake }
+{}
+
+/// Not all that is queued waits for a request: in this conversation, computed, a stream waits for the answer to one of an association
+/// that is over. An end that answers a COOKIE ECHO without an association keeps its queue as it was.
+pub fn a_reset_is_left_behind()
+    ensures left { AResetIsLeftBehind }
+{}
+
+/// Once connected, a sending leaves no stream in line where it leaves no item kept: with bursts of two packets at least, since the first
+/// one may be full of a request to reset streams.
+pub fn sendings_leave_no_line()
+    ensures line { SendingsLeaveNoLine }
 {}
