@@ -3,7 +3,7 @@
 #![tactic(auto)]
 
 ghost use Rattle.proof_awake.specs.Laws.{EachCallKeepsTimed, NewEndsAreTimed, OnlyQuietEndsNameNoMoment, TimedEndsAreAwake};
-ghost use Rattle.proof_awake.specs.LeftBehind.{AResetIsLeftBehind};
+ghost use Rattle.proof_awake.specs.LeftBehind.{ALineIsLeft, AResetIsLeftBehind};
 ghost use Rattle.proof_awake.specs.Line.{SendingsLeaveNoLine};
 ghost use Rattle.proof_awake.specs.Worlds.{WorldsAreAwake};
 
@@ -29,9 +29,11 @@ pub fn worlds_are_awake()
 {}
 
 /// Not all that is queued waits for a request: in this conversation, computed, a stream waits for the answer to one of an association
-/// that is over. An end that answers a COOKIE ECHO without an association keeps its queue as it was.
+/// that is over. An end that answers a COOKIE ECHO without an association keeps its queue as it was. And not all that is in line is sent:
+/// a RE-CONFIG with two requests for outgoing streams ends without a sending, even where its answer has put a stream in line.
 pub fn a_reset_is_left_behind()
     ensures left { AResetIsLeftBehind }
+    ensures line { ALineIsLeft }
 {}
 
 /// Once connected, a sending leaves no stream in line where it leaves no item kept: with bursts of two packets at least, since the first
