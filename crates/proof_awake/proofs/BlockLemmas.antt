@@ -13,8 +13,9 @@ use Rattle.spec_endpoint.specs.Association.{Identity, Tcb, tcb}
 use Rattle.spec_endpoint.specs.ResetRequests.{Request, Requests, requests, start_request, lasting, without_deferral, clear_deferral, expire_reconfig_timer, is_final, end_or_defer, response_if, handle_response_in, handle_response, set_last_request}
 use Rattle.spec_endpoint.specs.Sack.{sample_rtt}
 use Rattle.proof_awake.specs.Awake.{AckIsTimed, RequestIsTimed, BlockIsAwake}
-use Rattle.proof_awake.specs.Invariant.{HasTimes, SenderHolds, RttHolds, AckHolds, TrackerHolds, RequestsHold, BlockHolds}
+use Rattle.proof_awake.specs.Invariant.{HasLimits, SenderHolds, RttHolds, AckHolds, TrackerHolds, RequestsHold, BlockHolds}
 use Rattle.proof_awake.proofs.TimerLemmas.{started, goes_on, lasts_started, lasts_stopped, lasts_set, lasts_on, expire_duration}
+use Rattle.proof_awake.proofs.RoomLemmas.{new_room}
 use Rattle.proof_awake.proofs.SenderLemmas.{timed_holds}
 
 -- ---- round trips
@@ -149,12 +150,12 @@ sampled_holds b (Some sample) t h =
       rtt = k;
     }
 
-pub new_block : (o : Options) (i : Identity) (a_rwnd : ℕ) (k : Capabilities) → HasTimes o → BlockHolds false (tcb o i a_rwnd k)
+pub new_block : (o : Options) (i : Identity) (a_rwnd : ℕ) (k : Capabilities) → HasLimits o → BlockHolds false (tcb o i a_rwnd k)
 new_block o i a_rwnd k h =
     let two = h.rto_initial in
     let one : 1 ≤ o.rto_initial = omega (arith, two) in
     record {
-      sender = record { lasts = record { restarts = refl; duration = one }; timed = inl refl; some = tt };
+      sender = record { lasts = record { restarts = refl; duration = one }; timed = inl refl; some = tt; windows = new_room o a_rwnd h };
       requests = record { lasts = record { restarts = refl; duration = one }; timed = inl refl };
       tracker = record { duration = delay_least o.rto_initial o.delayed_ack_max_timeout h.rto_initial h.delayed_ack; most_delay = h.delayed_ack; timed = tt };
       rtt = record { range = h.rto_range; least = h.rto_min; initial = h.rto_initial };

@@ -22,7 +22,7 @@ use Rattle.spec_endpoint.specs.Handover.{left_in, left_if, readiness}
 use Rattle.spec_endpoint.specs.Input.{packet_refusal, report_unrecognized_in, on_unknown_if, emit_unknown_chunk_error, is_reported, on_heartbeat, on_chunk, AfterChunk, violation, received_if, receive, receive_rest, receive_all, has_data_chunk, repeats, repeats_if, in_endpoint_state, ack_if_due, at_end, on_packet_end, count_packet_at, packet_if, on_packet}
 use Rattle.spec_endpoint.specs.Laws.{Call, Connect, Close, Shutdown, Send, SendMany, ResetStreams, TakeMessage, SetLowThreshold, SetPriority, SetMaxMessageSize, Advance, HandOver, Restore, ReceivePacket, ReceiveNoPacket, called}
 use Rattle.proof_awake.specs.Awake.{is_restore}
-use Rattle.proof_awake.specs.Invariant.{HasTimes, BlockHolds, is_established, waits, StateHolds}
+use Rattle.proof_awake.specs.Invariant.{HasLimits, BlockHolds, is_established, waits, StateHolds}
 use Rattle.proof_awake.proofs.BlockLemmas.{taken_holds, ended_holds, with_tracker}
 use Rattle.proof_awake.proofs.SendingRowLemmas.{Beside, chunk_goes_out, sends_with}
 use Rattle.proof_awake.proofs.RowLemmas.{t2_runs_again, Going, EndHolds, where_open_holds, closes, shutdown_holds, on_shutdown_holds, on_shutdown_ack_holds, on_complete_holds, abort_holds, close_holds, on_data_holds, on_forward_holds, on_sack_holds}
@@ -159,8 +159,8 @@ module _ {P : Type 0} where
   sized_beside : (n : ℕ) (b : Bool) (c : Context P) → Beside b c → Beside b (set_max_message_size n c)
   sized_beside n b c h = record { options = times h.options; restarts = h.restarts; interval = h.interval }
     where
-      times : HasTimes c.options → HasTimes (set_max_message_size n c).options
-      times k = record { rto_range = k.rto_range; rto_min = k.rto_min; rto_initial = k.rto_initial; t1_init = k.t1_init; t1_cookie = k.t1_cookie; delayed_ack = k.delayed_ack }
+      times : HasLimits c.options → HasLimits (set_max_message_size n c).options
+      times k = record { rto_range = k.rto_range; rto_min = k.rto_min; rto_initial = k.rto_initial; t1_init = k.t1_init; t1_cookie = k.t1_cookie; delayed_ack = k.delayed_ack; mtu_least = k.mtu_least; mtu_most = k.mtu_most; cwnd_initial = k.cwnd_initial; cwnd_min = k.cwnd_min }
 
   sized : (n : ℕ) (s : State) (c : Context P) → Same s c → Same s (set_max_message_size n c)
   sized n Closed c h = sized_beside n false c h

@@ -10,12 +10,12 @@ use Rattle.sctp_tracker.specs.declared.data_tracker.AckState.TheVariants.{Idle, 
 use Rattle.spec_endpoint.specs.Association.{Tcb, CookieEchoed, Established, ShutdownPending, ShutdownSent, ShutdownReceived, ShutdownAckSent, State, Closed, CookieWait, Open, Heartbeats, Packing, EndpointState, fresh}
 use Rattle.spec_endpoint.specs.Timers.{running_expiry, timeout_in}
 use Rattle.proof_awake.specs.Awake.{Runs, is_none, is_delayed, AckIsTimed, BeatsOn, BlockIsAwake, StateIsAwake, IsAwake}
-use Rattle.proof_awake.specs.Invariant.{HasTimes, StateHolds, IsTimed}
+use Rattle.proof_awake.specs.Invariant.{HasLimits, StateHolds, IsTimed}
 use Rattle.proof_awake.specs.Laws.{EachCallKeepsTimed, IsInTime, StateIsInTime, StateIsQuiet, OnlyQuietEndsNameNoMoment}
 use Rattle.proof_awake.proofs.BlockLemmas.{block_awake}
 use Rattle.proof_awake.proofs.InputRowLemmas.{each_call}
 
-pub valid_times : (o : Options) → IsValid o → HasTimes o
+pub valid_times : (o : Options) → IsValid o → HasLimits o
 valid_times o h =
     let a = h.times.rto_min in
     let b = h.times.rto_initial in
@@ -29,6 +29,10 @@ valid_times o h =
       t1_init = omega (arith, c);
       t1_cookie = omega (arith, d);
       delayed_ack = omega (arith, e);
+      mtu_least = h.sizes.mtu_least;
+      mtu_most = h.sizes.mtu_most;
+      cwnd_initial = h.windows.initial_least;
+      cwnd_min = h.windows.min_least;
     }
 
 pub new_ends : {P : Type 0} (o : Options) (pack : Packing P) (draws : Stream) → IsValid o → IsTimed (fresh o pack draws).endpoint_state

@@ -1,5 +1,6 @@
 pub mod TimerLemmas
 pub mod ItemsLemmas
+pub mod RoomLemmas
 pub mod SenderLemmas
 pub mod BlockLemmas
 pub mod SendingRowLemmas

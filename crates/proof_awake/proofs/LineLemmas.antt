@@ -28,9 +28,11 @@ use Rattle.spec_endpoint.specs.Packets.{PacketDraft, room, fits, added_if, add, 
 use Rattle.spec_endpoint.specs.ResetRequests.{Request, request_chunk}
 use Rattle.spec_endpoint.specs.Sending.{Filling, ack_if, has_data_to_send, take_due_ack, with_ack, forward_added_if, forward_if, with_expired_abandoned, forward_if_time, with_forward, most_streams, add_request, request_of, request_if, with_request, data_chunks, is_small, with_data, emit_packet, burst_step_if, continue_burst, burst, send_with, selective_ack}
 use Rattle.proof_awake.specs.Awake.{is_none}
-use Rattle.proof_awake.specs.Line.{WindowsHaveRoom, IsNoneInLine}
+use Rattle.proof_awake.specs.Invariant.{WindowsHaveRoom}
+use Rattle.proof_awake.specs.Line.{IsNoneInLine}
 use Rattle.proof_awake.proofs.ItemsLemmas.{is_no_item, none_resent}
 use Rattle.proof_awake.proofs.SenderLemmas.{some_more, starts_same}
+use Rattle.proof_awake.proofs.RoomLemmas.{room_sent}
 
 -- ---- what a packet takes of the queue
 
@@ -121,44 +123,6 @@ module _ {P : Type 0} (now most : ℕ) (s : Sender) (q : Queue) (e : Emitted P) 
   pub data_done : is_none (kept_of (send now most s q e).sender) ≡ true → (send now most s q e).queue.scheduler.times ≡ []
   data_done h = done_by last (filled_by now (suc first.left) first (omega arith)) (is_none (kept_of first.sender)) refl (started_same (nat_lt 0 (length last.chunks)) h)
 
--- ---- windows stay
-
-abbrev SameRoom : Sender → Sender → Type 0
-SameRoom s u = WindowsHaveRoom s.windows → WindowsHaveRoom u.windows
-
-room_started : (b : Bool) (now : ℕ) (s : Sender) → WindowsHaveRoom s.windows → WindowsHaveRoom (start_t3_if b now s).windows
-room_started true now s h = h
-room_started false now s h = h
-
-module _ {P : Type 0} where
-  room_appended : (now : ℕ) (o : Option Produced) (x : fragments.Filling P) → WindowsHaveRoom x.sender.windows → WindowsHaveRoom (append now o x).sender.windows
-  room_appended now None x h = h
-  room_appended now (Some p) x h = h
-
-  room_turned : (b : Bool) (now : ℕ) (x : fragments.Filling P) → WindowsHaveRoom x.sender.windows → WindowsHaveRoom (queue_step_if b now x).filling.sender.windows
-  room_turned true now x h =
-      let y : Turn P = produce now (offered_payload x.left x.sender) x.queue x.emitted in
-      room_appended now y.made (record x { queue = y.queue; emitted = y.emitted }) h
-  room_turned false now x h = h
-
-  room_if : (b : Bool) (x y : fragments.Filling P) → WindowsHaveRoom x.sender.windows → WindowsHaveRoom y.sender.windows
-      → WindowsHaveRoom (let z : fragments.Filling P = cond b x y in z).sender.windows
-  room_if true x y h k = h
-  room_if false x y h k = k
-
-  room_filled : (n now : ℕ) (x : fragments.Filling P) → WindowsHaveRoom x.sender.windows → WindowsHaveRoom (fill n now x).sender.windows
-  room_filled zero now x h = h
-  room_filled (suc n) now x h =
-      let y : QueueStep P = next_turn now x in
-      let k : WindowsHaveRoom y.filling.sender.windows = room_turned (may_send_new x.sender && nat_lt 0 (offered_payload x.left x.sender)) now x h in
-      room_if y.is_more (fill n now y.filling) y.filling (room_filled n now y.filling k) k
-
-  room_sent : (now most : ℕ) (s : Sender) (q : Queue) (e : Emitted P) → WindowsHaveRoom s.windows → WindowsHaveRoom (send now most s q e).sender.windows
-  room_sent now most s q e h =
-      let x : fragments.Filling P = began most s q e in
-      let y : fragments.Filling P = fill (suc x.left) now x in
-      room_started (nat_lt 0 (length y.chunks)) now y.sender (room_filled (suc x.left) now x h)
-
 -- ---- packets
 
 limit_if : (b : Bool) (chunk : ChunkTree) (p : PacketDraft) → (added_if b chunk p).limit ≡ p.limit
@@ -199,6 +163,9 @@ room_empty p e l =
     omega (arith, r, l)
 
 -- ---- what goes into the first packet
+
+abbrev SameRoom : Sender → Sender → Type 0
+SameRoom s u = WindowsHaveRoom s.windows → WindowsHaveRoom u.windows
 
 limit_request : (o : Option Request) (p : PacketDraft) → (add_request o p).limit ≡ p.limit
 limit_request None p = refl

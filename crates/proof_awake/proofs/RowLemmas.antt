@@ -31,7 +31,7 @@ use Rattle.proof_awake.proofs.SendingRowLemmas.{quieter, Beside, goes_out, chunk
 
 pub emptier : (b : Bool) (t : Tcb) → BlockHolds b t → BlockHolds false t
 emptier b t h = record {
-  sender = record { lasts = h.sender.lasts; timed = h.sender.timed; some = tt };
+  sender = record { lasts = h.sender.lasts; timed = h.sender.timed; some = tt; windows = h.sender.windows };
   requests = h.requests;
   tracker = h.tracker;
   rtt = h.rtt;
@@ -39,7 +39,7 @@ emptier b t h = record {
 
 still_waits : (t : Tcb) → nothing_in_flight t.sender.outstanding.items ≡ false → BlockHolds false t → BlockHolds true t
 still_waits t e h = record {
-  sender = record { lasts = h.sender.lasts; timed = h.sender.timed; some = some_flight t.sender.outstanding.items e };
+  sender = record { lasts = h.sender.lasts; timed = h.sender.timed; some = some_flight t.sender.outstanding.items e; windows = h.sender.windows };
   requests = h.requests;
   tracker = h.tracker;
   rtt = h.rtt;

@@ -1,6 +1,6 @@
 -- Where an item is kept T3-rtx runs: what each operation of a sender leaves.
 use Rattle.std.proofs.Common.{◌≡◌, ℕ, zero, suc, ◌+◌, ◌≤◌, inl, inr, Bool, true, false, cond, Option, Some, None, List, [], ◌∷◌, ◌++◌, length, refl, sym, ap, subst, ◌∙◌, arith}
-use Rattle.std.specs.Prelude.{◌==◌, ◌||◌, ◌&&◌, nat_lt, not, drop}
+use Rattle.std.specs.Prelude.{◌-◌, ◌==◌, ◌||◌, ◌&&◌, nat_lt, not, drop}
 use Rattle.std.specs.List.{sum_by}
 use Rattle.std.proofs.lemmas.List.{length-append}
 use Rattle.std.proofs.lemmas.List.Sums.{sum_by-append}
@@ -10,21 +10,22 @@ use Rattle.sctp_chunk.specs.declared.sack.GapAckBlock.{GapAckBlock}
 use Rattle.sctp_state.specs.Events.{Emitted}
 use Rattle.sctp_state.specs.Timer.{Timer, start, is_running, expire, set_duration}
 use Rattle.sctp_tx_outstanding.specs.Item.{Item}
-use Rattle.sctp_tx_outstanding.specs.OutstandingData.{Items, flight_part}
+use Rattle.sctp_tx_outstanding.specs.OutstandingData.{Items, flight_part, flight_bytes, flight_payload, next_number}
 use Rattle.sctp_tx_outstanding.specs.Losses.{nack_all}
 use Rattle.sctp_tx_outstanding.specs.Resending.{Resent}
-use Rattle.sctp_tx_outstanding.specs.Sack.{leaving, staying, reported_below, receive_sack_first, ack_or_uncover_all}
+use Rattle.sctp_tx_outstanding.specs.Sack.{acked_bytes, leaving, staying, reported_below, receive_sack_first, ack_or_uncover_all}
 use Rattle.sctp_tx_queue.specs.SendQueue.{Queue}
 use Rattle.sctp_tx_queue.specs.Produced.{Produced, Turn, produce}
 use Rattle.sctp_tx_queue.specs.Settings.{Changed}
-use Rattle.sctp_tx.specs.Windows.{is_open}
+use Rattle.sctp_tx.specs.Windows.{is_open, saturate_u64}
 use Rattle.sctp_tx.specs.RetransmissionQueue.{Sender, kept_running, nothing_in_flight, restart_or_stop, t3_after_sack, step_of, sender_if, timed_out_sender}
 use Rattle.sctp_tx.specs.Resent.{may_send_new, resent, resent_fast, resent_by, start_t3_if, send_fast}
 use Rattle.sctp_tx.specs.ForwardPoints.{abandon_expired}
 use Rattle.sctp_tx.specs.Sending.{Filling, QueueStep, item_of, append, offered_payload, queue_step_if, next_turn, fill, discard_all, without_discards, filled_with, timed_filling, send}
 use Rattle.proof_awake.specs.Awake.{Runs, is_none, ItemsAreTimed}
-use Rattle.proof_awake.specs.Invariant.{Lasts, HasItems, SenderHolds}
+use Rattle.proof_awake.specs.Invariant.{Lasts, HasItems, SenderHolds, WindowsHaveRoom}
 use Rattle.proof_awake.proofs.TimerLemmas.{started, goes_on, lasts_started, lasts_stopped, lasts_set, lasts_on}
+use Rattle.proof_awake.proofs.RoomLemmas.{sack_room, room_started, room_filled}
 use Rattle.proof_awake.proofs.ItemsLemmas.{Alike, is_no_item, none_below, none_lost, none_expired, none_resent}
 
 pub has_alike : (b : Bool) (before after : List Item) → Alike before after → HasItems b before → HasItems b after
@@ -66,6 +67,7 @@ module _ {P : Type 0} (b : Bool) (now : ℕ) (s : Sender) (h : SenderHolds b s) 
         lasts = lasts_on now s.t3 h.lasts;
         timed = timed_alike s.outstanding.items.kept after s.t3 (expire now s.t3) n (goes_on now s.t3 h.lasts.restarts) h.timed;
         some = has_alike b s.outstanding.items.kept after n h.some;
+        windows = record { some = h.windows.some; most = h.windows.most; whole = omega arith; least = h.windows.least };
       }
 
   pub expired_holds : (e : Emitted P) → SenderHolds b (abandon_expired now s e)
@@ -76,11 +78,12 @@ module _ {P : Type 0} (b : Bool) (now : ℕ) (s : Sender) (h : SenderHolds b s) 
         lasts = h.lasts;
         timed = timed_alike s.outstanding.items.kept after s.t3 s.t3 n (λ r. r) h.timed;
         some = has_alike b s.outstanding.items.kept after n h.some;
+        windows = h.windows;
       }
 
 -- a round trip was taken
 pub timed_holds : (b : Bool) (n : ℕ) (s : Sender) → 1 ≤ n → SenderHolds b s → SenderHolds b (record s { t3 = set_duration n s.t3 })
-timed_holds b n s l h = record { lasts = lasts_set n s.t3 l h.lasts; timed = h.timed; some = h.some }
+timed_holds b n s l h = record { lasts = lasts_set n s.t3 l h.lasts; timed = h.timed; some = h.some; windows = h.windows }
 
 -- ---- a SACK
 
@@ -138,8 +141,10 @@ module _ {P : Type 0} (now n a_rwnd : ℕ) (blocks : List GapAckBlock) (s : Send
     lasts = lasts_if (nat_lt s.outstanding.items.acked n) after now s.t3 h.lasts;
     timed = sack_times (nat_lt s.outstanding.items.acked n) h.lasts h.timed;
     some = tt;
+    windows = sack_room n a_rwnd (nat_lt s.outstanding.items.acked n) (step_of n blocks s e).is_lossy (saturate_u64 (flight_bytes s.outstanding.items))
+        (saturate_u64 (acked_bytes n blocks s.outstanding.items)) (saturate_u64 (flight_payload after)) (next_number after - 1) s.windows h.windows;
   }
-  sack_holds b false h = record { lasts = h.lasts; timed = h.timed; some = tt }
+  sack_holds b false h = record { lasts = h.lasts; timed = h.timed; some = tt; windows = h.windows }
 
 -- ---- the packet that ignores the congestion window
 
@@ -156,20 +161,22 @@ starts_same true now s = refl
 starts_same false now s = refl
 
 -- of a sender whose items are as empty as they were, whatever was sent
-sent_holds : (b sent : Bool) (now : ℕ) (s u : Sender) → u.t3 ≡ s.t3 → Alike s.outstanding.items.kept u.outstanding.items.kept → SenderHolds b s → SenderHolds b (start_t3_if sent now u)
-sent_holds b sent now s u t n h =
+sent_holds : (b sent : Bool) (now : ℕ) (s u : Sender) → u.t3 ≡ s.t3 → Alike s.outstanding.items.kept u.outstanding.items.kept → WindowsHaveRoom u.windows → SenderHolds b s
+    → SenderHolds b (start_t3_if sent now u)
+sent_holds b sent now s u t n w h =
     let after : List Item = (start_t3_if sent now u).outstanding.items.kept in
     let m : Alike s.outstanding.items.kept after = ap is_none (starts_same sent now u) ∙ n in
     record {
       lasts = starts_lasts sent now u (subst Lasts (sym t) h.lasts);
       timed = timed_alike s.outstanding.items.kept after s.t3 (start_t3_if sent now u).t3 m (λ r. starts_on sent now u (subst Runs (sym t) r)) h.timed;
       some = has_alike b s.outstanding.items.kept after m h.some;
+      windows = room_started sent now u w;
     }
 
 pub fast_holds : (b : Bool) (now most : ℕ) (s : Sender) → SenderHolds b s → SenderHolds b (send_fast now most s)
 fast_holds b now most s h =
     let x : Resent = resent_fast most s in
-    sent_holds b (nat_lt 0 (length x.chunks)) now s (resent_by s x) refl (none_resent true most 0 s.outstanding) h
+    sent_holds b (nat_lt 0 (length x.chunks)) now s (resent_by s x) refl (none_resent true most 0 s.outstanding) (record { some = h.windows.some; most = h.windows.most; whole = h.windows.whole; least = h.windows.least }) h
 
 -- ---- what a packet takes
 
@@ -225,14 +232,15 @@ module _ {P : Type 0} (s : Sender) where
       let k : Filled s y.filling = turn_fills (may_send_new x.sender && nat_lt 0 (offered_payload x.left x.sender)) now x h in
       fills_if y.is_more (fill n now y.filling) y.filling (fills n now y.filling k) k
 
-  started_holds : (b : Bool) (now : ℕ) (x : Filling P) → Grown s.outstanding.items x.sender.outstanding.items x.chunks → x.sender.t3 ≡ s.t3 → SenderHolds b s
+  started_holds : (b : Bool) (now : ℕ) (x : Filling P) → Grown s.outstanding.items x.sender.outstanding.items x.chunks → x.sender.t3 ≡ s.t3 → WindowsHaveRoom x.sender.windows → SenderHolds b s
       → SenderHolds b (timed_filling now x).sender
-  started_holds b now x (as_before n) t h = sent_holds b (nat_lt 0 (length x.chunks)) now s x.sender t n h
-  started_holds b now x (new some sent flight) t h =
+  started_holds b now x (as_before n) t w h = sent_holds b (nat_lt 0 (length x.chunks)) now s x.sender t n w h
+  started_holds b now x (new some sent flight) t w h =
       subst (λ (c : Bool). SenderHolds b (start_t3_if c now x.sender)) (sym sent) (record {
         lasts = lasts_kept (nothing_in_flight x.sender.outstanding.items) now x.sender.t3 (subst Lasts (sym t) h.lasts);
         timed = inr (made_run (nothing_in_flight x.sender.outstanding.items) now x.sender.t3 (subst Lasts (sym t) h.lasts) flight);
         some = has_some b some;
+        windows = w;
       })
     where
       has_some : (b : Bool) → is_none x.sender.outstanding.items.kept ≡ false → HasItems b x.sender.outstanding.items.kept
@@ -246,4 +254,4 @@ module _ {P : Type 0} (s : Sender) where
       let x : Filling P = filled_with most (without_discards s) again left in
       let y : Filling P = fill (suc x.left) now x in
       let f : Filled s y = fills (suc x.left) now x (record { t3 = refl; items = as_before (none_resent false _ _ (without_discards s).outstanding) }) in
-      started_holds b now y f.items f.t3 h
+      started_holds b now y f.items f.t3 (room_filled (suc x.left) now x (record { some = h.windows.some; most = h.windows.most; whole = h.windows.whole; least = h.windows.least })) h

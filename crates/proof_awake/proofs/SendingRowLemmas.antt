@@ -45,7 +45,7 @@ begins_request waits now id ids t h =
     let s : Sender = add_reset_breakpoint t.sender in
     let l = rto_least t.rtt h.rtt in
     with_requests waits (record t { sender = s }) _ (request_starts now (rto t.rtt) (last_assigned s) (id ∷ ids) t.requests (omega (arith, l)) h.requests)
-    (with_sender waits waits t s (record { lasts = h.sender.lasts; timed = h.sender.timed; some = h.sender.some }) h)
+    (with_sender waits waits t s (record { lasts = h.sender.lasts; timed = h.sender.timed; some = h.sender.some; windows = h.sender.windows }) h)
 
 module _ {P : Type 0} where
   abbrev pub Beside : Bool → Context P → Type 0

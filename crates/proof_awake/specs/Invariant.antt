@@ -6,6 +6,7 @@ use Rattle.sctp_state.specs.Timer.{Timer}
 use Rattle.sctp_tracker.specs.declared.data_tracker.AckState.{AckState}
 use Rattle.sctp_tracker.specs.DataTracker.{Tracker}
 use Rattle.sctp_tx_outstanding.specs.Item.{Item}
+use Rattle.sctp_tx.specs.Windows.{Windows}
 use Rattle.sctp_tx.specs.RetransmissionQueue.{Sender}
 use Rattle.spec_endpoint.specs.Association.{Tcb, Phase, CookieEchoed, Established, ShutdownPending, ShutdownSent, ShutdownReceived, ShutdownAckSent, State, Closed, CookieWait, Open, Heartbeats, EndpointState}
 use Rattle.spec_endpoint.specs.ResetRequests.{Requests}
@@ -17,13 +18,17 @@ pub record Lasts (t : Timer) : Type 0 where
   pub duration : 1 ≤ t.duration
 
 -- of the options: valid ones have it
-pub record HasTimes (o : Options) : Type 0 where
+pub record HasLimits (o : Options) : Type 0 where
   pub rto_range : o.rto_min ≤ o.rto_max
   pub rto_min : 2 ≤ o.rto_min
   pub rto_initial : 2 ≤ o.rto_initial
   pub t1_init : 1 ≤ o.t1_init_timeout
   pub t1_cookie : 1 ≤ o.t1_cookie_timeout
   pub delayed_ack : 1 ≤ o.delayed_ack_max_timeout
+  pub mtu_least : 256 ≤ o.mtu
+  pub mtu_most : o.mtu ≤ 65535
+  pub cwnd_initial : 1 ≤ o.cwnd_mtus_initial
+  pub cwnd_min : 1 ≤ o.cwnd_mtus_min
 
 -- ---- the parts of a control block
 
@@ -32,10 +37,21 @@ abbrev pub HasItems : Bool → List Item → Type 0
 HasItems true kept = is_none kept ≡ false
 HasItems false kept = Unit {0}
 
+-- the congestion window lets a whole packet go, and so does the least one that a loss leaves
+pub record HasRoom (mtu cwnd least_cwnd : ℕ) : Type 0 where
+  pub some : 256 ≤ mtu
+  pub most : mtu ≤ 65535
+  pub whole : mtu ≤ cwnd
+  pub least : mtu ≤ least_cwnd
+
+abbrev pub WindowsHaveRoom : Windows → Type 0
+WindowsHaveRoom w = HasRoom w.mtu w.cwnd w.least_cwnd
+
 pub record SenderHolds (waits : Bool) (s : Sender) : Type 0 where
   pub lasts : Lasts s.t3
   pub timed : ItemsAreTimed s.outstanding.items.kept s.t3
   pub some : HasItems waits s.outstanding.items.kept
+  pub windows : WindowsHaveRoom s.windows
 
 -- round trips give a timeout that isn't zero, and half of it isn't
 pub record RttHolds (r : Rtt) : Type 0 where
@@ -68,7 +84,7 @@ Beats true interval = BeatsOn interval
 Beats false interval = Unit {0}
 
 pub record ContextHolds (beats : Bool) (o : Options) (h : Heartbeats) : Type 0 where
-  pub options : HasTimes o
+  pub options : HasLimits o
   pub restarts : h.interval.restarts ≡ None
   pub interval : Beats beats h.interval
 

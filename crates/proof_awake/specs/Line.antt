@@ -1,18 +1,10 @@
 -- What a sending leaves, once connected: no stream is in line where no item is kept.
 use Rattle.std.specs.Prelude.{◌≡◌, ℕ, ◌≤◌, true, false, List, []}
-use Rattle.sctp_tx.specs.Windows.{Windows}
 use Rattle.spec_endpoint.specs.Association.{Tcb, Context}
 use Rattle.spec_endpoint.specs.Packets.{PacketDraft}
 use Rattle.spec_endpoint.specs.Sending.{AfterSending, send_with}
 use Rattle.proof_awake.specs.Awake.{is_none}
-
--- the congestion window lets a whole packet go
-pub record HasRoom (mtu cwnd : ℕ) : Type 0 where
-  pub some : 256 ≤ mtu
-  pub whole : mtu ≤ cwnd
-
-abbrev pub WindowsHaveRoom : Windows → Type 0
-WindowsHaveRoom w = HasRoom w.mtu w.cwnd
+use Rattle.proof_awake.specs.Invariant.{WindowsHaveRoom}
 
 abbrev pub IsNoneInLine : {P : Type 0} → AfterSending P → Type 0
 IsNoneInLine x = is_none x.tcb.sender.outstanding.items.kept ≡ true → x.context.queue.scheduler.times ≡ []
