@@ -12,3 +12,4 @@ pub mod LawLemmas
 pub mod WorldLemmas
 pub mod LeftBehindLemmas
 pub mod LineLemmas
+pub mod LineCallLemmas

@@ -4,7 +4,7 @@
 
 ghost use Rattle.proof_awake.specs.Laws.{EachCallKeepsTimed, NewEndsAreTimed, OnlyQuietEndsNameNoMoment, TimedEndsAreAwake};
 ghost use Rattle.proof_awake.specs.LeftBehind.{ALineIsLeft, AResetIsLeftBehind};
-ghost use Rattle.proof_awake.specs.Line.{SendingsLeaveNoLine};
+ghost use Rattle.proof_awake.specs.Line.{SendingCallsLeaveNoLine, SendingsLeaveNoLine};
 ghost use Rattle.proof_awake.specs.Worlds.{WorldsAreAwake};
 
 /// A new end, with valid options, and what each call leaves of one is awake: where an item is kept T3-rtx runs; where a request to
@@ -40,4 +40,5 @@ pub fn a_reset_is_left_behind()
 /// one may be full of a request to reset streams.
 pub fn sendings_leave_no_line()
     ensures line { SendingsLeaveNoLine }
+    ensures calls { SendingCallsLeaveNoLine }
 {}
