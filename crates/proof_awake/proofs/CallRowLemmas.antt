@@ -52,7 +52,7 @@ module _ {P : Type 0} where
   -- ---- RE-CONFIG
 
   module _ (beats waits : Bool) where
-    abbrev Handled : Handling P → Type 0
+    abbrev pub Handled : Handling P → Type 0
     Handled x = Holds beats waits x.tcb x.context
 
     processed : (number result : ℕ) (x : Handling P) → Handled x → Handled (process number result x)
@@ -98,11 +98,11 @@ module _ {P : Type 0} where
     next true rest p x on h = h
     next false rest p x on h = on (on_parameter p x) (parameter p x h)
 
-    handles_all : (ps : List ParameterTree) (b : Bool) (x : Handling P) → Handled x → Handled (handle_all ps b x).handling
+    pub handles_all : (ps : List ParameterTree) (b : Bool) (x : Handling P) → Handled x → Handled (handle_all ps b x).handling
     handles_all [] b x h = h
     handles_all (p ∷ ps) b x h = next (is_outgoing p && b) (handle_all ps (is_outgoing p || b)) p x (λ y k. handles_all ps (is_outgoing p || b) y k) h
 
-    responses_go : (rs : List ParameterTree) (t : Tcb) (c : Context P) → Beside beats c → Beside beats (send_responses rs t c)
+    pub responses_go : (rs : List ParameterTree) (t : Tcb) (c : Context P) → Beside beats c → Beside beats (send_responses rs t c)
     responses_go [] t c h = h
     responses_go (r ∷ rs) t c h = chunk_goes_out beats (re_config_chunk (r ∷ rs)) t c h
 
@@ -170,10 +170,10 @@ module _ {P : Type 0} where
       abort_holds b (user_initiated_abort (codes "Too many retransmissions")) (OnAborted TooManyRetries (codes "Too many retransmissions")) t c h
 
   module _ (phase : Phase) where
-    abbrev Ticks : Ticking P → Type 0
+    abbrev pub Ticks : Ticking P → Type 0
     Ticks x = Holds (is_established phase) (waits phase) x.tcb x.context
 
-    ticks_ack : (x : Ticking P) → Ticks x → Ticks (tick_ack x)
+    pub ticks_ack : (x : Ticking P) → Ticks x → Ticks (tick_ack x)
     ticks_ack x h = (h.0, with_tracker (waits phase) x.tcb (ack_timeout x.context.now x.tcb.tracker.tracker) (delay_holds x.context.now x.tcb.tracker.tracker h.1.tracker) h.1)
 
     ticks_t3 : (b : Bool) (x : Ticking P) → Ticks x → Ticks (t3_if b x)
@@ -211,7 +211,7 @@ module _ {P : Type 0} where
         (errs (is_unanswered x.tcb.requests.current) x.context h.0, with_requests (waits phase) x.tcb r (woken_holds x.context.now x.tcb.requests h.1.requests) h.1)
     ticks_requests false x h = h
 
-    ticks : (t : Tcb) (c : Context P) → Holds (is_established phase) (waits phase) t c → Ticks (tick_timers t c)
+    pub ticks : (t : Tcb) (c : Context P) → Holds (is_established phase) (waits phase) t c → Ticks (tick_timers t c)
     unfolding tick_timers
     ticks t c h =
         let x : Ticking P = tick_ack (ticking t c) in

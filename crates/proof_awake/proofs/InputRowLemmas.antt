@@ -90,7 +90,7 @@ module _ {P : Type 0} where
   chunk_holds tag (shutdown_complete_chunk reflected) s h = opened on_shutdown_complete on_complete_holds s h
   chunk_holds tag (re_config_chunk parameters) s h = opened (on_reconfig parameters) (reconfig_holds parameters) s h
 
-  received_holds : (o : Option (List ℕ)) (tag : ℕ) (chunk : ChunkTree) (s : Endpoint P) → Whole s → Whole (received_if o tag chunk s).end
+  pub received_holds : (o : Option (List ℕ)) (tag : ℕ) (chunk : ChunkTree) (s : Endpoint P) → Whole s → Whole (received_if o tag chunk s).end
   received_holds None tag chunk s h = chunk_holds tag chunk s h
   received_holds (Some reason) tag chunk s h =
       opened (λ phase t c. abort_for_violation reason t c)
@@ -101,7 +101,7 @@ module _ {P : Type 0} where
   next_holds rest f true s h = f s h
   next_holds rest f false s h = h
 
-  all_hold : (tag : ℕ) (chunks : List ChunkTree) (s : Endpoint P) → Whole s → Whole (receive_all tag chunks s)
+  pub all_hold : (tag : ℕ) (chunks : List ChunkTree) (s : Endpoint P) → Whole s → Whole (receive_all tag chunks s)
   all_hold tag [] s h = h
   all_hold tag (chunk ∷ chunks) s h =
       let x : AfterChunk P = receive tag chunk s in
@@ -117,7 +117,7 @@ module _ {P : Type 0} where
   repeats_hold ShutdownReceived t c h = h
   repeats_hold (ShutdownAckSent t2) t c h = h
 
-  repeats_if_hold : (b : Bool) (s : Endpoint P) → Whole s → Whole (in_endpoint_state (repeats_if b) s)
+  pub repeats_if_hold : (b : Bool) (s : Endpoint P) → Whole s → Whole (in_endpoint_state (repeats_if b) s)
   repeats_if_hold true s h = opened repeats repeats_hold s h
   repeats_if_hold false s h = h
 

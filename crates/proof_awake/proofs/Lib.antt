@@ -13,3 +13,4 @@ pub mod WorldLemmas
 pub mod LeftBehindLemmas
 pub mod LineLemmas
 pub mod LineCallLemmas
+pub mod LineRowLemmas

@@ -15,7 +15,7 @@ use Rattle.proof_awake.specs.Line.{HasNoLine, SendingCallsLeaveNoLine}
 use Rattle.proof_awake.proofs.LineLemmas.{none_in_line}
 
 module _ {P : Type 0} where
-  phase_sends : (phase : Phase) (t : Tcb) (c : Context P) → 2 ≤ c.options.max_burst → StateHolds (Open phase t) c.options c.heartbeats → HasNoLine (send_in phase t c)
+  pub phase_sends : (phase : Phase) (t : Tcb) (c : Context P) → 2 ≤ c.options.max_burst → StateHolds (Open phase t) c.options c.heartbeats → HasNoLine (send_in phase t c)
   phase_sends (CookieEchoed t1 cookie) t c b h = tt
   phase_sends Established t c b h =
       let m = h.0.options.mtu_least in
@@ -26,15 +26,15 @@ module _ {P : Type 0} where
   phase_sends ShutdownReceived t c b h = tt
   phase_sends (ShutdownAckSent t2) t c b h = tt
 
-  state_sends : (s : State) (c : Context P) → 2 ≤ c.options.max_burst → StateHolds s c.options c.heartbeats → HasNoLine (where_open send_in (record { state = s; context = c }))
+  pub state_sends : (s : State) (c : Context P) → 2 ≤ c.options.max_burst → StateHolds s c.options c.heartbeats → HasNoLine (where_open send_in (record { state = s; context = c }))
   state_sends Closed c b h = tt
   state_sends (CookieWait tag first t1) c b h = tt
   state_sends (Open phase t) c b h = phase_sends phase t c b h
 
   -- what is offered, or prepared, changes neither options nor timers
-  record Same (c d : Context P) : Type 0 where
-    options_are : d.options ≡ c.options
-    heartbeats_are : d.heartbeats ≡ c.heartbeats
+  pub record Same (c d : Context P) : Type 0 where
+    pub options_are : d.options ≡ c.options
+    pub heartbeats_are : d.heartbeats ≡ c.heartbeats
 
   offered_same : (r : Option SendError) (m : Message) (o : SendOptions) (c : Context P) → Same c (offered r m o c)
   offered_same None m o c = record { options_are = refl; heartbeats_are = refl }
@@ -43,19 +43,19 @@ module _ {P : Type 0} where
   same_both : (a b c : Context P) → Same a b → Same b c → Same a c
   same_both a b c h k = record { options_are = k.options_are ∙ h.options_are; heartbeats_are = k.heartbeats_are ∙ h.heartbeats_are }
 
-  offers_same : (ms : List Message) (o : SendOptions) (shown : SocketState) (c : Context P) → Same c (offer_all ms o shown c)
+  pub offers_same : (ms : List Message) (o : SendOptions) (shown : SocketState) (c : Context P) → Same c (offer_all ms o shown c)
   offers_same [] o shown c = record { options_are = refl; heartbeats_are = refl }
   offers_same (m ∷ ms) o shown c =
       let d : Context P = offer m o shown c in
       same_both c d (offer_all ms o shown d) (offered_same (send_refusal m shown c) m o c) (offers_same ms o shown d)
 
-  prepared_same : (ids : List ℕ) (c : Context P) → Same c (prepare_all ids c)
+  pub prepared_same : (ids : List ℕ) (c : Context P) → Same c (prepare_all ids c)
   prepared_same [] c = record { options_are = refl; heartbeats_are = refl }
   prepared_same (id ∷ ids) c =
       let d : Context P = prepare_reset_stream id c in
       same_both c d (prepare_all ids d) (record { options_are = refl; heartbeats_are = refl }) (prepared_same ids d)
 
-  sends_then : (s : State) (c d : Context P) → Same c d → 2 ≤ c.options.max_burst → StateHolds s c.options c.heartbeats → HasNoLine (where_open send_in (record { state = s; context = d }))
+  pub sends_then : (s : State) (c d : Context P) → Same c d → 2 ≤ c.options.max_burst → StateHolds s c.options c.heartbeats → HasNoLine (where_open send_in (record { state = s; context = d }))
   sends_then s c d e b h =
       state_sends s d (subst (λ (o : Options). 2 ≤ o.max_burst) (sym e.options_are) b)
       (subst (λ (o : Options). StateHolds s o d.heartbeats) (sym e.options_are) (subst (λ (x : _). StateHolds s c.options x) (sym e.heartbeats_are) h))

@@ -129,7 +129,7 @@ limit_if : (b : Bool) (chunk : ChunkTree) (p : PacketDraft) → (added_if b chun
 limit_if true chunk p = refl
 limit_if false chunk p = refl
 
-limit_added : (chunk : ChunkTree) (p : PacketDraft) → (add chunk p).limit ≡ p.limit
+pub limit_added : (chunk : ChunkTree) (p : PacketDraft) → (add chunk p).limit ≡ p.limit
 limit_added chunk p = limit_if (fits p chunk) chunk p
 
 limit_all : (chunks : List ChunkTree) (p : PacketDraft) → (add_all chunks p).limit ≡ p.limit

@@ -78,7 +78,7 @@ module _ {P : Type 0} where
 
   -- ---- COOKIE ACK
 
-  enters : (b : Bool) (c : Context P) → Beside b c → Beside true (enter_connected c)
+  pub enters : (b : Bool) (c : Context P) → Beside b c → Beside true (enter_connected c)
   enters b c h = interval_started b true c.now c.options c.heartbeats h
 
   pub cookie_ack_holds : (phase : Phase) (t : Tcb) (c : Context P) → Going phase t c → EndHolds (on_cookie_ack phase t c)
@@ -104,7 +104,7 @@ module _ {P : Type 0} where
       let x = acked true false k.peer_tag (tcb_by c.options k tie) (enter_connected d) (enters b d h, n) in
       (x.0, (tt, x.1))
 
-  beside_in : (s : State) (c : Context P) → StateHolds s c.options c.heartbeats → Beside false c
+  pub beside_in : (s : State) (c : Context P) → StateHolds s c.options c.heartbeats → Beside false c
   beside_in Closed c h = h
   beside_in (CookieWait tag first t1) c h = h.0
   beside_in (Open phase t) c h = quieter (is_established phase) c.options c.heartbeats h.0
