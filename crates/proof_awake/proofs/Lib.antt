@@ -14,3 +14,4 @@ pub mod LeftBehindLemmas
 pub mod LineLemmas
 pub mod LineCallLemmas
 pub mod LineRowLemmas
+pub mod LineEachLemmas
