@@ -15,3 +15,5 @@ pub mod LineLemmas
 pub mod LineCallLemmas
 pub mod LineRowLemmas
 pub mod LineEachLemmas
+pub mod LineTimeLemmas
+pub mod LineInputLemmas

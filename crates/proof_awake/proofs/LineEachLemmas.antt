@@ -1,38 +1,18 @@
 -- Each call leaves no stream in line where no item is kept.
-use Rattle.std.proofs.Common.{◌≡◌, ℕ, ◌≤◌, Bool, true, false, Option, Some, None, Result, Ok, Err, List, [], ◌∷◌, length, codes, refl, sym, ap, subst, ◌∙◌, arith}
-use Rattle.std.specs.Prelude.{◌==◌, ◌&&◌, ◌||◌, not, nat_lt, min}
+use Rattle.std.proofs.Common.{◌≡◌, ℕ, Bool, true, false, List, [], ◌∷◌, refl, sym, subst}
+use Rattle.std.specs.Prelude.{◌&&◌, ◌||◌, not}
 use Rattle.std.proofs.lemmas.Bool.{and_parts}
-use Rattle.sctp_serial.specs.Messages.{Message}
 use Rattle.sctp_serial.specs.declared.api.StreamId.{StreamId}
-use Rattle.sctp_wire.specs.Cause.{CauseTree, protocol_violation, missing_mandatory_parameter}
 use Rattle.sctp_wire.specs.Parameter.{ParameterTree, outgoing_reset_request, incoming_reset_request, reset_response}
-use Rattle.sctp_packet.specs.Chunk.{ChunkTree, InitTree, data_chunk, init_chunk, init_ack_chunk, sack_chunk, heartbeat_request_chunk, heartbeat_ack_chunk, abort_chunk, shutdown_chunk, shutdown_ack_chunk, error_chunk, cookie_echo_chunk, cookie_ack_chunk, shutdown_complete_chunk, idata_chunk, re_config_chunk, forward_tsn_chunk, i_forward_tsn_chunk, unknown_chunk}
-use Rattle.sctp_packet.specs.Packet.{PacketTree}
-use Rattle.sctp_state.specs.declared.api.ErrorKind.TheVariants.{PeerReported, ProtocolViolation, TooManyRetries}
-use Rattle.sctp_state.specs.declared.api.SocketState.{SocketState}
-use Rattle.sctp_state.specs.declared.api.errors.SendError.{SendError}
-use Rattle.sctp_state.specs.declared.api.errors.ResetStreamsError.{ResetStreamsError}
-use Rattle.sctp_state.specs.TxErrorCounter.{is_exhausted}
-use Rattle.sctp_state.specs.Options.{Options, SendOptions, IsValid}
-use Rattle.sctp_state.specs.Timer.{Timer, is_due, is_running, expire}
-use Rattle.sctp_state.specs.Events.{OnAborted, OnConnectionRestarted}
-use Rattle.sctp_capabilities.specs.declared.state_cookie.StateCookieError.{StateCookieError}
-use Rattle.sctp_capabilities.specs.Capabilities.{negotiate, zero_checksum_enabled}
-use Rattle.sctp_capabilities.specs.StateCookie.{Cookie, read_cookie}
-use Rattle.sctp_tracker.specs.DataTracker.{is_ack_due}
-use Rattle.spec_endpoint.specs.Association.{Identity, Tcb, tcb, Phase, CookieEchoed, Established, ShutdownPending, ShutdownSent, ShutdownReceived, ShutdownAckSent, State, Closed, CookieWait, Open, Context, EndpointState, Endpoint, open_as, where_open}
-use Rattle.spec_endpoint.specs.Packets.{PacketDraft, add, packet_to, new_packet, round_down_to_4, emit_event_in, emit}
-use Rattle.spec_endpoint.specs.Heartbeats.{on_heartbeat_info, ack_by_length, clear_if_last, is_last_info, info_in, heartbeat_chunk, counted_on, send_heartbeat_if, heartbeat_timeout_if}
-use Rattle.spec_endpoint.specs.ResetRequests.{Outcome, Unsettled, Done, Denied, outcome, is_last_request, is_next_request, is_known_request, is_final, is_unanswered, lasting, clear_deferral, expire_reconfig_timer}
-use Rattle.spec_endpoint.specs.Sending.{AfterSending, add_request, is_before_cookie_ack, send_cookie, selective_ack, take_due_ack, without_duplicates, send_in}
-use Rattle.spec_endpoint.specs.Shutdown.{send_shutdown, send_shutdown_ack, too_many, on_shutdown, on_shutdown_complete, abort_for_violation, on_abort, on_error, causes_text}
-use Rattle.spec_endpoint.specs.StreamReset.{Handling, handling, is_ahead, resets_if, outgoing_by, incoming_if, on_outcome, is_outgoing, on_parameter, HandledParameters, handle_next, handle_all, send_responses, finish_reconfig_if, on_reconfig, prepare_all, reset_if, reset_refusal}
-use Rattle.proof_awake.specs.Awake.{is_none, is_restore}
+use Rattle.sctp_packet.specs.Chunk.{re_config_chunk}
+use Rattle.spec_endpoint.specs.Association.{Tcb, tcb, Phase, Open, Context}
+use Rattle.spec_endpoint.specs.ResetRequests.{Outcome, Unsettled, Done, Denied, outcome, is_last_request, is_next_request, is_known_request, is_final}
+use Rattle.spec_endpoint.specs.StreamReset.{Handling, handling, is_ahead, resets_if, outgoing_by, incoming_if, on_outcome, is_outgoing, on_parameter, HandledParameters, handle_next, handle_all, send_responses, finish_reconfig_if, on_reconfig}
 use Rattle.proof_awake.specs.Invariant.{is_established, waits}
-use Rattle.proof_awake.specs.Line.{asks_once, StateHasNoLine}
+use Rattle.proof_awake.specs.Line.{asks_once}
 use Rattle.proof_awake.proofs.CallRowLemmas.{handles_all, responses_go}
-use Rattle.proof_awake.proofs.RowLemmas.{Going, EndHolds}
-use Rattle.proof_awake.proofs.LineRowLemmas.{Big, Lined, EndLined, big_emitted, big_chunk, out_lined, chunk_lined, buffered_lined}
+use Rattle.proof_awake.proofs.RowLemmas.{Going}
+use Rattle.proof_awake.proofs.LineRowLemmas.{Big, Lined, EndLined, big_chunk, buffered_lined}
 
 module _ {P : Type 0} where
   -- ---- RE-CONFIG
