@@ -5,7 +5,7 @@ use Rattle.std.proofs.lemmas.Bool.{and_parts}
 use Rattle.sctp_serial.specs.declared.api.StreamId.{StreamId}
 use Rattle.sctp_wire.specs.Parameter.{ParameterTree, outgoing_reset_request, incoming_reset_request, reset_response}
 use Rattle.sctp_packet.specs.Chunk.{re_config_chunk}
-use Rattle.spec_endpoint.specs.Association.{Tcb, tcb, Phase, Open, Context}
+use Rattle.spec_endpoint.specs.Association.{Tcb, Phase, Open, Context}
 use Rattle.spec_endpoint.specs.ResetRequests.{Outcome, Unsettled, Done, Denied, outcome, is_last_request, is_next_request, is_known_request, is_final}
 use Rattle.spec_endpoint.specs.StreamReset.{Handling, handling, is_ahead, resets_if, outgoing_by, incoming_if, on_outcome, is_outgoing, on_parameter, HandledParameters, handle_next, handle_all, send_responses, finish_reconfig_if, on_reconfig}
 use Rattle.proof_awake.specs.Invariant.{is_established, waits}
