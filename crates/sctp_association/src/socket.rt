@@ -3,7 +3,7 @@
 ghost use Rattle.std.specs.Prelude.{◌≡◌, ◌<◌, ◌^◌, ◌↔◌, ◌||◌, false, true, Err, is_err, length, map, option_map, drop, slice_get, IfOk, IfErr, OnOk};
 ghost use Rattle.sctp_serial.specs.Messages.{message_of};
 ghost use Rattle.sctp_tx_queue.specs.SendQueue.{amount_of, stream, total_of};
-ghost use Rattle.sctp_state.specs.Events.{event_of, first_of, given_up_of, numbers_of};
+ghost use Rattle.sctp_state.specs.Events.{Grown, event_of, first_of, given_up_of, numbers_of};
 ghost use Rattle.sctp_state.specs.Handover.{handover_state_of};
 ghost use Rattle.sctp_state.specs.Options.{IsValid, options_of, send_options_of};
 ghost use Rattle.spec_endpoint.specs.Association.{fresh, in_context};
@@ -203,6 +203,7 @@ impl<R: Rng, C: Checksum> DcSctpSocket for Socket<R, C> {
     fn handle_input(&mut self, bytes: &[u8]) -> Result<(), CallError>
         ensures ends { Ends (ending_of result) self.old self.new }
         ensures ok { OnOk result (Receives (C.word_of self.old.context.checksum) bytes.now (endpoint R.stream C.word_of self.old) (endpoint R.stream C.word_of self.new)) }
+        ensures stands { Grown self.old.context.emitted self.new.context.emitted }
     {
         if self.has_failed {
             return Err(CallError::Failed);
@@ -214,6 +215,7 @@ impl<R: Rng, C: Checksum> DcSctpSocket for Socket<R, C> {
     fn advance_time(&mut self, now: SocketTime) -> Result<(), CallError>
         ensures ends { Ends (ending_of result) self.old self.new }
         ensures ok { OnOk result (endpoint R.stream C.word_of self.new ≡ in_endpoint_state (time.advance now) (endpoint R.stream C.word_of self.old)) }
+        ensures stands { Grown self.old.context.emitted self.new.context.emitted }
     {
         if self.has_failed {
             return Err(CallError::Failed);
@@ -231,6 +233,7 @@ impl<R: Rng, C: Checksum> DcSctpSocket for Socket<R, C> {
     fn connect(&mut self) -> Result<(), CallError>
         ensures ends { Ends (ending_of result) self.old self.new }
         ensures ok { OnOk result (endpoint R.stream C.word_of self.new ≡ opening.connect (endpoint R.stream C.word_of self.old)) }
+        ensures stands { Grown self.old.context.emitted self.new.context.emitted }
     {
         if self.has_failed {
             return Err(CallError::Failed);
@@ -242,6 +245,7 @@ impl<R: Rng, C: Checksum> DcSctpSocket for Socket<R, C> {
     fn close(&mut self) -> Result<(), CallError>
         ensures ends { Ends (ending_of result) self.old self.new }
         ensures ok { OnOk result (endpoint R.stream C.word_of self.new ≡ in_endpoint_state closing.close (endpoint R.stream C.word_of self.old)) }
+        ensures stands { Grown self.old.context.emitted self.new.context.emitted }
     {
         if self.has_failed {
             return Err(CallError::Failed);
@@ -253,6 +257,7 @@ impl<R: Rng, C: Checksum> DcSctpSocket for Socket<R, C> {
     fn shutdown(&mut self) -> Result<(), CallError>
         ensures ends { Ends (ending_of result) self.old self.new }
         ensures ok { OnOk result (endpoint R.stream C.word_of self.new ≡ in_endpoint_state closing.shutdown (endpoint R.stream C.word_of self.old)) }
+        ensures stands { Grown self.old.context.emitted self.new.context.emitted }
     {
         if self.has_failed {
             return Err(CallError::Failed);
@@ -266,6 +271,7 @@ impl<R: Rng, C: Checksum> DcSctpSocket for Socket<R, C> {
         ensures answer { sending_ending result ≡ Worked → refusal_in result ≡ calls.send_refusal_of (message_of message) (endpoint R.stream C.word_of self.old).endpoint_state }
         ensures sent { sending_ending result ≡ Worked
             → endpoint R.stream C.word_of self.new ≡ in_endpoint_state (calls.send (message_of message) (send_options_of options.now)) (endpoint R.stream C.word_of self.old) }
+        ensures stands { Grown self.old.context.emitted self.new.context.emitted }
     {
         if self.has_failed {
             return Err(SendError::Failed);
@@ -284,6 +290,7 @@ impl<R: Rng, C: Checksum> DcSctpSocket for Socket<R, C> {
         ensures refused { (e : BatchSendError) → result ≡ Err (BatchFault.Refused e) → 0 < length e.0.items }
         ensures sent { batch_ending result ≡ Worked → endpoint R.stream C.word_of self.new
             ≡ in_endpoint_state (calls.send_many (map message_of messages.items) (send_options_of options.now)) (endpoint R.stream C.word_of self.old) }
+        ensures stands { Grown self.old.context.emitted self.new.context.emitted }
     {
         if self.has_failed {
             return Err(BatchFault::Failed);
@@ -301,6 +308,7 @@ impl<R: Rng, C: Checksum> DcSctpSocket for Socket<R, C> {
         ensures answer { resetting_ending result ≡ Worked → reset_refusal_in result ≡ resets.reset_refusal self.old.state }
         ensures reset { resetting_ending result ≡ Worked
             → endpoint R.stream C.word_of self.new ≡ in_endpoint_state (resets.reset_streams (numbers_of streams.now)) (endpoint R.stream C.word_of self.old) }
+        ensures stands { Grown self.old.context.emitted self.new.context.emitted }
     {
         if self.has_failed {
             return Err(ResetStreamsError::Failed);
@@ -315,6 +323,7 @@ impl<R: Rng, C: Checksum> DcSctpSocket for Socket<R, C> {
     fn set_stream_priority(&mut self, id: StreamId, priority: u16) -> Result<(), CallError>
         ensures ends { Ends (ending_of result) self.old self.new }
         ensures ok { OnOk result (endpoint R.stream C.word_of self.new ≡ in_endpoint_state (in_context (calls.set_priority id.0 priority)) (endpoint R.stream C.word_of self.old)) }
+        ensures stands { Grown self.old.context.emitted self.new.context.emitted }
     {
         if self.has_failed {
             return Err(CallError::Failed);
@@ -336,6 +345,7 @@ impl<R: Rng, C: Checksum> DcSctpSocket for Socket<R, C> {
     ) -> Result<(), CallError>
         ensures ends { Ends (ending_of result) self.old self.new }
         ensures ok { OnOk result (endpoint R.stream C.word_of self.new ≡ in_endpoint_state (in_context (calls.set_low_threshold id.0 bytes)) (endpoint R.stream C.word_of self.old)) }
+        ensures stands { Grown self.old.context.emitted self.new.context.emitted }
     {
         if self.has_failed {
             return Err(CallError::Failed);
@@ -400,6 +410,7 @@ impl<R: Rng, C: Checksum> DcSctpSocket for Socket<R, C> {
         ensures refused { (r : HandoverReadiness) → result ≡ Err (HandoverError.NotReady r) → 0 < r.0 }
         ensures record { IfOk result (λ h. handover_state_of h ≡ handover.handed_over (endpoint R.stream C.word_of self.old).endpoint_state) }
         ensures left { handover_ending result ≡ Worked → endpoint R.stream C.word_of self.new ≡ in_endpoint_state handover.hand_over (endpoint R.stream C.word_of self.old) }
+        ensures stands { Grown self.old.context.emitted self.new.context.emitted }
     {
         if self.has_failed {
             return Err(HandoverError::Failed);
@@ -417,6 +428,7 @@ impl<R: Rng, C: Checksum> DcSctpSocket for Socket<R, C> {
         ensures answer { restore_ending result ≡ Worked → restore_refusal_in result ≡ handover.restore_refusal_in self.old.state (handover_state_of state.now) }
         ensures restored { restore_ending result ≡ Worked
             → endpoint R.stream C.word_of self.new ≡ in_endpoint_state (handover.restore (handover_state_of state.now)) (endpoint R.stream C.word_of self.old) }
+        ensures stands { Grown self.old.context.emitted self.new.context.emitted }
     {
         if self.has_failed {
             return Err(RestoreError::Failed);
