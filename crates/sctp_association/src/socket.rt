@@ -200,6 +200,7 @@ impl<R: Rng, C: Checksum> DcSctpSocket for Socket<R, C> {
         get_next_message(&mut self.state)
     }
 
+    #[tactic(auto, using(crate::proofs::StandsLemmas::stands_same, crate::proofs::StandsLemmas::stands_by, crate::proofs::StandsLemmas::stands_on))]
     fn handle_input(&mut self, bytes: &[u8]) -> Result<(), CallError>
         ensures ends { Ends (ending_of result) self.old self.new }
         ensures ok { OnOk result (Receives (C.word_of self.old.context.checksum) bytes.now (endpoint R.stream C.word_of self.old) (endpoint R.stream C.word_of self.new)) }
@@ -212,6 +213,7 @@ impl<R: Rng, C: Checksum> DcSctpSocket for Socket<R, C> {
         Ok(ended(&mut self.has_failed, done)?)
     }
 
+    #[tactic(auto, using(crate::proofs::StandsLemmas::stands_same, crate::proofs::StandsLemmas::stands_by, crate::proofs::StandsLemmas::stands_on))]
     fn advance_time(&mut self, now: SocketTime) -> Result<(), CallError>
         ensures ends { Ends (ending_of result) self.old self.new }
         ensures ok { OnOk result (endpoint R.stream C.word_of self.new ≡ in_endpoint_state (time.advance now) (endpoint R.stream C.word_of self.old)) }
@@ -230,6 +232,7 @@ impl<R: Rng, C: Checksum> DcSctpSocket for Socket<R, C> {
         poll_timeout(&self.context, &self.state)
     }
 
+    #[tactic(auto, using(crate::proofs::StandsLemmas::stands_same, crate::proofs::StandsLemmas::stands_by, crate::proofs::StandsLemmas::stands_on))]
     fn connect(&mut self) -> Result<(), CallError>
         ensures ends { Ends (ending_of result) self.old self.new }
         ensures ok { OnOk result (endpoint R.stream C.word_of self.new ≡ opening.connect (endpoint R.stream C.word_of self.old)) }
@@ -242,6 +245,7 @@ impl<R: Rng, C: Checksum> DcSctpSocket for Socket<R, C> {
         Ok(ended(&mut self.has_failed, done)?)
     }
 
+    #[tactic(auto, using(crate::proofs::StandsLemmas::stands_same, crate::proofs::StandsLemmas::stands_by, crate::proofs::StandsLemmas::stands_on))]
     fn close(&mut self) -> Result<(), CallError>
         ensures ends { Ends (ending_of result) self.old self.new }
         ensures ok { OnOk result (endpoint R.stream C.word_of self.new ≡ in_endpoint_state closing.close (endpoint R.stream C.word_of self.old)) }
@@ -254,6 +258,7 @@ impl<R: Rng, C: Checksum> DcSctpSocket for Socket<R, C> {
         Ok(ended(&mut self.has_failed, done)?)
     }
 
+    #[tactic(auto, using(crate::proofs::StandsLemmas::stands_same, crate::proofs::StandsLemmas::stands_by, crate::proofs::StandsLemmas::stands_on))]
     fn shutdown(&mut self) -> Result<(), CallError>
         ensures ends { Ends (ending_of result) self.old self.new }
         ensures ok { OnOk result (endpoint R.stream C.word_of self.new ≡ in_endpoint_state closing.shutdown (endpoint R.stream C.word_of self.old)) }
@@ -266,6 +271,7 @@ impl<R: Rng, C: Checksum> DcSctpSocket for Socket<R, C> {
         Ok(ended(&mut self.has_failed, done)?)
     }
 
+    #[tactic(auto, using(crate::proofs::StandsLemmas::stands_same, crate::proofs::StandsLemmas::stands_by, crate::proofs::StandsLemmas::stands_on))]
     fn send(&mut self, message: Message, options: &SendOptions) -> Result<(), SendError>
         ensures ends { Ends (sending_ending result) self.old self.new }
         ensures answer { sending_ending result ≡ Worked → refusal_in result ≡ calls.send_refusal_of (message_of message) (endpoint R.stream C.word_of self.old).endpoint_state }
@@ -283,6 +289,7 @@ impl<R: Rng, C: Checksum> DcSctpSocket for Socket<R, C> {
         }
     }
 
+    #[tactic(auto, using(crate::proofs::StandsLemmas::stands_same, crate::proofs::StandsLemmas::stands_by, crate::proofs::StandsLemmas::stands_on))]
     fn send_many(&mut self, messages: Vec<Message>, options: &SendOptions) -> Result<(), BatchFault>
         ensures ends { Ends (batch_ending result) self.old self.new }
         ensures answer { batch_ending result ≡ Worked → refusals_in result ≡ (let s = (endpoint R.stream C.word_of self.old).endpoint_state in
@@ -303,6 +310,7 @@ impl<R: Rng, C: Checksum> DcSctpSocket for Socket<R, C> {
         Err(BatchFault::Refused(BatchSendError(refusals)))
     }
 
+    #[tactic(auto, using(crate::proofs::StandsLemmas::stands_same, crate::proofs::StandsLemmas::stands_by, crate::proofs::StandsLemmas::stands_on))]
     fn reset_streams(&mut self, streams: &[StreamId]) -> Result<(), ResetStreamsError>
         ensures ends { Ends (resetting_ending result) self.old self.new }
         ensures answer { resetting_ending result ≡ Worked → reset_refusal_in result ≡ resets.reset_refusal self.old.state }
@@ -320,6 +328,7 @@ impl<R: Rng, C: Checksum> DcSctpSocket for Socket<R, C> {
         }
     }
 
+    #[tactic(auto, using(crate::proofs::StandsLemmas::stands_same, crate::proofs::StandsLemmas::stands_by, crate::proofs::StandsLemmas::stands_on))]
     fn set_stream_priority(&mut self, id: StreamId, priority: u16) -> Result<(), CallError>
         ensures ends { Ends (ending_of result) self.old self.new }
         ensures ok { OnOk result (endpoint R.stream C.word_of self.new ≡ in_endpoint_state (in_context (calls.set_priority id.0 priority)) (endpoint R.stream C.word_of self.old)) }
@@ -338,6 +347,7 @@ impl<R: Rng, C: Checksum> DcSctpSocket for Socket<R, C> {
         self.context.send_queue.get_priority(id)
     }
 
+    #[tactic(auto, using(crate::proofs::StandsLemmas::stands_same, crate::proofs::StandsLemmas::stands_by, crate::proofs::StandsLemmas::stands_on))]
     fn set_buffered_amount_low_threshold(
         &mut self,
         id: StreamId,
@@ -404,6 +414,7 @@ impl<R: Rng, C: Checksum> DcSctpSocket for Socket<R, C> {
         get_handover_readiness(&self.context, &self.state)
     }
 
+    #[tactic(auto, using(crate::proofs::StandsLemmas::stands_same, crate::proofs::StandsLemmas::stands_by, crate::proofs::StandsLemmas::stands_on))]
     fn get_handover_state_and_close(&mut self) -> Result<SocketHandoverState, HandoverError>
         ensures ends { Ends (handover_ending result) self.old self.new }
         ensures answer { handover_ending result ≡ Worked → readiness_in result ≡ handover.readiness (endpoint R.stream C.word_of self.old).endpoint_state }
@@ -423,6 +434,7 @@ impl<R: Rng, C: Checksum> DcSctpSocket for Socket<R, C> {
         Ok(ended(&mut self.has_failed, state)?)
     }
 
+    #[tactic(auto, using(crate::proofs::StandsLemmas::stands_same, crate::proofs::StandsLemmas::stands_by, crate::proofs::StandsLemmas::stands_on))]
     fn restore_from_state(&mut self, state: &SocketHandoverState) -> Result<(), RestoreError>
         ensures ends { Ends (restore_ending result) self.old self.new }
         ensures answer { restore_ending result ≡ Worked → restore_refusal_in result ≡ handover.restore_refusal_in self.old.state (handover_state_of state.now) }
