@@ -1,5 +1,5 @@
 -- What the log of a world has, where memory ran out.
-use Rattle.std.proofs.Common.{◌≡◌, ℕ, Some, List, ◌∷◌, ◌++◌, refl, ap, ◌∙◌}
+use Rattle.std.proofs.Common.{◌≡◌, ℕ, Some, List, ◌∷◌, ◌++◌, refl, ap, subst, ◌∙◌}
 use Rattle.std.specs.Prelude.{slice_get}
 use Rattle.spec_world.specs.Observations.{End, A, B, Call, Entry, Given}
 use Rattle.spec_world.specs.World.{Side, World, Action, CallOf, Give, GiveForeign, AdvanceTime, Runs, IsDisabled, call_entry, after_call, time_entry, after_time, news_of, call_socket, advance_time, clock, with_side}
@@ -68,3 +68,7 @@ failing all rest more action w u log done next there cut = record {
   };
   stops = cut;
 }
+
+-- an event that is this action, in this world
+pub this_event : (action event : Action) (w : World) (log : List Entry) → action ≡ event → StopsWithin (IsMadeBy action w) w.log log → StopsWithin (IsMadeBy event w) w.log log
+this_event action event w log e cut = subst (λ (a : Action). StopsWithin (IsMadeBy a w) w.log log) e cut

@@ -50,15 +50,17 @@ pub cut_as : {R C : Type 0} (stream : R → Stream) (word_of : C → List ℕ �
     → IsCut log (log ++ first ∷ news x (length v.packets) ready held (endpoint stream word_of s)) cut
     → StopsWithin (TakesBytesSo x first bytes (side_in stream word_of now) log) log cut
 cut_as stream word_of v now is x first bytes s log cut ready held takes_it a r c =
-    stops.begun (log ++ first ∷ news x (length v.packets) ready held (endpoint stream word_of s))
-    (take_emitted (side_in stream word_of now) (endpoint stream word_of s), record {
-      after = endpoint stream word_of s;
-      takes = subst (λ (w : SideValue _ _). Receives (word_of w.socket.context.checksum) bytes (endpoint stream word_of w.socket) (endpoint stream word_of s)) is takes_it;
-      side = refl;
-      logged = ap (λ (k : ℕ). log ++ first ∷ news x (length v.packets) k held (endpoint stream word_of s)) r
-          ∙ ap (λ (h : Option Association). log ++ first ∷ news x (length v.packets) (length (ready_in now.socket.state)) h (endpoint stream word_of s)) a
-          ∙ ap (λ (w : SideValue _ _). log ++ first ∷ news x (length w.packets) (length (ready_in now.socket.state)) (association_in now.socket.state) (endpoint stream word_of s)) is;
-    }) c
+    stops.begun (log ++ first ∷ news x (length v.packets) ready held (endpoint stream word_of s)) (
+      take_emitted (side_in stream word_of now) (endpoint stream word_of s),
+      record {
+        after = endpoint stream word_of s;
+        takes = subst (λ (w : SideValue _ _). Receives (word_of w.socket.context.checksum) bytes (endpoint stream word_of w.socket) (endpoint stream word_of s)) is takes_it;
+        side = refl;
+        logged = ap (λ (k : ℕ). log ++ first ∷ news x (length v.packets) k held (endpoint stream word_of s)) r
+            ∙ ap (λ (h : Option Association). log ++ first ∷ news x (length v.packets) (length (ready_in now.socket.state)) h (endpoint stream word_of s)) a
+            ∙ ap (λ (w : SideValue _ _). log ++ first ∷ news x (length w.packets) (length (ready_in now.socket.state)) (association_in now.socket.state) (endpoint stream word_of s)) is;
+      },
+    ) c
 
 -- ---- bytes from elsewhere
 

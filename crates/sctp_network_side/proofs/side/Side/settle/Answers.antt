@@ -47,7 +47,7 @@ returns-clause-cut g c =
     let l3 = map entry_tree c.take_events.new.log.items in
     let same = c.is_same-is_same.result in
     let from : c.if-is_same.place ≡ ready_before same c.args.before.ready = elim c.if-is_same.branch [
-      then-is_same w ↦ from_ready same c.if-is_same.place c.args.before.ready w.if-is_same.true w.place-is
+      | then-is_same w ↦ from_ready same c.if-is_same.place c.args.before.ready w.if-is_same.true w.place-is
       | else-is_same w ↦ from_none same c.if-is_same.place c.args.before.ready w.if-is_same.false w.place-is
     ] in
     on_err_weaker c.log_ready.result (settles_ready g.R.Rng.stream g.C.Checksum.word_of v c.args.self.now c.self.view_is (end_tree c.args.end) (entry_tree c.args.first)
