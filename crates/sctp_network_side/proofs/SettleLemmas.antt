@@ -4,7 +4,7 @@ use Rattle.rand_core.specs.Stream.{Stream}
 use Rattle.spec_endpoint.specs.Association.{State}
 use Rattle.spec_endpoint.specs.Calls.{ready_in}
 use Rattle.spec_endpoint.specs.Shown.{Association, association_in}
-use Rattle.sctp_association.specs.Socket.{SocketValue, endpoint}
+use Rattle.sctp_association.specs.Socket.{endpoint}
 use Rattle.spec_world.specs.Observations.{End, Entry, same_association}
 use Rattle.spec_world.specs.World.{news, associated_if, emitted_entries, given_up_entries, ready_entries, ready_before}
 use Rattle.sctp_network_side.specs.Interrupted.{IsCut}
