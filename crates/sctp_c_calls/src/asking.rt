@@ -130,11 +130,12 @@ pub fn write_options<R: Rng>(socket: &Socket<R, PacketChecksum>, bytes: &mut [u8
 pub fn rest_number<R: Rng, C: Checksum>(socket: &Socket<R, C>) -> u32
     ensures { result ≡ one_if (is_at_rest socket.now.state socket.now.context.queue) }
 {
-    if socket.is_at_rest() { 1 } else { 0 }
+    one_if(socket.is_at_rest())
 }
 
 fn one_if(holds: bool) -> u32
-    ensures { (result == 1) ≡ holds }
+    ensures number { result ≡ one_if holds }
+    ensures holds { (result == 1) ≡ holds }
 {
     if holds { 1 } else { 0 }
 }
