@@ -193,7 +193,8 @@ static void lead(struct run *run, const char *program) {
     if (!run->closed)
         wrong("not closed after a minute");
     bool both = run->takes_zero[OURS] && run->takes_zero[THEIRS];
-    if (run->agreed != both || (run->zeros[OURS] > 0) != both || (run->zeros[THEIRS] > 0) != run->takes_zero[OURS])
+    bool announced = both || (run->takes_zero[OURS] && run->connects); /* an INIT ACK of ours announces it where the INIT did */
+    if (run->agreed != both || (run->zeros[OURS] > 0) != both || (run->zeros[THEIRS] > 0) != announced)
         wrong("what was agreed on");
     pigeon_free(&run->end);
     close(run->wire);

@@ -156,7 +156,7 @@ pub extern "C" fn pigeon_stream_priority(
     stream: u32,
     priority: &mut u16,
 ) -> u32
-    ensures stream { 65535 < stream → result ≡ 6 }
+    ensures stream { 65535 < stream → (result ≡ 6) × (socket.new.held ≡ socket.old.held) }
     ensures call { stream ≤ 65535 → Tells (λ s. priority.new ≡ (queue.stream stream s.context.queue.streams).priority) socket.old.held result socket.new.held }
     ensures handle { socket.new ≡ socket.old }
 {
@@ -179,7 +179,7 @@ pub extern "C" fn pigeon_buffered_amount_low_threshold(
     stream: u32,
     bytes: &mut usize,
 ) -> u32
-    ensures stream { 65535 < stream → result ≡ 6 }
+    ensures stream { 65535 < stream → (result ≡ 6) × (socket.new.held ≡ socket.old.held) }
     ensures call { stream ≤ 65535 → Tells (λ s. bytes.new ≡ (queue.stream stream s.context.queue.streams).threshold) socket.old.held result socket.new.held }
     ensures handle { socket.new ≡ socket.old }
 {
@@ -243,7 +243,7 @@ pub extern "C" fn pigeon_refuses(socket: &mut Handle, bytes: &[u8], refused: &mu
 /// Writes the options, with the size of messages last set.
 #[unsafe(no_mangle)]
 pub extern "C" fn pigeon_get_options_sized(socket: &mut Handle, options: &mut [u8]) -> u32
-    ensures size { 176 < length options.old → result ≡ 21 }
+    ensures size { 176 < length options.old → (result ≡ 21) × (socket.new.held ≡ socket.old.held) }
     ensures call { length options.old ≤ 176 → Tells (λ s. ShowsOptions s.context options.old options.new) socket.old.held result socket.new.held }
     ensures handle { socket.new ≡ socket.old }
 {

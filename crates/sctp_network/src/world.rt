@@ -16,6 +16,7 @@ ghost use Rattle.proof_world.specs.Consistent.{WorldKeepsRules};
 ghost use Rattle.proof_world.specs.Delivered.{WorldDelivers};
 ghost use Rattle.proof_world.specs.Few.{RunNumbersFew};
 ghost use Rattle.proof_world.specs.Reachable.{Origin, origin, IsReachable, Continues};
+ghost use Rattle.proof_awake.specs.Worlds.{EndsAreAwake};
 ghost use Rattle.sctp_network_side.specs.SideView.{action_of, end_tree, entry_tree, side_in};
 ghost use Rattle.sctp_network.specs.WorldView.{world_of};
 
@@ -365,6 +366,7 @@ pub fn step<R: Rng, C: Checksum>(world: &mut World<R, C>, event: &Event) -> Resu
     ensures composes { (o : Origin) (actions : List Action) (l : IsReachable o actions (world_of R.stream C.word_of world.new)) → Composes o actions (world_of R.stream C.word_of world.new) l.runs }
     ensures agrees { (o : Origin) (actions : List Action) → IsReachable o actions (world_of R.stream C.word_of world.new) → EachEndDrawsDistinctTags o actions
         → WorldAgrees (world_of R.stream C.word_of world.new).log }
+    ensures awake { (o : Origin) (actions : List Action) → IsReachable o actions (world_of R.stream C.word_of world.new) → EndsAreAwake (world_of R.stream C.word_of world.new) }
 {
     let a = world.sent(End::A);
     let b = world.sent(End::B);
@@ -395,6 +397,7 @@ pub fn run<R: Rng, C: Checksum>(world: &mut World<R, C>, events: &[Event]) -> Re
     ensures composes { (o : Origin) (actions : List Action) (l : IsReachable o actions (world_of R.stream C.word_of world.new)) → Composes o actions (world_of R.stream C.word_of world.new) l.runs }
     ensures agrees { (o : Origin) (actions : List Action) → IsReachable o actions (world_of R.stream C.word_of world.new) → EachEndDrawsDistinctTags o actions
         → WorldAgrees (world_of R.stream C.word_of world.new).log }
+    ensures awake { (o : Origin) (actions : List Action) → IsReachable o actions (world_of R.stream C.word_of world.new) → EndsAreAwake (world_of R.stream C.word_of world.new) }
 {
     let a = world.sent(End::A);
     let b = world.sent(End::B);

@@ -2,6 +2,7 @@ use Rattle.std.proofs.Common.{map}
 use Rattle.std.proofs.lemmas.Result.{on_ok_weaker, IfErr-weaker}
 use Rattle.proof_delivery.proofs.LawLemmas.{delivered, refused_none, delivered_then}
 use Rattle.spec_world.specs.World.{World}
+use Rattle.proof_awake.proofs.WorldLemmas.{worlds_awake}
 use Rattle.proof_world.proofs.AgreedLemmas.{worlds_agree}
 use Rattle.proof_world.proofs.ComposedLemmas.{compose}
 use Rattle.proof_world.proofs.OnceLemmas.{never_ran}
@@ -48,3 +49,6 @@ returns-clause-composes g c = λ o actions l. compose delivered refused_none del
 
 pub returns-clause-agrees : goal.returns-clause-agrees
 returns-clause-agrees g c = λ o actions l distinct. worlds_agree o actions _ l distinct
+
+pub returns-clause-awake : goal.returns-clause-awake
+returns-clause-awake g c = λ o actions l. worlds_awake o.a o.b o.draws_a o.draws_b o.word_of_a o.word_of_b actions _ l.valid_a l.valid_b l.runs

@@ -1,0 +1,128 @@
+-- The laws of progress.
+use Rattle.std.proofs.Common.{◌≡◌, ℕ, ◌≤◌, ◌<◌, ◌⊎◌, inl, inr, true, false, min, max, Option, Some, None, refl, arith}
+use Rattle.std.specs.Prelude.{◌==◌, is_some}
+use Rattle.rand_core.specs.Stream.{Stream}
+use Rattle.sctp_serial.specs.Time.{forever}
+use Rattle.sctp_state.specs.Options.{Options, IsValid}
+use Rattle.sctp_state.specs.Timer.{Timer, next_expiry, moment_of}
+use Rattle.sctp_tracker.specs.declared.data_tracker.AckState.{AckState}
+use Rattle.sctp_tracker.specs.declared.data_tracker.AckState.TheVariants.{Idle, Becoming, Delayed, Immediate}
+use Rattle.spec_endpoint.specs.Association.{Tcb, CookieEchoed, Established, ShutdownPending, ShutdownSent, ShutdownReceived, ShutdownAckSent, State, Closed, CookieWait, Open, Heartbeats, Packing, EndpointState, fresh}
+use Rattle.spec_endpoint.specs.Timers.{running_expiry, timeout_in}
+use Rattle.proof_awake.specs.Awake.{Runs, is_none, is_delayed, AckIsTimed, BeatsOn, BlockIsAwake, StateIsAwake, IsAwake}
+use Rattle.proof_awake.specs.Invariant.{HasLimits, StateHolds, IsTimed}
+use Rattle.proof_awake.specs.Laws.{EachCallKeepsTimed, IsInTime, StateIsInTime, StateIsQuiet, OnlyQuietEndsNameNoMoment}
+use Rattle.proof_awake.proofs.BlockLemmas.{block_awake}
+use Rattle.proof_awake.proofs.InputRowLemmas.{each_call}
+
+pub valid_times : (o : Options) → IsValid o → HasLimits o
+valid_times o h =
+    let a = h.times.rto_min in
+    let b = h.times.rto_initial in
+    let c = h.times.t1_init in
+    let d = h.times.t1_cookie in
+    let e = h.times.delayed_ack in
+    record {
+      rto_range = h.times.rto_range;
+      rto_min = omega (arith, a);
+      rto_initial = omega (arith, b);
+      t1_init = omega (arith, c);
+      t1_cookie = omega (arith, d);
+      delayed_ack = omega (arith, e);
+      mtu_least = h.sizes.mtu_least;
+      mtu_most = h.sizes.mtu_most;
+      cwnd_initial = h.windows.initial_least;
+      cwnd_min = h.windows.min_least;
+    }
+
+pub new_ends : {P : Type 0} (o : Options) (pack : Packing P) (draws : Stream) → IsValid o → IsTimed (fresh o pack draws).endpoint_state
+new_ends o pack draws h = record { options = valid_times o h; restarts = refl; interval = tt }
+
+pub calls_keep : EachCallKeepsTimed
+calls_keep call s e h = each_call call s e h
+
+state_awake : (s : State) (o : Options) (h : Heartbeats) → StateHolds s o h → StateIsAwake s h
+state_awake Closed o h k = tt
+state_awake (CookieWait tag first t1) o h k = k.1
+state_awake (Open (CookieEchoed t1 cookie) t) o h k = (k.1.0, block_awake false t k.1.1)
+state_awake (Open Established t) o h k = (k.0.interval, block_awake false t k.1.1)
+state_awake (Open ShutdownPending t) o h k = (k.1.1.sender.some, block_awake true t k.1.1)
+state_awake (Open (ShutdownSent t2) t) o h k = (k.1.0, block_awake false t k.1.1)
+state_awake (Open ShutdownReceived t) o h k = (k.1.1.sender.some, block_awake true t k.1.1)
+state_awake (Open (ShutdownAckSent t2) t) o h k = (k.1.0, block_awake false t k.1.1)
+
+pub awake : {P : Type 0} (s : EndpointState P) → IsTimed s → IsAwake s
+awake s h = state_awake s.state s.context.options s.context.heartbeats h
+
+-- ---- moments
+
+-- a timer that runs, in time, names a moment
+named : (t : Timer) → IsInTime t → Runs t → next_expiry t < forever
+named t f r = go t.due refl r
+  where
+    go : (o : Option ℕ) → t.due ≡ o → is_some o ≡ true → moment_of o < forever
+    go None e h = absurd (cc)
+    go (Some moment) e h = f moment e
+
+unnamed : (t : Timer) → IsInTime t → forever ≤ next_expiry t → Runs t → ⊥
+unnamed t f l r = let n = named t f r in omega (arith, n, l)
+
+last : (n now : ℕ) → now < forever → max n now ≡ forever → forever ≤ n
+last n now l e = omega (arith, l, e)
+
+module _ (t : Tcb) (h : Heartbeats) (k : BlockIsAwake t) (l : forever ≤ running_expiry t h) where
+  items_rest : IsInTime t.sender.t3 → is_none t.sender.outstanding.items.kept ≡ true
+  items_rest f = go k.items
+    where
+      go : (is_none t.sender.outstanding.items.kept ≡ true) ⊎ Runs t.sender.t3 → is_none t.sender.outstanding.items.kept ≡ true
+      go (inl z) = z
+      go (inr r) = absurd (unnamed t.sender.t3 f (omega (arith, l)) r)
+
+  request_rests : IsInTime t.requests.timer → t.requests.current ≡ None
+  request_rests f = go k.request
+    where
+      go : (t.requests.current ≡ None) ⊎ Runs t.requests.timer → t.requests.current ≡ None
+      go (inl z) = z
+      go (inr r) = absurd (unnamed t.requests.timer f (omega (arith, l)) r)
+
+  ack_rests : IsInTime t.tracker.tracker.delay → is_delayed t.tracker.tracker.ack ≡ false
+  ack_rests f = go t.tracker.tracker.ack k.ack
+    where
+      go : (a : AckState) → AckIsTimed a t.tracker.tracker.delay → is_delayed a ≡ false
+      go Idle r = refl
+      go Becoming r = refl
+      go Delayed r = absurd (unnamed t.tracker.tracker.delay f (omega (arith, l)) r)
+      go Immediate r = refl
+
+  beats_rest : IsInTime h.interval → BeatsOn h.interval → (h.interval.duration == 0) ≡ true
+  beats_rest f (inl z) = z
+  beats_rest f (inr r) = absurd (unnamed h.interval f (omega (arith, l)) r)
+
+  -- a shutdown that waits for items names a moment
+  waits_on : IsInTime t.sender.t3 → is_none t.sender.outstanding.items.kept ≡ false → ⊥
+  waits_on f e = let z = items_rest f in cc
+
+quiet_in : (s : State) (h : Heartbeats) (now : ℕ) → StateIsAwake s h → now < forever → StateIsInTime s h → timeout_in s h now ≡ forever → StateIsQuiet s h
+quiet_in Closed h now k l f e = tt
+quiet_in (CookieWait tag first t1) h now k l f e = unnamed t1 f (last (next_expiry t1) now l e) k
+quiet_in (Open (CookieEchoed t1 cookie) t) h now k l f e = absurd (unnamed t1 f.phase_timer (last (next_expiry t1) now l e) k.0)
+quiet_in (Open Established t) h now k l f e =
+    let m = last (running_expiry t h) now l e in
+    record {
+      connected = refl;
+      nothing_kept = items_rest t h k.1 m f.t3;
+      no_request = request_rests t h k.1 m f.request;
+      no_ack = ack_rests t h k.1 m f.delay;
+      no_heartbeats = beats_rest t h k.1 m f.interval k.0;
+    }
+quiet_in (Open ShutdownPending t) h now k l f e = absurd (waits_on t h k.1 (last (running_expiry t h) now l e) f.t3 k.0)
+quiet_in (Open (ShutdownSent t2) t) h now k l f e =
+    let m = last (min (next_expiry t2) (running_expiry t h)) now l e in
+    absurd (unnamed t2 f.phase_timer (omega (arith, m)) k.0)
+quiet_in (Open ShutdownReceived t) h now k l f e = absurd (waits_on t h k.1 (last (running_expiry t h) now l e) f.t3 k.0)
+quiet_in (Open (ShutdownAckSent t2) t) h now k l f e =
+    let m = last (min (next_expiry t2) (running_expiry t h)) now l e in
+    absurd (unnamed t2 f.phase_timer (omega (arith, m)) k.0)
+
+pub quiet : OnlyQuietEndsNameNoMoment
+quiet s k l f e = quiet_in s.state s.context.heartbeats s.context.now k l f e

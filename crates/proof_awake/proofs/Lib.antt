@@ -1,0 +1,16 @@
+pub mod TimerLemmas
+pub mod ItemsLemmas
+pub mod RoomLemmas
+pub mod SenderLemmas
+pub mod BlockLemmas
+pub mod SendingRowLemmas
+pub mod RowLemmas
+pub mod CallRowLemmas
+pub mod OpeningRowLemmas
+pub mod InputRowLemmas
+pub mod LawLemmas
+pub mod WorldLemmas
+pub mod LeftBehindLemmas
+pub mod LineLemmas
+pub mod LineCallLemmas
+pub mod LineRowLemmas

@@ -1,0 +1,66 @@
+-- Progress, as laws of the table: between calls an end that owes something has a timer that runs.
+use Rattle.std.specs.Prelude.{◌≡◌, ℕ, ◌<◌, ◌==◌, true, false, Some, None, List}
+use Rattle.rand_core.specs.Stream.{Stream}
+use Rattle.sctp_serial.specs.Time.{forever}
+use Rattle.sctp_state.specs.Options.{Options, IsValid}
+use Rattle.sctp_state.specs.Timer.{Timer}
+use Rattle.spec_endpoint.specs.Association.{Tcb, Phase, CookieEchoed, Established, ShutdownPending, ShutdownSent, ShutdownReceived, ShutdownAckSent, State, Closed, CookieWait, Open, Heartbeats, Packing, EndpointState, Endpoint, fresh}
+use Rattle.spec_endpoint.specs.Timers.{poll_timeout}
+use Rattle.spec_endpoint.specs.Laws.{Call, called}
+use Rattle.proof_awake.specs.Awake.{is_none, is_delayed, is_restore, IsAwake}
+use Rattle.proof_awake.specs.Invariant.{IsTimed}
+
+-- a new end with valid options; and what each call leaves, but the one that takes up a record, which starts no timer
+abbrev pub NewEndsAreTimed : Type 0
+NewEndsAreTimed = (o : Options) (pack : Packing (List ℕ)) (draws : Stream) → IsValid o → IsTimed (fresh o pack draws).endpoint_state
+
+abbrev pub EachCallKeepsTimed : Type 0
+EachCallKeepsTimed = (call : Call) (s : Endpoint (List ℕ)) → is_restore call ≡ false → IsTimed s.endpoint_state → IsTimed (called call s).endpoint_state
+
+abbrev pub TimedEndsAreAwake : Type 0
+TimedEndsAreAwake = (s : EndpointState (List ℕ)) → IsTimed s → IsAwake s
+
+-- ---- what `poll_timeout` says of it
+
+-- its next expiry isn't past the end of time
+abbrev pub IsInTime : Timer → Type 0
+IsInTime t = (moment : ℕ) → t.due ≡ Some moment → moment < forever
+
+abbrev pub PhaseIsInTime : Phase → Type 0
+PhaseIsInTime (CookieEchoed t1 cookie) = IsInTime t1
+PhaseIsInTime Established = Unit {0}
+PhaseIsInTime ShutdownPending = Unit {0}
+PhaseIsInTime (ShutdownSent t2) = IsInTime t2
+PhaseIsInTime ShutdownReceived = Unit {0}
+PhaseIsInTime (ShutdownAckSent t2) = IsInTime t2
+
+pub record BlockIsInTime (phase : Phase) (t : Tcb) (h : Heartbeats) : Type 0 where
+  pub phase_timer : PhaseIsInTime phase
+  pub t3 : IsInTime t.sender.t3
+  pub request : IsInTime t.requests.timer
+  pub delay : IsInTime t.tracker.tracker.delay
+  pub interval : IsInTime h.interval
+
+abbrev pub StateIsInTime : State → Heartbeats → Type 0
+StateIsInTime Closed h = Unit {0}
+StateIsInTime (CookieWait tag first t1) h = IsInTime t1
+StateIsInTime (Open phase t) h = BlockIsInTime phase t h
+
+-- at rest, connected, with nothing to wait for and no heartbeats
+pub record IsQuiet (phase : Phase) (t : Tcb) (h : Heartbeats) : Type 0 where
+  pub connected : phase ≡ Established
+  pub nothing_kept : is_none t.sender.outstanding.items.kept ≡ true
+  pub no_request : t.requests.current ≡ None
+  pub no_ack : is_delayed t.tracker.tracker.ack ≡ false
+  pub no_heartbeats : (h.interval.duration == 0) ≡ true
+
+abbrev pub StateIsQuiet : State → Heartbeats → Type 0
+StateIsQuiet Closed h = Unit {0}
+StateIsQuiet (CookieWait tag first t1) h = ⊥
+StateIsQuiet (Open phase t) h = IsQuiet phase t h
+
+-- no moment is named only by an end that is closed or quiet
+abbrev pub OnlyQuietEndsNameNoMoment : Type 0
+OnlyQuietEndsNameNoMoment =
+    (s : EndpointState (List ℕ)) → IsAwake s → s.context.now < forever → StateIsInTime s.state s.context.heartbeats → poll_timeout s ≡ forever
+    → StateIsQuiet s.state s.context.heartbeats

@@ -1,0 +1,6 @@
+pub mod Awake
+pub mod Invariant
+pub mod Laws
+pub mod Worlds
+pub mod LeftBehind
+pub mod Line

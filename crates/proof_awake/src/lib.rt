@@ -1,0 +1,44 @@
+//! Progress of an SCTP association, as laws over the table of steps: between calls an end that owes something has a timer that
+//! runs, so that it names a moment at which to call it next.
+#![tactic(auto)]
+
+ghost use Rattle.proof_awake.specs.Laws.{EachCallKeepsTimed, NewEndsAreTimed, OnlyQuietEndsNameNoMoment, TimedEndsAreAwake};
+ghost use Rattle.proof_awake.specs.LeftBehind.{ALineIsLeft, AResetIsLeftBehind};
+ghost use Rattle.proof_awake.specs.Line.{SendingCallsLeaveNoLine, SendingsLeaveNoLine};
+ghost use Rattle.proof_awake.specs.Worlds.{WorldsAreAwake};
+
+/// A new end, with valid options, and what each call leaves of one is awake: where an item is kept T3-rtx runs; where a request to
+/// reset streams waits its timer runs, and where an acknowledgement is delayed its delay; T1 and T2 run in their states, and the
+/// heartbeats' interval once connected. A shutdown waits for nothing but items. The one call that starts no timer takes up the
+/// record of a handover.
+pub fn ends_are_awake()
+    ensures new { NewEndsAreTimed }
+    ensures calls { EachCallKeepsTimed }
+    ensures awake { TimedEndsAreAwake }
+{}
+
+/// So `poll_timeout` names no moment only of an end that is closed, or connected with nothing kept, no request, no delayed
+/// acknowledgement and no heartbeats.
+pub fn only_quiet_ends_name_no_moment()
+    ensures quiet { OnlyQuietEndsNameNoMoment }
+{}
+
+/// Each end of a world is awake between events, whatever led it there.
+pub fn worlds_are_awake()
+    ensures worlds { WorldsAreAwake }
+{}
+
+/// Not all that is queued waits for a request: in this conversation, computed, a stream waits for the answer to one of an association
+/// that is over. An end that answers a COOKIE ECHO without an association keeps its queue as it was. And not all that is in line is sent:
+/// a RE-CONFIG with two requests for outgoing streams ends without a sending, even where its answer has put a stream in line.
+pub fn a_reset_is_left_behind()
+    ensures left { AResetIsLeftBehind }
+    ensures line { ALineIsLeft }
+{}
+
+/// Once connected, a sending leaves no stream in line where it leaves no item kept: with bursts of two packets at least, since the first
+/// one may be full of a request to reset streams.
+pub fn sendings_leave_no_line()
+    ensures line { SendingsLeaveNoLine }
+    ensures calls { SendingCallsLeaveNoLine }
+{}
