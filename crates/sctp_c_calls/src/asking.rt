@@ -130,12 +130,11 @@ pub fn write_options<R: Rng>(socket: &Socket<R, PacketChecksum>, bytes: &mut [u8
 pub fn rest_number<R: Rng, C: Checksum>(socket: &Socket<R, C>) -> u32
     ensures { result ≡ one_if (is_at_rest socket.now.state socket.now.context.queue) }
 {
-    one_if(socket.is_at_rest())
+    if socket.is_at_rest() { 1 } else { 0 }
 }
 
 fn one_if(holds: bool) -> u32
-    ensures number { result ≡ one_if holds }
-    ensures holds { (result == 1) ≡ holds }
+    ensures { (result == 1) ≡ holds }
 {
     if holds { 1 } else { 0 }
 }
