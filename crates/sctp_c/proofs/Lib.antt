@@ -1,1 +1,2 @@
 pub mod Handles
+mod PutBackLemmas

@@ -40,6 +40,7 @@ pub extern "C" fn pigeon_version() -> u32
 pub extern "C" fn pigeon_poll_timeout(socket: &mut Handle, nanos: &mut u64) -> u32
     ensures due { Tells (λ s. time.poll_timeout (end_of s).endpoint_state < 2 ^ 64 → nanos.new ≡ time.poll_timeout (end_of s).endpoint_state) socket.old.held result socket.new.held }
     ensures never { Tells (λ s. 2 ^ 64 ≤ time.poll_timeout (end_of s).endpoint_state → nanos.new ≡ 2 ^ 64 - 1) socket.old.held result socket.new.held }
+    ensures handle { socket.new ≡ socket.old }
 {
     match socket.as_mut() {
         None => NO_SOCKET,
@@ -53,7 +54,8 @@ pub extern "C" fn pigeon_poll_timeout(socket: &mut Handle, nanos: &mut u64) -> u
 /// The state: 0 closed, 1 connecting, 2 connected, 3 shutting down.
 #[unsafe(no_mangle)]
 pub extern "C" fn pigeon_state(socket: &mut Handle, state: &mut u32) -> u32
-    ensures { Tells (λ s. state.new ≡ state_number (table.shown_state s.state)) socket.old.held result socket.new.held }
+    ensures state { Tells (λ s. state.new ≡ state_number (table.shown_state s.state)) socket.old.held result socket.new.held }
+    ensures handle { socket.new ≡ socket.old }
 {
     match socket.as_mut() {
         None => NO_SOCKET,
@@ -69,6 +71,7 @@ pub extern "C" fn pigeon_state(socket: &mut Handle, state: &mut u32) -> u32
 pub extern "C" fn pigeon_buffered_amount(socket: &mut Handle, stream: u32, bytes: &mut usize) -> u32
     ensures stream { 65535 < stream → (result ≡ 6) × (socket.new.held ≡ socket.old.held) }
     ensures call { stream ≤ 65535 → Tells (λ s. bytes.new ≡ queue.amount_of (queue.stream stream s.context.queue.streams)) socket.old.held result socket.new.held }
+    ensures handle { socket.new ≡ socket.old }
 {
     let Some(stream) = stream_of(stream) else {
         return INVALID_STREAM;
@@ -90,6 +93,7 @@ pub extern "C" fn pigeon_get_metrics_sized(socket: &mut Handle, metrics: &mut [u
     ensures stays { length metrics.old ≤ 96 → Answers (λ e n f. f ≡ e) socket.old.held result socket.new.held }
     ensures metrics { length metrics.old ≤ 96 → Answers (OnSocket (λ s n t. OnAnswer 0 n (ShowsMetrics metrics.old metrics.new (option_map shown_metrics (metrics_in s.state s.context))))) socket.old.held result socket.new.held }
     ensures nothing { length metrics.old ≤ 96 → Answers (OnSocket (λ s n t. OnAnswer 8 n (option_map shown_metrics (metrics_in s.state s.context) ≡ None))) socket.old.held result socket.new.held }
+    ensures handle { socket.new ≡ socket.old }
 {
     if METRICS_SIZE < metrics.len() {
         return INVALID_SIZE;
@@ -103,7 +107,8 @@ pub extern "C" fn pigeon_get_metrics_sized(socket: &mut Handle, metrics: &mut [u
 /// What stands in the way of a handover, a bit each.
 #[unsafe(no_mangle)]
 pub extern "C" fn pigeon_handover_readiness(socket: &mut Handle, readiness: &mut u32) -> u32
-    ensures { Tells (λ s. readiness.new ≡ handover.readiness (end_of s).endpoint_state) socket.old.held result socket.new.held }
+    ensures readiness { Tells (λ s. readiness.new ≡ handover.readiness (end_of s).endpoint_state) socket.old.held result socket.new.held }
+    ensures handle { socket.new ≡ socket.old }
 {
     match socket.as_mut() {
         None => NO_SOCKET,
@@ -118,6 +123,7 @@ pub extern "C" fn pigeon_handover_readiness(socket: &mut Handle, readiness: &mut
 #[unsafe(no_mangle)]
 pub extern "C" fn pigeon_clock(socket: &mut Handle, nanos: &mut u64) -> u32
     ensures clock { Tells (λ s. nanos.new ≡ min s.context.clock (2 ^ 64 - 1)) socket.old.held result socket.new.held }
+    ensures handle { socket.new ≡ socket.old }
 {
     match socket.as_mut() {
         None => NO_SOCKET,
@@ -132,6 +138,7 @@ pub extern "C" fn pigeon_clock(socket: &mut Handle, nanos: &mut u64) -> u32
 #[unsafe(no_mangle)]
 pub extern "C" fn pigeon_messages_ready_count(socket: &mut Handle, count: &mut usize) -> u32
     ensures count { Tells (λ s. count.new ≡ length (table.ready_in s.state)) socket.old.held result socket.new.held }
+    ensures handle { socket.new ≡ socket.old }
 {
     match socket.as_mut() {
         None => NO_SOCKET,
@@ -151,6 +158,7 @@ pub extern "C" fn pigeon_stream_priority(
 ) -> u32
     ensures stream { 65535 < stream → (result ≡ 6) × (socket.new.held ≡ socket.old.held) }
     ensures call { stream ≤ 65535 → Tells (λ s. priority.new ≡ (queue.stream stream s.context.queue.streams).priority) socket.old.held result socket.new.held }
+    ensures handle { socket.new ≡ socket.old }
 {
     let Some(stream) = stream_of(stream) else {
         return INVALID_STREAM;
@@ -173,6 +181,7 @@ pub extern "C" fn pigeon_buffered_amount_low_threshold(
 ) -> u32
     ensures stream { 65535 < stream → (result ≡ 6) × (socket.new.held ≡ socket.old.held) }
     ensures call { stream ≤ 65535 → Tells (λ s. bytes.new ≡ (queue.stream stream s.context.queue.streams).threshold) socket.old.held result socket.new.held }
+    ensures handle { socket.new ≡ socket.old }
 {
     let Some(stream) = stream_of(stream) else {
         return INVALID_STREAM;
@@ -190,6 +199,7 @@ pub extern "C" fn pigeon_buffered_amount_low_threshold(
 #[unsafe(no_mangle)]
 pub extern "C" fn pigeon_send_queue_room(socket: &mut Handle, bytes: &mut usize) -> u32
     ensures room { Tells (λ s. bytes.new ≡ s.context.options.max_send_buffer_size - queue.total_of s.context.queue.streams.entries) socket.old.held result socket.new.held }
+    ensures handle { socket.new ≡ socket.old }
 {
     match socket.as_mut() {
         None => NO_SOCKET,
@@ -204,6 +214,7 @@ pub extern "C" fn pigeon_send_queue_room(socket: &mut Handle, bytes: &mut usize)
 #[unsafe(no_mangle)]
 pub extern "C" fn pigeon_is_at_rest(socket: &mut Handle, rest: &mut u32) -> u32
     ensures rest { Tells (λ s. rest.new ≡ one_if (is_at_rest s.state s.context.queue)) socket.old.held result socket.new.held }
+    ensures handle { socket.new ≡ socket.old }
 {
     match socket.as_mut() {
         None => NO_SOCKET,
@@ -221,6 +232,7 @@ pub extern "C" fn pigeon_refuses(socket: &mut Handle, bytes: &[u8], refused: &mu
     ensures stays { Answers (λ e n f. f ≡ e) socket.old.held result socket.new.held }
     ensures judged { Answers (OnSocket (λ s n t. OnAnswer 0 n (Judges (word_by s.context.checksum) bytes.now s.context.options s.state (refused.new == 1)))) socket.old.held result socket.new.held }
     ensures failed { Answers (OnSocket (λ s n t. n ≡ 2 ↔ s.has_failed ≡ true)) socket.old.held result socket.new.held }
+    ensures handle { socket.new ≡ socket.old }
 {
     match socket.as_mut() {
         None => NO_SOCKET,
@@ -233,6 +245,7 @@ pub extern "C" fn pigeon_refuses(socket: &mut Handle, bytes: &[u8], refused: &mu
 pub extern "C" fn pigeon_get_options_sized(socket: &mut Handle, options: &mut [u8]) -> u32
     ensures size { 176 < length options.old → (result ≡ 21) × (socket.new.held ≡ socket.old.held) }
     ensures call { length options.old ≤ 176 → Tells (λ s. ShowsOptions s.context options.old options.new) socket.old.held result socket.new.held }
+    ensures handle { socket.new ≡ socket.old }
 {
     if OPTIONS_SIZE < options.len() {
         return INVALID_SIZE;
