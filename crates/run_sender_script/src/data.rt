@@ -67,7 +67,7 @@ fn receive_sack(
 ) -> Answer {
     match sack(alloc, line.tsn(0), line.short(1), line.short(2)) {
         Ok(chunk) => {
-            let answer = handle(data, &chunk, events, output);
+            let answer = handle(alloc, data, &chunk, events, output);
             drop(chunk);
             answer
         }
@@ -76,6 +76,7 @@ fn receive_sack(
 }
 
 fn handle(
+    alloc: Global,
     data: &mut OutstandingData,
     chunk: &SackChunk,
     events: &mut Events,
@@ -85,7 +86,8 @@ fn handle(
     if !data.is_sack_valid(tsn, blocks) {
         return Answer::Refused;
     }
-    match data.handle_sack(tsn, blocks, false, events) {
+    let mut spares = Vec::new(alloc);
+    match data.handle_sack(tsn, blocks, false, &mut spares, events) {
         Ok(info) => written(write!(
             output,
             "AckInfo {{ bytes_acked: {}, has_packet_loss: {} }}",
