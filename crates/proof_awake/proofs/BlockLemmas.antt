@@ -6,11 +6,11 @@ use Rattle.sctp_state.specs.Timer.{Timer, start, stop, is_due, expire, set_durat
 use Rattle.sctp_state.specs.RetransmissionTimeout.{Rtt, rto, is_dropped, first_sample, later_sample, observe_rto}
 use Rattle.sctp_tracker.specs.declared.data_tracker.AckState.{AckState}
 use Rattle.sctp_tracker.specs.declared.data_tracker.AckState.TheVariants.{Idle, Becoming, Delayed, Immediate}
-use Rattle.sctp_tracker.specs.DataTracker.{Tracker, tracker, ack_delay, update_rto, ack_after, is_ack_due, take_ack, is_becoming, packet_end, ack_timeout, observe, forward}
+use Rattle.sctp_tracker.specs.DataTracker.{Tracker, ack_delay, update_rto, ack_after, is_ack_due, take_ack, is_becoming, packet_end, ack_timeout, observe, forward}
 use Rattle.sctp_capabilities.specs.Capabilities.{Capabilities}
 use Rattle.sctp_tx.specs.RetransmissionQueue.{Sender}
 use Rattle.spec_endpoint.specs.Association.{Identity, Tcb, tcb}
-use Rattle.spec_endpoint.specs.ResetRequests.{Request, Requests, requests, start_request, lasting, without_deferral, clear_deferral, expire_reconfig_timer, is_final, end_or_defer, response_if, handle_response_in, handle_response, set_last_request}
+use Rattle.spec_endpoint.specs.ResetRequests.{Request, Requests, start_request, lasting, without_deferral, clear_deferral, expire_reconfig_timer, is_final, end_or_defer, response_if, handle_response_in, handle_response, set_last_request}
 use Rattle.spec_endpoint.specs.Sack.{sample_rtt}
 use Rattle.proof_awake.specs.Awake.{AckIsTimed, RequestIsTimed, BlockIsAwake}
 use Rattle.proof_awake.specs.Invariant.{HasLimits, SenderHolds, RttHolds, AckHolds, TrackerHolds, RequestsHold, BlockHolds}

@@ -14,3 +14,6 @@ pub mod LeftBehindLemmas
 pub mod LineLemmas
 pub mod LineCallLemmas
 pub mod LineRowLemmas
+pub mod LineEachLemmas
+pub mod LineTimeLemmas
+pub mod LineInputLemmas

@@ -1,5 +1,5 @@
 -- The calls that send leave no stream in line where no item is kept.
-use Rattle.std.proofs.Common.{◌≡◌, ℕ, ◌*◌, ◌/◌, ◌≤◌, true, false, Option, Some, None, List, [], ◌∷◌, refl, sym, ap, subst, ◌∙◌, arith}
+use Rattle.std.proofs.Common.{◌≡◌, ℕ, ◌≤◌, Option, Some, None, List, [], ◌∷◌, refl, sym, subst, ◌∙◌, arith}
 use Rattle.sctp_serial.specs.Messages.{Message}
 use Rattle.sctp_state.specs.declared.api.SocketState.{SocketState}
 use Rattle.sctp_state.specs.declared.api.errors.SendError.{SendError}
@@ -36,7 +36,7 @@ module _ {P : Type 0} where
     pub options_are : d.options ≡ c.options
     pub heartbeats_are : d.heartbeats ≡ c.heartbeats
 
-  offered_same : (r : Option SendError) (m : Message) (o : SendOptions) (c : Context P) → Same c (offered r m o c)
+  pub offered_same : (r : Option SendError) (m : Message) (o : SendOptions) (c : Context P) → Same c (offered r m o c)
   offered_same None m o c = record { options_are = refl; heartbeats_are = refl }
   offered_same (Some e) m o c = record { options_are = refl; heartbeats_are = refl }
 

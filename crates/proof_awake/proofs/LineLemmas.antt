@@ -1,6 +1,6 @@
 -- A sending leaves no stream in line where no item is kept: a packet with room takes what the queue has.
-use Rattle.std.proofs.Common.{◌≡◌, ℕ, zero, suc, ◌+◌, ◌-◌, ◌*◌, ◌/◌, ◌≤◌, Bool, true, false, min, cond, Option, Some, None, List, [], ◌∷◌, ◌++◌, length, refl, sym, ap, subst, ◌∙◌, arith}
-use Rattle.std.specs.Prelude.{◌==◌, ◌||◌, ◌&&◌, nat_lt, nat_le, is_some}
+use Rattle.std.proofs.Common.{◌≡◌, ℕ, zero, suc, ◌+◌, ◌-◌, ◌*◌, ◌/◌, ◌≤◌, Bool, true, false, min, Option, Some, None, List, [], ◌∷◌, ◌++◌, length, refl, sym, ap, subst, ◌∙◌, arith}
+use Rattle.std.specs.Prelude.{◌==◌, ◌||◌, nat_lt, nat_le, is_some}
 use Rattle.std.specs.List.{sum_by}
 use Rattle.std.proofs.lemmas.Bool.{le-leb}
 use Rattle.sctp_packet.specs.Chunk.{ChunkTree}
@@ -12,14 +12,13 @@ use Rattle.sctp_tx_outstanding.specs.Forward.{is_forward_due}
 use Rattle.sctp_tx_outstanding.specs.Resending.{Resent, resent_below, empty_packet}
 use Rattle.sctp_tracker.specs.DataTracker.{is_ack_due}
 use Rattle.sctp_tx_queue.specs.SendQueue.{Queue}
-use Rattle.sctp_tx_queue.specs.Produced.{Produced, Turn, produce}
 use Rattle.sctp_tx_queue.specs.Resets.{streams_to_request, request_resets}
 use Rattle.sctp_tx.specs.Windows.{saturate_u64, room_within, may_send}
 use Rattle.sctp_tx.specs.RetransmissionQueue.{Sender}
 use Rattle.sctp_tx.specs.Resent.{flight, sizes, is_interleaved, room_of, may_send_new, resent, start_t3_if}
 use Rattle.sctp_tx.specs.ForwardPoints.{forward_chunk}
 use Rattle.sctp_tx.specs.Sending as fragments
-use Rattle.sctp_tx.specs.Sending.{QueueStep, item_of, append, offered_payload, queue_step_if, next_turn, fill, without_discards, send}
+use Rattle.sctp_tx.specs.Sending.{item_of, offered_payload, fill, without_discards, send}
 use Rattle.proof_tx_refines.specs.Filled as filled
 use Rattle.proof_tx_refines.specs.Filled.{windows, nothing, IsFilled, ends, goes_on, began}
 use Rattle.proof_tx_refines.proofs.FilledLemmas.{filled_by}

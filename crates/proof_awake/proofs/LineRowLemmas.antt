@@ -1,6 +1,6 @@
 -- Rows leave no stream in line where no item is kept: those that send, and those that change neither line nor items.
-use Rattle.std.proofs.Common.{◌≡◌, ℕ, zero, suc, ◌*◌, ◌/◌, ◌≤◌, Bool, true, false, Option, Some, None, List, [], ◌∷◌, length, refl, sym, ap, subst, ◌∙◌, arith}
-use Rattle.std.specs.Prelude.{◌==◌, not, nat_lt, nat_le, is_some}
+use Rattle.std.proofs.Common.{ℕ, zero, suc, ◌≤◌, Bool, true, false, Option, List, [], ◌∷◌, length, arith}
+use Rattle.std.specs.Prelude.{◌==◌, nat_lt, nat_le, is_some}
 use Rattle.sctp_packet.specs.Chunk.{ChunkTree, FragmentTree, SackTree, abort_chunk, shutdown_complete_chunk, cookie_echo_chunk}
 use Rattle.sctp_chunk.specs.declared.forward_tsn.SkippedStream.{SkippedStream}
 use Rattle.sctp_chunk.specs.declared.sack.GapAckBlock.{GapAckBlock}
@@ -13,14 +13,14 @@ use Rattle.sctp_tx_outstanding.specs.Sack as sack
 use Rattle.sctp_tx_queue.specs.Resets.{streams_to_request, request_resets}
 use Rattle.sctp_tx.specs.RetransmissionQueue.{Sender, nothing_in_flight, sender_if, emitted_if, answer_if}
 use Rattle.sctp_tx.specs.ForwardPoints.{forward_chunk}
-use Rattle.spec_endpoint.specs.Association.{Tcb, Phase, CookieEchoed, Established, ShutdownPending, ShutdownSent, ShutdownReceived, ShutdownAckSent, State, Closed, CookieWait, Open, Context, EndpointState, open_as, where_open}
+use Rattle.spec_endpoint.specs.Association.{Tcb, Phase, CookieEchoed, Established, ShutdownPending, ShutdownSent, ShutdownReceived, ShutdownAckSent, State, Closed, CookieWait, Open, Context, EndpointState, where_open}
 use Rattle.spec_endpoint.specs.Packets.{PacketDraft, round_down_to_4, fits, add, packet_to, new_packet, has_chunks, emit_if, emit, emit_chunk}
-use Rattle.spec_endpoint.specs.Sending.{Filling, take_due_ack, ack_if, has_data_to_send, with_ack, forward_added_if, forward_if, with_expired_abandoned, forward_if_time, with_forward, most_streams, request_of, request_if, with_request, with_data, filled_as, BurstStep, burst_step_if, next_packet, continue_burst, burst, AfterSending, is_before_cookie_ack, open_with, send_with, send_buffered, cookie_if, send_cookie, fast_packet, fast_if, send_lost, send_in}
+use Rattle.spec_endpoint.specs.Sending.{Filling, take_due_ack, ack_if, has_data_to_send, with_ack, forward_added_if, forward_if, with_expired_abandoned, forward_if_time, with_forward, most_streams, request_of, request_if, filled_as, BurstStep, burst_step_if, next_packet, continue_burst, burst, AfterSending, is_before_cookie_ack, open_with, send_with, send_buffered, cookie_if, send_cookie, fast_packet, fast_if, send_lost}
 use Rattle.spec_endpoint.specs.Shutdown.{close_with, PhaseStep, pending_next, received_next, maybe_send_shutdown_or_ack, shutdown_in_phase, shutdown_in, shut_by_peer, on_shutdown, on_shutdown_ack_open, on_shutdown_ack_in, on_shutdown_complete, abort, close_in}
 use Rattle.spec_endpoint.specs.Data.{fragment_if, accepts_tsn, handle_forward_tsn_if, accepts_point, on_no_data, on_data_in, on_data_if, on_data, on_forward}
 use Rattle.spec_endpoint.specs.Sack.{clean_blocks, sample_rtt, clear_errors_if, send_after_sack, after_sack, on_sack_in}
 use Rattle.proof_awake.specs.Invariant.{BlockHolds, is_established, waits, WindowsHaveRoom}
-use Rattle.proof_awake.specs.Line.{PhaseHasNoLine, StateHasNoLine}
+use Rattle.proof_awake.specs.Line.{StateHasNoLine}
 use Rattle.proof_awake.proofs.SenderLemmas.{sack_holds}
 use Rattle.proof_awake.proofs.BlockLemmas.{with_sender, sampled_holds}
 use Rattle.proof_awake.proofs.SendingRowLemmas.{lost_goes}

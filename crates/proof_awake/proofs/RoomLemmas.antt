@@ -1,5 +1,5 @@
 -- The congestion window stays a packet at least.
-use Rattle.std.proofs.Common.{◌≡◌, ℕ, zero, suc, ◌+◌, ◌*◌, ◌/◌, ◌≤◌, Bool, true, false, min, max, cond, Option, Some, None, length, arith, mul-le-mul_right}
+use Rattle.std.proofs.Common.{ℕ, zero, suc, ◌+◌, ◌≤◌, Bool, true, false, cond, Option, Some, None, length, arith, mul-le-mul_right}
 use Rattle.std.specs.Prelude.{◌&&◌, nat_lt, nat_le}
 use Rattle.sctp_state.specs.Options.{Options}
 use Rattle.sctp_state.specs.Events.{Emitted}
@@ -13,7 +13,7 @@ use Rattle.sctp_tx.specs.Resent.{may_send_new, start_t3_if}
 use Rattle.sctp_tx.specs.Sending as fragments
 use Rattle.sctp_tx.specs.Sending.{QueueStep, append, offered_payload, queue_step_if, next_turn, fill, send}
 use Rattle.proof_tx_refines.specs.Filled.{began}
-use Rattle.proof_awake.specs.Invariant.{HasLimits, HasRoom, WindowsHaveRoom}
+use Rattle.proof_awake.specs.Invariant.{HasLimits, WindowsHaveRoom}
 
 -- ---- growth and losses
 

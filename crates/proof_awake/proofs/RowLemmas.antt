@@ -9,7 +9,7 @@ use Rattle.sctp_state.specs.Events.{Event, OnClosed}
 use Rattle.sctp_state.specs.RetransmissionTimeout.{rto}
 use Rattle.sctp_state.specs.declared.timer.BackoffAlgorithm.TheVariants.{Exponential}
 use Rattle.sctp_state.specs.Timer.{Timer, timer, start, set_duration}
-use Rattle.sctp_tracker.specs.DataTracker.{Tracker, number_of, is_valid}
+use Rattle.sctp_tracker.specs.DataTracker.{Tracker, number_of}
 use Rattle.sctp_reassembly.specs.ReassemblyQueue.{Reassembly}
 use Rattle.sctp_tx_outstanding.specs.Sack as sack
 use Rattle.sctp_tx.specs.RetransmissionQueue.{Sender, nothing_in_flight, answer_if, sender_if, emitted_if}

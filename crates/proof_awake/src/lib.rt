@@ -4,7 +4,7 @@
 
 ghost use Rattle.proof_awake.specs.Laws.{EachCallKeepsTimed, NewEndsAreTimed, OnlyQuietEndsNameNoMoment, TimedEndsAreAwake};
 ghost use Rattle.proof_awake.specs.LeftBehind.{ALineIsLeft, AResetIsLeftBehind};
-ghost use Rattle.proof_awake.specs.Line.{SendingCallsLeaveNoLine, SendingsLeaveNoLine};
+ghost use Rattle.proof_awake.specs.Line.{EachCallKeepsLined, NewEndsAreLined, SendingCallsLeaveNoLine, SendingsLeaveNoLine};
 ghost use Rattle.proof_awake.specs.Worlds.{WorldsAreAwake};
 
 /// A new end, with valid options, and what each call leaves of one is awake: where an item is kept T3-rtx runs; where a request to
@@ -41,4 +41,11 @@ pub fn a_reset_is_left_behind()
 pub fn sendings_leave_no_line()
     ensures line { SendingsLeaveNoLine }
     ensures calls { SendingCallsLeaveNoLine }
+{}
+
+/// So an end with valid options and bursts of two packets or more has no stream in line between calls, once connected with no item
+/// kept, as long as no RE-CONFIG comes with two requests for outgoing streams.
+pub fn no_line_is_left()
+    ensures new { NewEndsAreLined }
+    ensures calls { EachCallKeepsLined }
 {}
