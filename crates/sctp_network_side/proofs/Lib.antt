@@ -1,3 +1,5 @@
+pub mod SettleLemmas
+pub mod CutLemmas
 pub mod PacketLemmas
 pub mod EmittedLemmas
 pub mod SideLemmas

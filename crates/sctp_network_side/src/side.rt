@@ -1,6 +1,6 @@
 //! One end of a network, with the packets that it ever sent.
 
-ghost use Rattle.std.specs.Prelude.{◌≡◌, Some, None, true, false, [], ◌∷◌, ◌++◌, drop, length, map, option_map, slice_get, IfOk, IfErr, OnOk};
+ghost use Rattle.std.specs.Prelude.{◌≡◌, Some, None, true, false, [], ◌∷◌, ◌++◌, drop, length, map, option_map, slice_get, IfOk, IfErr, OnOk, OnErr};
 ghost use Rattle.sctp_packet.specs.Grammar.{Each};
 ghost use Rattle.sctp_state.specs.Events.{event_of, given_up_of};
 ghost use Rattle.sctp_state.specs.Options.{IsValid, options_of};
@@ -11,6 +11,7 @@ ghost use Rattle.sctp_association.specs.Socket.{association_of, endpoint};
 ghost use Rattle.spec_world.specs.Observations.{Given, Foreign, GaveUp, same_association};
 ghost use Rattle.spec_world.specs.World as table;
 ghost use Rattle.spec_world.specs.World.{fresh_side, associated_if, TakesBytes, take_emitted, news, packets_in, emitted_entries, given_up_entries, ready_entries, after_call, after_time, clock, call_entry};
+ghost use Rattle.sctp_network_side.specs.Interrupted.{IsCut, StopsWithin, TakesBytesSo, MeetsForeignSo};
 ghost use Rattle.sctp_network_side.specs.SideView.{call_tree, end_tree, entry_tree, ready_entry, side_in, without_events, without_records};
 
 use crate::calling::make_call;
@@ -114,6 +115,9 @@ impl<R: Rng, C: Checksum> Side<R, C> {
         ensures log { OnOk result (map entry_tree log.new.items ≡ map entry_tree log.old.items
             ++ entry_tree first ∷ news (end_tree end) (length self.old.packets) before.ready (option_map association_of before.association)
             (endpoint R.stream C.word_of self.old.socket)) }
+        ensures cut { OnErr result (IsCut (map entry_tree log.old.items) (map entry_tree log.old.items
+            ++ entry_tree first ∷ news (end_tree end) (length self.old.packets) before.ready (option_map association_of before.association)
+            (endpoint R.stream C.word_of self.old.socket)) (map entry_tree log.new.items)) }
     {
         log.push(first)?;
         let association = self.socket.association();
@@ -139,6 +143,10 @@ impl<R: Rng, C: Checksum> Side<R, C> {
             ++ call_entry (end_tree end) (call_tree call.now) (endpoint R.stream C.word_of self.old.socket)
             ∷ table.news_of (end_tree end) (side_in R.stream C.word_of self.old)
             (after_call (call_tree call.now) (endpoint R.stream C.word_of self.old.socket))) }
+        ensures cut { OnErr result (IsCut (map entry_tree log.old.items) (map entry_tree log.old.items
+            ++ call_entry (end_tree end) (call_tree call.now) (endpoint R.stream C.word_of self.old.socket)
+            ∷ table.news_of (end_tree end) (side_in R.stream C.word_of self.old)
+            (after_call (call_tree call.now) (endpoint R.stream C.word_of self.old.socket))) (map entry_tree log.new.items)) }
     {
         let before = self.before();
         let clock = self.socket.clock();
@@ -167,6 +175,10 @@ impl<R: Rng, C: Checksum> Side<R, C> {
         ensures log { OnOk result (map entry_tree log.new.items ≡ map entry_tree log.old.items
             ++ table.time_entry (end_tree end) now (endpoint R.stream C.word_of self.old.socket)
             ∷ table.news_of (end_tree end) (side_in R.stream C.word_of self.old) (after_time now (endpoint R.stream C.word_of self.old.socket))) }
+        ensures cut { OnErr result (IsCut (map entry_tree log.old.items) (map entry_tree log.old.items
+            ++ table.time_entry (end_tree end) now (endpoint R.stream C.word_of self.old.socket)
+            ∷ table.news_of (end_tree end) (side_in R.stream C.word_of self.old) (after_time now (endpoint R.stream C.word_of self.old.socket)))
+            (map entry_tree log.new.items)) }
     {
         let before = self.before();
         self.socket.advance_time(now)?;
@@ -183,8 +195,10 @@ impl<R: Rng, C: Checksum> Side<R, C> {
         bytes: &[u8],
         log: &mut Vec<Entry>,
     ) -> Result<(), CallError>
-        ensures { OnOk result (TakesBytes (end_tree end) (entry_tree first) bytes.now
+        ensures taken { OnOk result (TakesBytes (end_tree end) (entry_tree first) bytes.now
             (side_in R.stream C.word_of self.old) (side_in R.stream C.word_of self.new) (map entry_tree log.old.items) (map entry_tree log.new.items)) }
+        ensures cut { OnErr result (StopsWithin (TakesBytesSo (end_tree end) (entry_tree first) bytes.now (side_in R.stream C.word_of self.old) (map entry_tree log.old.items))
+            (map entry_tree log.old.items) (map entry_tree log.new.items)) }
     {
         let before = self.before();
         self.socket.handle_input(bytes)?;
@@ -200,8 +214,11 @@ impl<R: Rng, C: Checksum> Side<R, C> {
         bytes: &[u8],
         log: &mut Vec<Entry>,
     ) -> Result<(), CallError>
-        ensures { OnOk result (let old = side_in R.stream C.word_of self.old in TakesBytes (end_tree end) (Given (end_tree end) (clock old.socket) packet) bytes.now
+        ensures taken { OnOk result (let old = side_in R.stream C.word_of self.old in TakesBytes (end_tree end) (Given (end_tree end) (clock old.socket) packet) bytes.now
             old (side_in R.stream C.word_of self.new) (map entry_tree log.old.items) (map entry_tree log.new.items)) }
+        ensures cut { OnErr result (let old = side_in R.stream C.word_of self.old in
+            StopsWithin (TakesBytesSo (end_tree end) (Given (end_tree end) (clock old.socket) packet) bytes.now old (map entry_tree log.old.items))
+            (map entry_tree log.old.items) (map entry_tree log.new.items)) }
     {
         let first = Entry::Give(end, self.socket.clock(), packet);
         self.take(alloc, end, first, bytes, log)
@@ -215,9 +232,12 @@ impl<R: Rng, C: Checksum> Side<R, C> {
         bytes: &[u8],
         log: &mut Vec<Entry>,
     ) -> Result<(), CallError>
-        ensures { OnOk result (let old = side_in R.stream C.word_of self.old in
+        ensures taken { OnOk result (let old = side_in R.stream C.word_of self.old in
             TakesBytes (end_tree end) (Foreign (end_tree end) (clock old.socket) (Some bytes.now)) bytes.now
             old (side_in R.stream C.word_of self.new) (map entry_tree log.old.items) (map entry_tree log.new.items)) }
+        ensures cut { OnErr result (let old = side_in R.stream C.word_of self.old in
+            StopsWithin (TakesBytesSo (end_tree end) (Foreign (end_tree end) (clock old.socket) (Some bytes.now)) bytes.now old (map entry_tree log.old.items))
+            (map entry_tree log.old.items) (map entry_tree log.new.items)) }
     {
         let copy = Vec::from_slice(alloc, bytes)?;
         let first = Entry::Foreign(end, self.socket.clock(), Some(copy));
@@ -226,8 +246,9 @@ impl<R: Rng, C: Checksum> Side<R, C> {
 
     /// Bytes from elsewhere are skipped.
     fn skip(&self, end: End, log: &mut Vec<Entry>) -> Result<(), AllocError>
-        ensures { OnOk result (map entry_tree log.new.items ≡ map entry_tree log.old.items
+        ensures log { OnOk result (map entry_tree log.new.items ≡ map entry_tree log.old.items
             ++ Foreign (end_tree end) (clock (endpoint R.stream C.word_of self.now.socket)) None ∷ []) }
+        ensures kept { OnErr result (map entry_tree log.new.items ≡ map entry_tree log.old.items) }
     {
         log.push(Entry::Foreign(end, self.socket.clock(), None))?;
         Ok(())
@@ -241,7 +262,9 @@ impl<R: Rng, C: Checksum> Side<R, C> {
         bytes: &[u8],
         log: &mut Vec<Entry>,
     ) -> Result<(), CallError>
-        ensures { OnOk result (table.MeetsForeignAt (end_tree end) bytes.now (side_in R.stream C.word_of self.old) (side_in R.stream C.word_of self.new)
+        ensures met { OnOk result (table.MeetsForeignAt (end_tree end) bytes.now (side_in R.stream C.word_of self.old) (side_in R.stream C.word_of self.new)
+            (map entry_tree log.old.items) (map entry_tree log.new.items)) }
+        ensures cut { OnErr result (StopsWithin (MeetsForeignSo (end_tree end) bytes.now (side_in R.stream C.word_of self.old) (map entry_tree log.old.items))
             (map entry_tree log.old.items) (map entry_tree log.new.items)) }
     {
         if self.socket.refuses(bytes)? {
@@ -287,8 +310,9 @@ fn log_association(
     association: Option<Association>,
     log: &mut Vec<Entry>,
 ) -> Result<(), AllocError>
-    ensures { OnOk result (map entry_tree log.new.items
+    ensures log { OnOk result (map entry_tree log.new.items
         ≡ map entry_tree log.old.items ++ associated_if is_same (end_tree end) (option_map association_of association)) }
+    ensures kept { OnErr result (map entry_tree log.new.items ≡ map entry_tree log.old.items) }
 {
     if !is_same {
         log.push(Entry::Association(end, association))?;
@@ -307,11 +331,13 @@ fn take_event(
         ≡ map (λ bytes. bytes.items) packets.old.items ++ packets_in (event_of event ∷ [])) }
     ensures log { OnOk result (map entry_tree log.new.items
         ≡ map entry_tree log.old.items ++ emitted_entries (end_tree end) (length packets.old.items) (event_of event ∷ [])) }
+    ensures kept { OnErr result (map entry_tree log.new.items ≡ map entry_tree log.old.items) }
 {
     match event {
         SocketEvent::SendPacket(bytes) => {
-            log.push(Entry::Packet(end, packets.len()))?;
+            let number = packets.len();
             packets.push(bytes)?;
+            log.push(Entry::Packet(end, number))?;
         }
         event => log.push(Entry::Event(end, event))?,
     }
@@ -330,6 +356,8 @@ fn take_events<R: Rng, C: Checksum>(
         ≡ map (λ bytes. bytes.items) packets.old.items ++ packets_in socket.old.context.emitted.events) }
     ensures log { OnOk result (map entry_tree log.new.items
         ≡ map entry_tree log.old.items ++ emitted_entries (end_tree end) (length packets.old.items) socket.old.context.emitted.events) }
+    ensures cut { OnErr result (IsCut (map entry_tree log.old.items) (map entry_tree log.old.items
+        ++ emitted_entries (end_tree end) (length packets.old.items) socket.old.context.emitted.events) (map entry_tree log.new.items)) }
 {
     while let Some(event) = socket.poll_event() {
         take_event(event, packets, end, log)?;
@@ -346,6 +374,8 @@ fn take_given_up<R: Rng, C: Checksum>(
     ensures socket { OnOk result (socket.new ≡ without_records socket.old) }
     ensures log { OnOk result (map entry_tree log.new.items
         ≡ map entry_tree log.old.items ++ given_up_entries (end_tree end) socket.old.context.emitted.given_up) }
+    ensures cut { OnErr result (IsCut (map entry_tree log.old.items) (map entry_tree log.old.items
+        ++ given_up_entries (end_tree end) socket.old.context.emitted.given_up) (map entry_tree log.new.items)) }
 {
     while let Some(given_up) = socket.next_given_up() {
         log_given_up(given_up, end, log)?;
@@ -354,8 +384,9 @@ fn take_given_up<R: Rng, C: Checksum>(
 }
 
 fn log_given_up(given_up: GivenUp, end: End, log: &mut Vec<Entry>) -> Result<(), AllocError>
-    ensures { OnOk result (map entry_tree log.new.items
+    ensures log { OnOk result (map entry_tree log.new.items
         ≡ map entry_tree log.old.items ++ GaveUp (end_tree end) (given_up_of given_up) ∷ []) }
+    ensures kept { OnErr result (map entry_tree log.new.items ≡ map entry_tree log.old.items) }
 {
     log.push(Entry::GivenUp(end, given_up))?;
     Ok(())
@@ -369,8 +400,10 @@ fn log_ready<R: Rng, C: Checksum>(
     first: usize,
     log: &mut Vec<Entry>,
 ) -> Result<(), AllocError>
-    ensures { OnOk result (map entry_tree log.new.items
+    ensures log { OnOk result (map entry_tree log.new.items
         ≡ map entry_tree log.old.items ++ ready_entries (end_tree end) first (ready_in socket.now.state)) }
+    ensures cut { OnErr result (IsCut (map entry_tree log.old.items) (map entry_tree log.old.items
+        ++ ready_entries (end_tree end) first (ready_in socket.now.state)) (map entry_tree log.new.items)) }
 {
     for place in first..socket.messages_ready_count() {
         log_message(alloc, socket, place, end, log)?;
@@ -385,8 +418,9 @@ fn log_message<R: Rng, C: Checksum>(
     end: End,
     log: &mut Vec<Entry>,
 ) -> Result<(), AllocError>
-    ensures { OnOk result (map entry_tree log.new.items
+    ensures log { OnOk result (map entry_tree log.new.items
         ≡ map entry_tree log.old.items ++ ready_entry (end_tree end) (slice_get (ready_in socket.now.state) place)) }
+    ensures kept { OnErr result (map entry_tree log.new.items ≡ map entry_tree log.old.items) }
 {
     if let Some(message) = socket.ready_message(place) {
         log.push(Entry::Ready(end, copy_of(alloc, message)?))?;

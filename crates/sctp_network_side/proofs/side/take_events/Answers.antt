@@ -4,6 +4,7 @@ use Rattle.sctp_state.specs.Events.{event_of}
 use Rattle.spec_world.specs.World.{packets_in}
 use Rattle.sctp_network_side.specs.SideView.{end_tree, without_events}
 use Rattle.sctp_association.specs.Socket.{SocketValue}
+use Rattle.sctp_network_side.proofs.CutLemmas.{more_made}
 use Rattle.sctp_network_side.proofs.EmittedLemmas.{packets_taken, emitted_taken}
 use Rattle.sctp_network_side.proofs.side.take_events.Goals as goal
 
@@ -25,4 +26,5 @@ loop-event-preserved g c =
           ∙ c.loop-event.invariant.packets;
       log = emitted_taken (end_tree c.args.end) (length c.loop-event.packets.items) (length c.take_event.new.packets.items) e c.loop-event.socket.context.emitted.events c.poll_event.new.self.context.emitted.events _ _
           c.in-Some.ensures.first rest count c.in_ok-take_event.ensures.log ∙ c.loop-event.invariant.log;
+      begun = more_made _ _ _ _ c.loop-event.invariant.begun c.in_ok-take_event.ensures.log;
     }

@@ -10,7 +10,7 @@ returns-in-A-clause-ok g c =
     foreign_bytes_to_a g.R.Rng.stream g.C.Checksum.word_of
     (record { a = c.self.inside.a; b = c.self.inside.b; log = map entry_tree c.self.inside.log.items; has_failed = c.self.inside.has_failed }) c.args.self.now
     (record { a = c.inject.new.self; b = c.self.inside.b; log = map entry_tree c.inject.new.log.items; has_failed = c.self.inside.has_failed }) c.self.view_is
-    (end_tree c.args.end) c.args.bytes.now (ap end_tree c.in-A.is) comes refl) c.inject.ensures
+    (end_tree c.args.end) c.args.bytes.now (ap end_tree c.in-A.is) comes refl) c.inject.ensures.met
 
 pub returns-in-B-clause-ok : goal.returns-in-B-clause-ok
 returns-in-B-clause-ok g c =
@@ -18,4 +18,4 @@ returns-in-B-clause-ok g c =
     foreign_bytes_to_b g.R.Rng.stream g.C.Checksum.word_of
     (record { a = c.self.inside.a; b = c.self.inside.b; log = map entry_tree c.self.inside.log.items; has_failed = c.self.inside.has_failed }) c.args.self.now
     (record { a = c.self.inside.a; b = c.inject-in-B.new.self; log = map entry_tree c.inject-in-B.new.log.items; has_failed = c.self.inside.has_failed }) c.self.view_is
-    (end_tree c.args.end) c.args.bytes.now (ap end_tree c.in-B.is) comes refl) c.inject-in-B.ensures
+    (end_tree c.args.end) c.args.bytes.now (ap end_tree c.in-B.is) comes refl) c.inject-in-B.ensures.met
