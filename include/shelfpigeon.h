@@ -9,16 +9,17 @@
  *
  * What the caller owes at each call:
  *   - a pointer to a handle, a struct or a number is not NULL, and points to one;
- *   - the first field of pigeon_options, pigeon_metrics, pigeon_event and pigeon_send_options is the struct's size, and it has as many bytes.
- *     PIGEON_OPTIONS, PIGEON_METRICS, PIGEON_EVENT and PIGEON_SEND_OPTIONS initialize one. A later header may append fields: with an earlier,
- *     shorter size the fields that it lacks have their defaults, or aren't written; one that is longer than the library's is answered by
- *     PIGEON_INVALID_SIZE, and nothing else happens;
+ *   - the first field of pigeon_options, pigeon_metrics, pigeon_event, pigeon_send_options, pigeon_channels_options, pigeon_channel_options and
+ *     pigeon_channel_statistics is the struct's size, and it has as many bytes. PIGEON_OPTIONS, PIGEON_METRICS, PIGEON_EVENT,
+ *     PIGEON_SEND_OPTIONS, PIGEON_CHANNELS_OPTIONS, PIGEON_CHANNEL_OPTIONS and PIGEON_CHANNEL_STATISTICS initialize one. A later header may
+ *     append fields: with an earlier, shorter size the fields that it lacks have their defaults, or aren't written; one that is longer than the
+ *     library's is answered by PIGEON_INVALID_SIZE, and nothing else happens;
  *   - a buffer has as many bytes as its length says; one of length 0 may be anywhere but NULL (PIGEON_EMPTY serves);
  *   - a handle is in one call at a time, and only these functions change it: those that take it as const leave it as it is. Different handles
  *     may be in calls of different threads at once, and a handle may move to another thread: the calls of the one come before those of the
  *     other, by a lock or a join. It begins as PIGEON_NO_HANDLE, and is not copied: of two copies only one may be freed;
- *   - bytes that a socket lends (pigeon_borrow_event, pigeon_borrow_message) are only read, and not after the next call with this socket has
- *     begun, so that they aren't handed to that call either;
+ *   - bytes that a socket lends (pigeon_borrow_event, pigeon_borrow_message, pigeon_channels_borrow_event) are only read, and not after the next
+ *     call with this socket has begun, so that they aren't handed to that call either;
  *   - malloc aligns as C demands. No call is made in a signal handler, or in a forked child of a process with threads.
  * A handle that holds no socket (PIGEON_NO_HANDLE, or one that was freed) answers PIGEON_NO_SOCKET at each call whose numbers are right: sizes
  * of structs, a stream above 65,535, unknown flags and too few places for answers are looked at first.
@@ -84,10 +85,20 @@ enum {
     PIGEON_NOT_CLOSED = 19,    /* only a closed socket takes up a record */
     PIGEON_INVALID_STATE = 20, /* the bytes are no record, or one that no socket could have written */
     PIGEON_INVALID_SIZE = 21,  /* the size of a struct is beyond what this library knows */
-    PIGEON_NO_PACKET = 22      /* the bytes are no packet */
+    PIGEON_NO_PACKET = 22,       /* the bytes are no packet */
+    PIGEON_NO_CHANNELS = 23,     /* the socket has no data channels: pigeon_channels_start */
+    PIGEON_HAS_CHANNELS = 24,    /* the socket has data channels already */
+    PIGEON_NO_CHANNEL = 25,      /* there is no channel on the stream */
+    PIGEON_CHANNEL_CLOSING = 26, /* the channel is being closed */
+    PIGEON_STREAM_IN_USE = 27,   /* the stream has a channel, or isn't free yet */
+    PIGEON_NO_FREE_STREAM = 28,  /* all streams that this end may open channels on are in use */
+    PIGEON_TEXT_TOO_LONG = 29,   /* a label or a protocol has 65,536 bytes or more */
+    PIGEON_NOT_UTF8 = 30,        /* a label, a protocol or a message of text is not UTF-8 */
+    PIGEON_NOT_TAKEN = 31        /* the socket takes no message: its queue is full, it is shutting down, or max_message_size is exceeded */
 };
 
-enum { PIGEON_TEXT_ANSWER = 0, PIGEON_TEXT_EVENT = 1, PIGEON_TEXT_ERROR = 2, PIGEON_TEXT_STATE = 3, PIGEON_TEXT_OPTION = 4 };
+enum { PIGEON_TEXT_ANSWER = 0, PIGEON_TEXT_EVENT = 1, PIGEON_TEXT_ERROR = 2, PIGEON_TEXT_STATE = 3, PIGEON_TEXT_OPTION = 4,
+       PIGEON_TEXT_REFUSAL = 5 };
 /* Hands out the text of a number of this kind: it ends by a zero byte, and stays for ever. */
 void pigeon_find_text(uint32_t kind, uint32_t number, const char **text);
 
@@ -102,6 +113,9 @@ static inline const char *pigeon_error_text(uint32_t error) { return pigeon_text
 static inline const char *pigeon_state_text(uint32_t state) { return pigeon_text(PIGEON_TEXT_STATE, state); }
 /* The name of the option whose place pigeon_check_options hands out. */
 static inline const char *pigeon_option_text(uint32_t place) { return pigeon_text(PIGEON_TEXT_OPTION, place); }
+
+/* Why something that came on a channel was not taken: the `error` of PIGEON_CHANNEL_REFUSED. */
+static inline const char *pigeon_refusal_text(uint32_t refusal) { return pigeon_text(PIGEON_TEXT_REFUSAL, refusal); }
 
 /* ---- Options */
 
@@ -420,7 +434,13 @@ enum {
     PIGEON_LIFECYCLE_MAYBE_EXPIRED = 12,
     PIGEON_LIFECYCLE_EXPIRED = 13,
     PIGEON_LIFECYCLE_DELIVERED = 14,
-    PIGEON_LIFECYCLE_END = 15
+    PIGEON_LIFECYCLE_END = 15,
+    /* These come from pigeon_channels_borrow_event alone; `stream` is the channel's number. */
+    PIGEON_CHANNEL_OPENED = 16, /* the peer has opened it, or has answered */
+    PIGEON_CHANNEL_TEXT = 17,   /* a message of text, in UTF-8; the bytes are it, and may be none */
+    PIGEON_CHANNEL_BINARY = 18, /* a message of bytes */
+    PIGEON_CHANNEL_CLOSED = 19, /* whoever closed it; its number is free, unless the peer refused the reset */
+    PIGEON_CHANNEL_REFUSED = 20 /* something that came was not taken, for `error`, one of PIGEON_REFUSED_.. */
 };
 
 /* Kinds of errors. */
@@ -469,6 +489,141 @@ static inline uint32_t pigeon_poll_event(pigeon_socket *socket, pigeon_event *ev
 uint32_t pigeon_borrow_event_sized(pigeon_socket *socket, void *event, size_t size, const uint8_t **bytes);
 static inline uint32_t pigeon_borrow_event(pigeon_socket *socket, pigeon_event *event, const uint8_t **bytes) {
     return pigeon_borrow_event_sized(socket, event, event->size, bytes);
+}
+
+/* ---- Data channels (RFC 8831, RFC 8832)
+ *
+ * A socket has channels from pigeon_channels_start on, and goes by the same handle: pigeon_connect, pigeon_advance_time, pigeon_poll_timeout,
+ * pigeon_free and the rest stay as they are. A turn:
+ *
+ *     pigeon_advance_time(&socket, now);
+ *     pigeon_channels_handle_input(&socket, packet, length);  for each packet that came, and what the owner opens, sends and closes
+ *     while (pigeon_channels_borrow_event(&socket, &event, &bytes) == PIGEON_OK) ..      packets to send, messages, channels
+ *     pigeon_poll_timeout(&socket, &next);
+ *
+ * pigeon_channels_handle_input takes the place of pigeon_handle_input, by which channels would see what two packets brought in another order, and
+ * pigeon_channels_borrow_event that of pigeon_borrow_event, pigeon_poll_event, pigeon_borrow_message and pigeon_next_message: what those take the
+ * channels don't see. Nor is pigeon_send or pigeon_reset_stream called for a stream that has a channel. A channel's number is its stream's:
+ * pigeon_buffered_amount, pigeon_set_buffered_amount_low_threshold and pigeon_buffered_amount_low_threshold take it, and PIGEON_BUFFERED_AMOUNT_LOW
+ * says it. Channels end with their association, each with its PIGEON_CHANNEL_CLOSED before PIGEON_ON_CLOSED or PIGEON_ON_ABORTED; a record that is
+ * handed over has none.
+ *
+ * Each of these calls answers PIGEON_NO_CHANNELS where there are none, and PIGEON_INVALID_STREAM for a number above 65,535. PIGEON_MEMORY: channels
+ * and socket have failed, and the socket is to be freed.
+ */
+
+/* Who opens which: the client of DTLS (a=setup:active) even streams, the server (a=setup:passive) odd ones. */
+enum { PIGEON_ROLE_CLIENT = 0, PIGEON_ROLE_SERVER = 1 };
+
+/* With what channels are switched on. Sizes in bytes. */
+typedef struct pigeon_channels_options {
+    size_t size; /* sizeof(pigeon_channels_options) */
+    uint32_t role;
+    uint32_t max_message_size;      /* own a=max-message-size (RFC 8841): a longer message that comes is refused */
+    uint32_t peer_max_message_size; /* the peer's, 65,536 where its description has none: a longer message isn't sent; any is at 0 */
+    uint32_t max_buffered_amount;   /* a message by which more than this would wait on its channel isn't taken */
+} pigeon_channels_options;
+
+#define PIGEON_CHANNELS_OPTIONS {sizeof(pigeon_channels_options), PIGEON_ROLE_CLIENT, 262144, 65536, 16777216}
+
+/* Switches channels on: after pigeon_new, before the socket connects and before a packet comes. The socket's own max_message_size bounds what is
+ * sent beside peer_max_message_size. PIGEON_INVALID_SIZE, PIGEON_INVALID_ARGUMENT (a role that there isn't), PIGEON_HAS_CHANNELS: nothing changes. */
+uint32_t pigeon_channels_start_sized(pigeon_socket *socket, const void *options, size_t size);
+static inline uint32_t pigeon_channels_start(pigeon_socket *socket, const pigeon_channels_options *options) {
+    return pigeon_channels_start_sized(socket, options, options->size);
+}
+
+/* How the messages of a channel go, by the flags PIGEON_UNORDERED and one at most of PIGEON_LIFETIME and PIGEON_MAX_RETRANSMISSIONS. */
+typedef struct pigeon_channel_options {
+    size_t size; /* sizeof(pigeon_channel_options) */
+    uint32_t flags;
+    uint32_t max_retransmissions; /* with PIGEON_MAX_RETRANSMISSIONS */
+    uint32_t lifetime;            /* with PIGEON_LIFETIME, in milliseconds */
+    uint32_t priority;            /* at most 65,535; 128 below normal, 256 normal, 512 high, 1,024 extra high (RFC 8831 section 6.4) */
+} pigeon_channel_options;
+
+/* A channel that is ordered and reliable. */
+#define PIGEON_CHANNEL_OPTIONS {sizeof(pigeon_channel_options), 0, 0, 0, 256}
+
+/* Opens a channel, and hands out its number. Messages may be sent at once; PIGEON_CHANNEL_OPENED tells when the peer has it. Label and protocol are
+ * UTF-8, without a zero byte at their end. Advance the time first. PIGEON_INVALID_SIZE, PIGEON_INVALID_ARGUMENT (flags or a priority that there
+ * aren't), PIGEON_NOT_UTF8, PIGEON_TEXT_TOO_LONG, PIGEON_NO_FREE_STREAM, PIGEON_NOT_TAKEN, PIGEON_NO_ROOM: nothing changes. */
+uint32_t pigeon_channel_open_sized(pigeon_socket *socket, const void *options, size_t size, const uint8_t *label, size_t label_length,
+                                   const uint8_t *protocol, size_t protocol_length, uint32_t *channel);
+static inline uint32_t pigeon_channel_open(pigeon_socket *socket, const pigeon_channel_options *options, const char *label, const char *protocol,
+                                           uint32_t *channel) {
+    return pigeon_channel_open_sized(socket, options, options->size, (const uint8_t *)label, strlen(label), (const uint8_t *)protocol,
+                                     strlen(protocol), channel);
+}
+
+/* A channel that both ends have agreed on beforehand, by any number that is free; it is open at once. PIGEON_INVALID_SIZE, PIGEON_INVALID_ARGUMENT,
+ * PIGEON_NOT_UTF8, PIGEON_STREAM_IN_USE, PIGEON_NO_ROOM: nothing changes. */
+uint32_t pigeon_channel_negotiate_sized(pigeon_socket *socket, uint32_t channel, const void *options, size_t size, const uint8_t *label,
+                                        size_t label_length, const uint8_t *protocol, size_t protocol_length);
+static inline uint32_t pigeon_channel_negotiate(pigeon_socket *socket, uint32_t channel, const pigeon_channel_options *options, const char *label,
+                                                const char *protocol) {
+    return pigeon_channel_negotiate_sized(socket, channel, options, options->size, (const uint8_t *)label, strlen(label), (const uint8_t *)protocol,
+                                          strlen(protocol));
+}
+
+/* Sends a copy of a message; `kind` is PIGEON_CHANNEL_TEXT or PIGEON_CHANNEL_BINARY, and the message may be empty. Advance the time first.
+ * PIGEON_INVALID_ARGUMENT (another kind), PIGEON_NO_CHANNEL, PIGEON_CHANNEL_CLOSING, PIGEON_NOT_UTF8, PIGEON_MESSAGE_TOO_LARGE (for the peer),
+ * PIGEON_QUEUE_FULL (max_buffered_amount: go on at PIGEON_BUFFERED_AMOUNT_LOW), PIGEON_NOT_TAKEN, PIGEON_NO_ROOM: it isn't sent. */
+uint32_t pigeon_channel_send(pigeon_socket *socket, uint32_t channel, uint32_t kind, const uint8_t *payload, size_t length);
+
+/* Closes a channel: what was accepted is sent, then its stream is reset. PIGEON_CHANNEL_CLOSED tells when its number is free. Advance the time first.
+ * PIGEON_NO_CHANNEL. */
+uint32_t pigeon_channel_close(pigeon_socket *socket, uint32_t channel);
+
+/* Why something that came was not taken. */
+enum {
+    PIGEON_REFUSED_BAD_MESSAGE = 1,  /* no message of the opening; the stream is reset */
+    PIGEON_REFUSED_PARITY = 2,       /* an opening on a stream that is this end's to open; the stream is reset */
+    PIGEON_REFUSED_STREAM = 3,       /* an opening on a stream that the association doesn't have */
+    PIGEON_REFUSED_IN_USE = 4,       /* an opening on a stream that has a channel, which is closed */
+    PIGEON_REFUSED_NO_CHANNEL = 5,   /* data on a stream without a channel */
+    PIGEON_REFUSED_PAYLOAD = 6,      /* a payload protocol identifier that is none of those of channels */
+    PIGEON_REFUSED_TOO_LONG = 7      /* a message longer than max_message_size */
+};
+
+/* Takes the bytes of a packet that came, as pigeon_handle_input does, and what it brings to the channels. */
+uint32_t pigeon_channels_handle_input(pigeon_socket *socket, const uint8_t *bytes, size_t length);
+
+/* Hands out the event that comes next, of the socket or of its channels: packets to send and messages are among them. Take all of them each turn.
+ * The `length` bytes at `bytes` are the socket's, and are lent until the next call with it, as those of pigeon_borrow_event. PIGEON_NOTHING: none is
+ * left. PIGEON_NO_ROOM: the event stays. PIGEON_INVALID_SIZE. */
+uint32_t pigeon_channels_borrow_event_sized(pigeon_socket *socket, void *event, size_t size, const uint8_t **bytes);
+static inline uint32_t pigeon_channels_borrow_event(pigeon_socket *socket, pigeon_event *event, const uint8_t **bytes) {
+    return pigeon_channels_borrow_event_sized(socket, event, event->size, bytes);
+}
+
+/* Writes how the messages of a channel go, as its opener said. PIGEON_NO_CHANNEL, PIGEON_INVALID_SIZE. */
+uint32_t pigeon_channel_get_options_sized(const pigeon_socket *socket, uint32_t channel, void *options, size_t size);
+static inline uint32_t pigeon_channel_get_options(const pigeon_socket *socket, uint32_t channel, pigeon_channel_options *options) {
+    return pigeon_channel_get_options_sized(socket, channel, options, options->size);
+}
+
+/* Copies the label of a channel, without a zero byte; `needed` becomes its length. PIGEON_NO_CHANNEL; PIGEON_SHORT_BUFFER: only `needed` is
+ * written. */
+uint32_t pigeon_channel_label(const pigeon_socket *socket, uint32_t channel, size_t *needed, char *buffer, size_t length);
+/* The same of its protocol. */
+uint32_t pigeon_channel_protocol(const pigeon_socket *socket, uint32_t channel, size_t *needed, char *buffer, size_t length);
+
+/* What a channel counts: messages that the socket accepted, and that were handed out. */
+typedef struct pigeon_channel_statistics {
+    size_t size; /* sizeof(pigeon_channel_statistics) */
+    uint64_t messages_sent;
+    uint64_t bytes_sent;
+    uint64_t messages_received;
+    uint64_t bytes_received;
+} pigeon_channel_statistics;
+
+#define PIGEON_CHANNEL_STATISTICS {sizeof(pigeon_channel_statistics), 0, 0, 0, 0}
+
+/* PIGEON_NO_CHANNEL, PIGEON_INVALID_SIZE. */
+uint32_t pigeon_channel_get_statistics_sized(const pigeon_socket *socket, uint32_t channel, void *statistics, size_t size);
+static inline uint32_t pigeon_channel_get_statistics(const pigeon_socket *socket, uint32_t channel, pigeon_channel_statistics *statistics) {
+    return pigeon_channel_get_statistics_sized(socket, channel, statistics, statistics->size);
 }
 
 /* ---- To look at */

@@ -91,3 +91,24 @@ AT(pigeon_given_up, number, 0);
 AT(pigeon_given_up, cause, 4);
 AT(pigeon_given_up, retransmissions, 8);
 HAS(pigeon_given_up, 12);
+
+AT(pigeon_channels_options, size, 0);
+AT(pigeon_channels_options, role, 8);
+AT(pigeon_channels_options, max_message_size, 12);
+AT(pigeon_channels_options, peer_max_message_size, 16);
+AT(pigeon_channels_options, max_buffered_amount, 20);
+HAS(pigeon_channels_options, 24);
+
+AT(pigeon_channel_options, size, 0);
+AT(pigeon_channel_options, flags, 8);
+AT(pigeon_channel_options, max_retransmissions, 12);
+AT(pigeon_channel_options, lifetime, 16);
+AT(pigeon_channel_options, priority, 20);
+HAS(pigeon_channel_options, 24);
+
+AT(pigeon_channel_statistics, size, 0);
+AT(pigeon_channel_statistics, messages_sent, 8);
+AT(pigeon_channel_statistics, bytes_sent, 16);
+AT(pigeon_channel_statistics, messages_received, 24);
+AT(pigeon_channel_statistics, bytes_received, 32);
+HAS(pigeon_channel_statistics, 40);

@@ -32,9 +32,9 @@ Answers call None n new = (n ≡ 3) × (new ≡ None)
 Answers call (Some e) n None = ⊥
 Answers call (Some e) n (Some f) = call e n f
 
--- the event and the record that are kept stay
+-- the event and the record that are kept stay, and the channels
 abbrev pub OnSocket : (call : CSocket → ℕ → CSocket → Type 0) → Endpoint → ℕ → Endpoint → Type 0
-OnSocket call e n f = call e.socket n f.socket × ((f.event ≡ e.event) × (f.handed_over ≡ e.handed_over))
+OnSocket call e n f = call e.socket n f.socket × ((f.event ≡ e.event) × (f.handed_over ≡ e.handed_over) × (f.channels ≡ e.channels))
 
 -- a changing call: done, or out of memory, now or earlier
 abbrev pub Makes : (effect : CSocket → End (List ℕ) → Type 0) → (old : Option Endpoint) → ℕ → (new : Option Endpoint) → Type 0

@@ -16,6 +16,7 @@ pub record IsFresh (options : Options) (checksum : PacketChecksum) (rng : ChaCha
   pub working : e.socket.has_failed ≡ false
   pub event : e.event ≡ None
   pub handed_over : e.handed_over ≡ None
+  pub channels : e.channels ≡ None
 
 abbrev pub Made : Options → PacketChecksum → ChaCha → Option Endpoint → Type 0
 Made options checksum rng None = ⊥

@@ -27,7 +27,7 @@ pub extern "C" fn pigeon_poll_event_sized(
     ensures stays { length head.old ≤ 40 → Answers (λ e n f. OnOthers 0 n (waiting f.event f.socket ≡ waiting e.event e.socket)) socket.old.held result socket.new.held }
     ensures nothing { length head.old ≤ 40 → Answers (λ e n f. OnAnswer 8 n (waiting e.event e.socket ≡ [])) socket.old.held result socket.new.held }
     ensures needed { length head.old ≤ 40 → Answers (λ e n f. OnAnswer 9 n (Needs head.old head.new (length buffer.old) (waiting e.event e.socket))) socket.old.held result socket.new.held }
-    ensures record { length head.old ≤ 40 → Answers (λ e n f. f.handed_over ≡ e.handed_over) socket.old.held result socket.new.held }
+    ensures record { length head.old ≤ 40 → Answers (λ e n f. (f.handed_over ≡ e.handed_over) × (f.channels ≡ e.channels)) socket.old.held result socket.new.held }
     ensures rest { length head.old ≤ 40 → Answers (λ e n f. f.socket ≡ with_events e.socket f.socket.context.emitted.events) socket.old.held result socket.new.held }
 {
     if EVENT_SIZE < head.len() {
@@ -56,7 +56,7 @@ pub extern "C" fn pigeon_borrow_event_sized(
     ensures stays { length head.old ≤ 40 → Answers (λ e n f. OnOthers 0 n (waiting f.event f.socket ≡ waiting e.event e.socket)) socket.old.held result socket.new.held }
     ensures nothing { length head.old ≤ 40 → Answers (λ e n f. OnAnswer 8 n (waiting e.event e.socket ≡ [])) socket.old.held result socket.new.held }
     ensures let_go { length head.old ≤ 40 → Answers (λ e n f. OnAnswer 8 n (f.lent.items ≡ [])) socket.old.held result socket.new.held }
-    ensures record { length head.old ≤ 40 → Answers (λ e n f. f.handed_over ≡ e.handed_over) socket.old.held result socket.new.held }
+    ensures record { length head.old ≤ 40 → Answers (λ e n f. (f.handed_over ≡ e.handed_over) × (f.channels ≡ e.channels)) socket.old.held result socket.new.held }
     ensures rest { length head.old ≤ 40 → Answers (λ e n f. f.socket ≡ with_events e.socket f.socket.context.emitted.events) socket.old.held result socket.new.held }
 {
     if EVENT_SIZE < head.len() {

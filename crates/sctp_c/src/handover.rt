@@ -39,7 +39,7 @@ pub extern "C" fn pigeon_handover(
     ensures failed { Answers (λ e n f. OnAnswer 2 n (Ends (ending_at n) e.socket f.socket)) socket.old.held result socket.new.held }
     ensures not_ready { Answers (λ e n f. OnAnswer 16 n (0 < in_the_way (record_of e.handed_over) (end_of e.socket).endpoint_state)) socket.old.held result socket.new.held }
     ensures unchanged { Answers (λ e n f. OnAnswer 16 n (end_of f.socket ≡ end_of e.socket)) socket.old.held result socket.new.held }
-    ensures event { Answers (λ e n f. f.event ≡ e.event) socket.old.held result socket.new.held }
+    ensures event { Answers (λ e n f. (f.event ≡ e.event) × (f.channels ≡ e.channels)) socket.old.held result socket.new.held }
 {
     match socket.as_mut() {
         None => NO_SOCKET,

@@ -4,6 +4,7 @@
 mod asking;
 mod batch;
 mod calls;
+mod channels;
 mod describing;
 mod endpoint;
 mod events;

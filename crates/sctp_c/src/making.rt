@@ -37,6 +37,7 @@ fn boxed(
                 event: None,
                 handed_over: None,
                 lent: Vec::new(alloc),
+                channels: None,
             },
         ) {
             Ok(end) => Ok(end),

@@ -46,3 +46,21 @@ pub const INVALID_STATE: u32 = 20;
 pub const INVALID_SIZE: u32 = 21;
 /// The bytes are no packet.
 pub const NO_PACKET: u32 = 22;
+/// The socket has no channels.
+pub const NO_CHANNELS: u32 = 23;
+/// The socket has channels already.
+pub const HAS_CHANNELS: u32 = 24;
+/// There is no channel on the stream.
+pub const NO_CHANNEL: u32 = 25;
+/// The channel is being closed.
+pub const CHANNEL_CLOSING: u32 = 26;
+/// The stream has a channel, or isn't free yet.
+pub const STREAM_IN_USE: u32 = 27;
+/// All streams that this end may open channels on have one.
+pub const NO_FREE_STREAM: u32 = 28;
+/// A label or a protocol has 65,536 bytes or more.
+pub const TEXT_TOO_LONG: u32 = 29;
+/// A label, a protocol or a message of text is not UTF-8.
+pub const NOT_UTF8: u32 = 30;
+/// The socket takes no message: its queue is full, it is shutting down, or the message is larger than it may be.
+pub const NOT_TAKEN: u32 = 31;

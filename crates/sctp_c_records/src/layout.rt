@@ -38,7 +38,7 @@ pub(crate) fn u16_or(bytes: &[u8], at: usize, other: u16) -> u16
 }
 
 /// The number that stands there, or the other one where the bytes end before.
-pub(crate) fn u32_or(bytes: &[u8], at: usize, other: u32) -> u32
+pub fn u32_or(bytes: &[u8], at: usize, other: u32) -> u32
     requires { at < 1024 }
     ensures { result ≡ u32_or at other bytes.now }
 {
@@ -50,7 +50,7 @@ pub(crate) fn u32_or(bytes: &[u8], at: usize, other: u32) -> u32
 }
 
 /// The number that stands there, or the other one where the bytes end before.
-pub(crate) fn u64_or(bytes: &[u8], at: usize, other: u64) -> u64
+pub fn u64_or(bytes: &[u8], at: usize, other: u64) -> u64
     requires { at < 1024 }
     ensures { result ≡ u64_or at other bytes.now }
 {
@@ -80,7 +80,7 @@ pub(crate) fn put_u16(bytes: &mut [u8], at: usize, number: u16)
 }
 
 /// Writes a number, as far as there is a place.
-pub(crate) fn put_u32(bytes: &mut [u8], at: usize, number: u32)
+pub fn put_u32(bytes: &mut [u8], at: usize, number: u32)
     requires { at < 1022 }
     ensures { bytes.new ≡ put_u32 at number bytes.old }
 {
@@ -89,7 +89,7 @@ pub(crate) fn put_u32(bytes: &mut [u8], at: usize, number: u32)
 }
 
 /// Writes a number, as far as there is a place.
-pub(crate) fn put_u64(bytes: &mut [u8], at: usize, number: u64)
+pub fn put_u64(bytes: &mut [u8], at: usize, number: u64)
     requires { at < 1018 }
     ensures { bytes.new ≡ put_u64 at number bytes.old }
 {

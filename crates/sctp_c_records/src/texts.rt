@@ -32,6 +32,15 @@ fn answer_text(number: u32) -> &'static str
         20 => "handover state is not valid\0",
         21 => "size of a struct is not known\0",
         22 => "bytes are no packet\0",
+        23 => "the socket has no channels\0",
+        24 => "the socket has channels\0",
+        25 => "no such channel\0",
+        26 => "channel is being closed\0",
+        27 => "stream is in use\0",
+        28 => "no stream is free\0",
+        29 => "label or protocol is too long\0",
+        30 => "text is not UTF-8\0",
+        31 => "socket takes no message\0",
         _ => "unknown answer\0",
     }
 }
@@ -57,6 +66,11 @@ fn event_text(number: u32) -> &'static str
         13 => "message expired\0",
         14 => "message delivered\0",
         15 => "message lifecycle end\0",
+        16 => "channel opened\0",
+        17 => "text on a channel\0",
+        18 => "bytes on a channel\0",
+        19 => "channel closed\0",
+        20 => "refused on a channel\0",
         _ => "unknown event\0",
     }
 }
@@ -114,8 +128,24 @@ fn option_text(place: u32) -> &'static str
     }
 }
 
-/// The text of a number: of an answer (0), the kind of an event (1), the kind of an error (2), a state (3), or the place of an
-/// option that is out of its bounds (4).
+/// Why something that came on a channel was not taken.
+fn refusal_text(number: u32) -> &'static str
+    ensures { IsEnded result.now }
+{
+    match number {
+        1 => "no valid message of the opening\0",
+        2 => "stream is of the other parity\0",
+        3 => "no such stream\0",
+        4 => "stream is in use\0",
+        5 => "no channel on the stream\0",
+        6 => "payload protocol is not known\0",
+        7 => "message is too long\0",
+        _ => "unknown refusal\0",
+    }
+}
+
+/// The text of a number: of an answer (0), the kind of an event (1), the kind of an error (2), a state (3), the place of an
+/// option that is out of its bounds (4), or a refusal on a channel (5).
 pub fn text_of(what: u32, number: u32) -> &'static str
     ensures { IsEnded result.now }
 {
@@ -125,6 +155,7 @@ pub fn text_of(what: u32, number: u32) -> &'static str
         2 => error_text(number),
         3 => state_text(number),
         4 => option_text(number),
+        5 => refusal_text(number),
         _ => "unknown\0",
     }
 }

@@ -1,7 +1,9 @@
 -- Channels over a socket: what the owner's calls make of them, and how a message goes.
-use Rattle.std.specs.Prelude.{◌≡◌, ◌⊎◌, ℕ, ◌≤◌, min, ◌*◌, true, Option, Some, None}
+use Rattle.std.specs.Prelude.{◌≡◌, ◌⊎◌, ℕ, ◌≤◌, min, ◌*◌, Bool, true, false, Option, Some, None}
 use Rattle.sctp_channel.specs.Channel.{Channel}
 use Rattle.sctp_channel.specs.Lifecycle.{may_send}
+use Rattle.sctp_channel.specs.declared.lifecycle.Outgoing.{Outgoing}
+use Rattle.sctp_channel.specs.declared.lifecycle.Outgoing.TheVariants.{Draining}
 use Rattle.sctp_channel_messages.specs.declared.reliability.Reliability.{Reliability}
 use Rattle.sctp_channel_messages.specs.declared.reliability.Reliability.TheVariants.{MaxRetransmissions, MaxLifetime}
 use Rattle.sctp_channels.specs.Channels.{Channels}
@@ -30,6 +32,15 @@ lifetime _ = None
 abbrev pub IsOpenAt : Option Channel → Type 0
 IsOpenAt None = ⊥
 IsOpenAt (Some c) = may_send c.lifecycle ≡ true
+
+abbrev pub is_draining : Outgoing → Bool
+is_draining Draining = true
+is_draining _ = false
+
+-- a channel is closed there, and its reset is still to be asked for
+abbrev pub is_draining_at : Option Channel → Bool
+is_draining_at None = false
+is_draining_at (Some c) = is_draining c.lifecycle.outgoing
 
 -- the peer takes a message of so many bytes
 abbrev pub IsShortEnough : ℕ → DataChannels → Type 0

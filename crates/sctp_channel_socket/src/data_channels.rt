@@ -6,10 +6,10 @@ ghost use Rattle.sctp_channel.specs.Channel.{goes_unordered};
 ghost use Rattle.sctp_channel_messages.specs.Views.{open_of};
 ghost use Rattle.sctp_channels.specs.Channels.{is_own, negotiate, no_channels, open_own, sent};
 ghost use Rattle.sctp_channels.specs.Entries.{channel_at};
-ghost use Rattle.sctp_channel_socket.specs.DataChannels.{DataChannels, IsOpenAt, IsShortEnough, lifetime, retransmissions, with_channels};
+ghost use Rattle.sctp_channel_socket.specs.DataChannels.{DataChannels, IsOpenAt, IsShortEnough, is_draining_at, lifetime, retransmissions, with_channels};
 
 use crate::{ChannelEvent, OpenError, SendRefusal};
-use sctp_channel::Channel;
+use sctp_channel::{Channel, Outgoing};
 use sctp_channel_messages::{
     CONTROL_PPID, ChannelMessage, DataChannelOpen, PayloadKind, Reliability, data_message,
 };
@@ -18,7 +18,7 @@ use sctp_serial::{Message, StreamId};
 use sctp_socket_interface::DcSctpSocket;
 use sctp_state::{CallError, ResetStreamsError, SendError, SendOptions, SocketEvent};
 use std::alloc::{AllocError, Global};
-use std::collections::VecDeque;
+use std::collections::{BTreeSet, VecDeque};
 use std::marker::Model;
 use std::time::Duration;
 
@@ -33,6 +33,8 @@ pub struct DataChannels {
     events: VecDeque<ChannelEvent>,
     // streams whose answer the socket had no room for
     unanswered: VecDeque<StreamId>,
+    // streams that are to be reset once what was accepted is sent
+    closing: BTreeSet<u16>,
     peer_max_message_size: usize,
     max_buffered_amount: usize,
 }
@@ -94,6 +96,7 @@ impl DataChannels {
             channels: Channels::new(alloc, is_client, stream_count, max_message_size),
             events: VecDeque::new(alloc),
             unanswered: VecDeque::new(alloc),
+            closing: BTreeSet::new(alloc),
             peer_max_message_size,
             max_buffered_amount,
         }
@@ -203,6 +206,7 @@ impl DataChannels {
         id: StreamId,
     ) -> Result<(), CallError> {
         self.channels.close(id);
+        self.note_closing(id)?;
         self.settle(socket)
     }
 
@@ -211,7 +215,7 @@ impl DataChannels {
     pub fn collect<S: DcSctpSocket>(&mut self, socket: &mut S) -> Result<(), CallError> {
         for _ in 0..MANY {
             match socket.get_next_message() {
-                Some(message) => self.channels.on_message(message)?,
+                Some(message) => self.take_message(message)?,
                 None => break,
             }
         }
@@ -223,6 +227,40 @@ impl DataChannels {
             }
         }
         self.settle(socket)
+    }
+
+    /// A message of the opening may close the channel of its stream.
+    fn take_message(&mut self, message: Message) -> Result<(), AllocError> {
+        let id = message.stream_id;
+        let is_control = message.ppid.0 == CONTROL_PPID.0;
+        self.channels.on_message(message)?;
+        if is_control {
+            self.note_closing(id)?;
+        }
+        Ok(())
+    }
+
+    /// Whether a channel is closed on the stream whose reset is still to be asked for.
+    fn is_draining(&self, id: StreamId) -> bool
+        ensures { result ≡ is_draining_at (channel_at id.0 self.now.channels.entries) }
+    {
+        match self.channels.get(id) {
+            None => false,
+            Some(channel) => match channel.lifecycle().outgoing {
+                Outgoing::Draining => true,
+                _ => false,
+            },
+        }
+    }
+
+    /// Keeps in mind that the stream is to be reset, where it is.
+    fn note_closing(&mut self, id: StreamId) -> Result<(), AllocError>
+        ensures { self.new ≡ self.old }
+    {
+        if self.is_draining(id) {
+            self.closing.insert(id.0)?;
+        }
+        Ok(())
     }
 
     fn take_event<S: DcSctpSocket>(
@@ -285,6 +323,7 @@ impl DataChannels {
     fn on_end(&mut self, event: SocketEvent) -> Result<Option<ChannelEvent>, AllocError> {
         self.channels.end()?;
         self.unanswered.clear();
+        self.closing.clear();
         Ok(Some(ChannelEvent::Socket(event)))
     }
 
@@ -297,6 +336,7 @@ impl DataChannels {
         };
         for id in &ids {
             self.channels.on_incoming_reset(*id)?;
+            self.note_closing(*id)?;
         }
         Ok(())
     }
@@ -310,10 +350,29 @@ impl DataChannels {
 
     /// Asks for the resets that are due, and carries out what is to be done.
     fn settle<S: DcSctpSocket>(&mut self, socket: &mut S) -> Result<(), CallError> {
-        for id in &self.channels.streams()? {
+        for id in &self.closing_streams()? {
             self.channels.drain(*id, socket.buffered_amount(*id))?;
+            self.forget_closing(*id);
         }
         self.carry_out(socket)
+    }
+
+    /// The streams that are to be reset, ascending.
+    fn closing_streams(&self) -> Result<Vec<StreamId>, AllocError> {
+        let mut ids = Vec::new(self.alloc);
+        for id in &self.closing {
+            ids.push(StreamId(*id))?;
+        }
+        Ok(ids)
+    }
+
+    /// A stream whose reset was asked for isn't looked at again.
+    fn forget_closing(&mut self, id: StreamId)
+        ensures { self.new ≡ self.old }
+    {
+        if !self.is_draining(id) {
+            self.closing.remove(&id.0);
+        }
     }
 
     fn carry_out<S: DcSctpSocket>(&mut self, socket: &mut S) -> Result<(), CallError> {

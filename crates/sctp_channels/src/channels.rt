@@ -28,6 +28,8 @@ pub struct Channels {
     limit: usize,
     entries: Entries,
     outputs: VecDeque<Output>,
+    // no stream below it is free for this end to open: where `free_stream` begins
+    first_candidate: u16,
 }
 
 impl Model for Channels {
@@ -68,6 +70,7 @@ impl Channels {
             limit,
             entries: Entries::new(alloc),
             outputs: VecDeque::new(alloc),
+            first_candidate: 0,
         }
     }
 
@@ -101,8 +104,43 @@ impl Channels {
         Ok(())
     }
 
-    /// The first stream of this end's parity without a channel.
-    pub fn free_stream(&self) -> Option<StreamId>
+    /// The first stream of this end's parity without a channel. It is looked for from the one that was found last, or was free since.
+    pub fn free_stream(&mut self) -> Option<StreamId>
+        ensures free { IfSome result (λ id. channel_at id.0 self.old.entries ≡ None) }
+        ensures own { IfSome result (λ id. is_own self.old.is_client id.0 ≡ true) }
+        ensures there { IfSome result (λ id. id.0 < self.old.stream_count) }
+        ensures none { IfNone result ((id : ℕ) → id < self.old.stream_count → is_own self.old.is_client id ≡ true → IsSome (channel_at id self.old.entries)) }
+        ensures same { self.new ≡ self.old }
+    {
+        if let Some(id) = self.free_stream_from(self.first_candidate) {
+            self.first_candidate = id.0;
+            return Some(id);
+        }
+        match self.first_free_stream() {
+            Some(id) => {
+                self.first_candidate = id.0;
+                Some(id)
+            }
+            None => None,
+        }
+    }
+
+    /// The first one with this number or a greater one.
+    fn free_stream_from(&self, start: u16) -> Option<StreamId>
+        ensures free { IfSome result (λ id. channel_at id.0 self.now.entries ≡ None) }
+        ensures own { IfSome result (λ id. is_own self.now.is_client id.0 ≡ true) }
+        ensures there { IfSome result (λ id. id.0 < self.now.stream_count) }
+    {
+        for id in start..self.stream_count {
+            if !self.entries.contains(id) && is_own(self.is_client, id) {
+                return Some(StreamId(id));
+            }
+        }
+        None
+    }
+
+    /// The first one of all.
+    fn first_free_stream(&self) -> Option<StreamId>
         ensures free { IfSome result (λ id. channel_at id.0 self.now.entries ≡ None) }
         ensures own { IfSome result (λ id. is_own self.now.is_client id.0 ≡ true) }
         ensures there { IfSome result (λ id. id.0 < self.now.stream_count) }
@@ -197,6 +235,7 @@ impl Channels {
             self.emit(Output::Closed(id))?;
         }
         self.entries.forget(id.0);
+        self.first_candidate = self.first_candidate.min(id.0);
         Ok(())
     }
 
@@ -438,6 +477,7 @@ impl Channels {
         let ids = self.entries.shown_streams()?;
         self.tell_closed(&ids)?;
         self.entries = Entries::new(self.alloc);
+        self.first_candidate = 0;
         Ok(())
     }
 }
