@@ -36,6 +36,14 @@ fn is_first_below<K: ReassemblyKey>(first: &Option<Interval<K>>, key: K) -> bool
     }
 }
 
+/// Whether the interval behind the first is before the key.
+fn is_next_below<K: ReassemblyKey>(later: &BTreeMap<K, Interval<K>>, key: K) -> bool {
+    match later.first_key_value() {
+        Some((_, interval)) => is_before(interval.last().key, key),
+        None => false,
+    }
+}
+
 /// Intervals that went out together.
 #[derive(Drop)]
 pub(crate) struct Low<K: ReassemblyKey> {
@@ -44,7 +52,7 @@ pub(crate) struct Low<K: ReassemblyKey> {
 }
 
 /// Takes out the intervals before the last one whose key in the map is below this, by one cut. That one is then the first, and begins
-/// below the key. Where there is none, and without memory, nothing changes.
+/// below the key. Where only one interval lies below, where none does, and without memory, nothing changes.
 pub(crate) fn take_low<K: ReassemblyKey>(
     first: &mut Option<Interval<K>>,
     later: &mut BTreeMap<K, Interval<K>>,
@@ -59,7 +67,7 @@ pub(crate) fn take_low<K: ReassemblyKey>(
     ensures led { IsLed first.new later.new.entries }
     ensures named { AreNamed K.is_key K.number K.index later.new.entries }
 {
-    if !is_first_below(first, key) {
+    if !is_first_below(first, key) || !is_next_below(later, key) {
         return None;
     }
     key.known();
