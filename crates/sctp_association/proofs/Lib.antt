@@ -2,4 +2,3 @@ pub mod ReceiveLemmas
 pub mod PlaceLemmas
 pub mod OutlineLemmas
 pub mod JudgeLemmas
-pub mod StandsLemmas

@@ -1,4 +1,3 @@
 pub mod PrepareLemmas
 pub mod CleanedLemmas
 pub mod DataLemmas
-pub mod EmittedLemmas
