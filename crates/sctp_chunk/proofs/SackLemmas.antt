@@ -45,12 +45,12 @@ pub four_fields : (value : List ℕ) (a b m n : ℕ) (r1 r2 r3 r4 : List ℕ) �
 four_fields value a b m n r1 r2 r3 r4 e0 e1 e2 e3 =
     e0 ∙ ap (λ (x : List ℕ). be32 a ++ x) (e1 ∙ ap (λ (x : List ℕ). be32 b ++ x) (e2 ∙ ap (λ (x : List ℕ). be16 m ++ x) e3))
 
-pub sack_written : (s : SackTree) (m n : ℕ) (blocks : List GapAckBlock) (duplicates : List Tsn) (o w1 w2 w3 w4 w5 : List ℕ)
+pub sack_written : (s : SackTree) (m n : ℕ) (blocks : List GapAckBlock) (duplicates : List Tsn) (o front w : List ℕ)
     → m ≡ length s.gap_ack_blocks → n ≡ length s.duplicate_tsns → blocks ≡ s.gap_ack_blocks → duplicates ≡ s.duplicate_tsns
-    → w1 ≡ o ++ be32 s.cumulative_tsn_ack → w2 ≡ w1 ++ be32 s.a_rwnd → w3 ≡ w2 ++ be16 m → w4 ≡ w3 ++ be16 n → w5 ≡ w4 ++ flat_map block_bytes blocks
-    → w5 ++ flat_map tsn_bytes duplicates ≡ o ++ sack_value s
+    → front ≡ o ++ (be32 s.cumulative_tsn_ack ++ (be32 s.a_rwnd ++ (be16 m ++ be16 n))) → w ≡ front ++ flat_map block_bytes blocks
+    → w ++ flat_map tsn_bytes duplicates ≡ o ++ sack_value s
 unfolding sack_value
-sack_written s m n blocks duplicates o w1 w2 w3 w4 w5 em en eb ed e1 e2 e3 e4 e5 = rw (e5, e4, e3, e2, e1, em, en, eb, ed) (simp append_assoc)
+sack_written s m n blocks duplicates o front w em en eb ed e1 e2 = rw (e2, e1, em, en, eb, ed) (simp append_assoc)
 
 -- a list of entries of four bytes that fills its place
 pub counted_entries : {E : Type 0} (f : E → List ℕ) → ((e : E) → length (f e) ≡ 4) → (es : List E) (bytes : List ℕ) (n : ℕ) → bytes ≡ flat_map f es → length bytes ≡ 4 * n → length es ≡ n

@@ -11,7 +11,7 @@ ghost use Rattle.sctp_chunk.specs.ChunkText.{chunk_text};
 use crate::flags::FragmentFlags;
 use crate::raw::RawChunk;
 use sctp_serial::{Fsn, Mid, PpId, Ssn, StreamId, StreamKey, Tsn};
-use sctp_wire::{ChunkParseError, SerializableTlv, first_u16, first_u32, push_u16, push_u32};
+use sctp_wire::{ChunkParseError, SerializableTlv, first_u16, first_u32};
 use std::alloc::{AllocError, Global};
 use std::fmt;
 
@@ -328,29 +328,36 @@ impl SerializableTlv for IDataChunk {
 }
 
 /// Appends the value of the DATA that carries the fragment.
-#[tactic(auto, using(crate::proofs::ValueLemmas::length_data_fields), unfolding(crate::specs::Written::data_value))]
+#[tactic(auto, using(crate::proofs::ValueLemmas::length_data_fields), unfolding(crate::specs::Written::data_value, sctp_wire::specs::Field::be16, sctp_wire::specs::Field::be32))]
 pub(crate) fn push_data(tsn: Tsn, fragment: &Data, output: &mut Vec<u8>) -> Result<(), AllocError>
     ensures wrote { OnOk result (output.new.items ≡ output.old.items ++ data_value tsn.0 (fragment_tree fragment.now)) }
     ensures room { Fills output.old output.new (length (data_value tsn.0 (fragment_tree fragment.now))) result }
 {
-    push_u32(output, tsn.0)?;
-    push_u16(output, fragment.stream_key.id().0)?;
-    push_u16(output, fragment.ssn.0)?;
-    push_u32(output, fragment.ppid.0)?;
+    let tsn = tsn.0.to_be_bytes();
+    let id = fragment.stream_key.id().0.to_be_bytes();
+    let ssn = fragment.ssn.0.to_be_bytes();
+    let ppid = fragment.ppid.0.to_be_bytes();
+    output.extend_from_slice(&[
+        tsn[0], tsn[1], tsn[2], tsn[3], id[0], id[1], ssn[0], ssn[1], ppid[0], ppid[1], ppid[2],
+        ppid[3],
+    ])?;
     output.extend_from_slice(&fragment.payload)
 }
 
 /// Appends the value of the I-DATA that carries the fragment.
-#[tactic(auto, using(crate::proofs::ValueLemmas::length_idata_fields), unfolding(crate::specs::Written::idata_value))]
+#[tactic(auto, using(crate::proofs::ValueLemmas::length_idata_fields), unfolding(crate::specs::Written::idata_value, sctp_wire::specs::Field::be16, sctp_wire::specs::Field::be32))]
 pub(crate) fn push_idata(tsn: Tsn, fragment: &Data, output: &mut Vec<u8>) -> Result<(), AllocError>
     ensures wrote { OnOk result (output.new.items ≡ output.old.items ++ idata_value 0 tsn.0 (fragment_tree fragment.now)) }
     ensures room { Fills output.old output.new (length (idata_value 0 tsn.0 (fragment_tree fragment.now))) result }
 {
-    push_u32(output, tsn.0)?;
-    push_u16(output, fragment.stream_key.id().0)?;
-    push_u16(output, 0)?;
-    push_u32(output, fragment.mid.0)?;
-    push_u32(output, fragment.ppid_or_fsn())?;
+    let tsn = tsn.0.to_be_bytes();
+    let id = fragment.stream_key.id().0.to_be_bytes();
+    let mid = fragment.mid.0.to_be_bytes();
+    let last = fragment.ppid_or_fsn().to_be_bytes();
+    output.extend_from_slice(&[
+        tsn[0], tsn[1], tsn[2], tsn[3], id[0], id[1], 0, 0, mid[0], mid[1], mid[2], mid[3],
+        last[0], last[1], last[2], last[3],
+    ])?;
     output.extend_from_slice(&fragment.payload)
 }
 

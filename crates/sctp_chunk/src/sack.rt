@@ -3,6 +3,7 @@
 ghost use Rattle.std.specs.Prelude.{◌≡◌, ◌+◌, ◌*◌, ◌^◌, ◌-◌, ◌<◌, true, ◌++◌, length, IfOk, IfErr, OnOk, OnErr};
 ghost use Rattle.sctp_chunk.specs.Written.{chunk_item};
 ghost use Rattle.sctp_wire.specs.Field.{be16, be32};
+ghost use Rattle.sctp_wire.specs.Room.{Fills};
 ghost use Rattle.sctp_chunk.specs.Grammar.{IsChunk, RefusesChunkAs, IsCounted};
 ghost use Rattle.sctp_chunk.specs.Views.{raw_chunk, sack_chunk_tree};
 ghost use Rattle.std.specs.Prelude.{Some};
@@ -13,7 +14,7 @@ use crate::raw::RawChunk;
 use sctp_serial::Tsn;
 use sctp_wire::{
     ChunkParseError, Entry, Joined, Listed, SerializableTlv, entries_from_bytes, first_u16,
-    first_u32, push_entries, push_u16, push_u32,
+    first_u32, push_entries, push_u16,
 };
 use std::alloc::{AllocError, Global};
 use std::fmt;
@@ -175,13 +176,40 @@ impl SerializableTlv for SackChunk {
 
     #[tactic(auto, using(crate::proofs::ValueLemmas::length_sack))]
     fn push_value(&self, output: &mut Vec<u8>) -> Result<(), AllocError> {
-        push_u32(output, self.cumulative_tsn_ack.0)?;
-        push_u32(output, self.a_rwnd)?;
-        push_u16(output, self.gap_ack_blocks.len() as u16)?;
-        push_u16(output, self.duplicate_tsns.len() as u16)?;
+        let blocks = self.gap_ack_blocks.len() as u16;
+        let duplicates = self.duplicate_tsns.len() as u16;
+        push_front(
+            self.cumulative_tsn_ack,
+            self.a_rwnd,
+            blocks,
+            duplicates,
+            output,
+        )?;
         push_entries(output, &self.gap_ack_blocks)?;
         push_entries(output, &self.duplicate_tsns)
     }
+}
+
+/// Appends the fields that a SACK's value begins with.
+#[tactic(auto, unfolding(sctp_wire::specs::Field::be16, sctp_wire::specs::Field::be32))]
+fn push_front(
+    tsn: Tsn,
+    a_rwnd: u32,
+    block_count: u16,
+    duplicate_count: u16,
+    output: &mut Vec<u8>,
+) -> Result<(), AllocError>
+    ensures wrote { OnOk result (output.new.items ≡ output.old.items ++ (be32 tsn.0 ++ (be32 a_rwnd ++ (be16 block_count ++ be16 duplicate_count)))) }
+    ensures room { Fills output.old output.new 12 result }
+{
+    let tsn = tsn.0.to_be_bytes();
+    let window = a_rwnd.to_be_bytes();
+    let blocks = block_count.to_be_bytes();
+    let twice = duplicate_count.to_be_bytes();
+    output.extend_from_slice(&[
+        tsn[0], tsn[1], tsn[2], tsn[3], window[0], window[1], window[2], window[3], blocks[0],
+        blocks[1], twice[0], twice[1],
+    ])
 }
 
 #[tactic(auto, unfolding(crate::specs::ChunkText::chunk_text))]

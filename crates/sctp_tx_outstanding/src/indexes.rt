@@ -81,7 +81,7 @@ impl Indexes {
             return;
         };
         let part = Totals::of(item, is_interleaved);
-        self.totals = self.totals.exchanged(Totals::nothing(), part);
+        self.totals = self.totals.with_part(part);
         self.last_blocks.take(item.is_acked());
         self.waiting.follow(
             place,
@@ -101,7 +101,7 @@ impl Indexes {
         // (read for its bound)
         let _count = others.len();
         let part = Totals::of(item, is_interleaved);
-        self.totals = self.totals.exchanged(part, Totals::nothing());
+        self.totals = self.totals.without_part(part);
         self.last_blocks.pass();
         self.waiting.pass(item.should_be_retransmitted());
         self.messages.leave(item.message_id());

@@ -59,6 +59,34 @@ impl Totals {
         }
     }
 
+    /// The totals with one part more.
+    pub(crate) fn with_part(self, part: Totals) -> Totals
+        ensures { result ≡ replace_part nothing part self }
+    {
+        Totals {
+            packet_bytes: self.packet_bytes.saturating_add(part.packet_bytes),
+            payload_bytes: self.payload_bytes.saturating_add(part.payload_bytes),
+            flights: self.flights.saturating_add(part.flights),
+            queued: self.queued.saturating_add(part.queued),
+            fast: self.fast.saturating_add(part.fast),
+            earliest: self.earliest.min(part.earliest),
+        }
+    }
+
+    /// The totals without one part.
+    pub(crate) fn without_part(self, part: Totals) -> Totals
+        ensures { result ≡ replace_part part nothing self }
+    {
+        Totals {
+            packet_bytes: self.packet_bytes.saturating_sub(part.packet_bytes),
+            payload_bytes: self.payload_bytes.saturating_sub(part.payload_bytes),
+            flights: self.flights.saturating_sub(part.flights),
+            queued: self.queued.saturating_sub(part.queued),
+            fast: self.fast.saturating_sub(part.fast),
+            earliest: self.earliest,
+        }
+    }
+
     /// The totals with one part in place of another.
     pub(crate) fn exchanged(self, old: Totals, new: Totals) -> Totals
         ensures { result ≡ replace_part old new self }

@@ -35,11 +35,11 @@ returns c =
     let size = c.payload_size.ensures in
     let waits = c.should_be_retransmitted.ensures in
     let earliest = ap (λ (t : Totals). t.earliest) c.of-part.ensures in
-    let exchanged : c.exchanged-self.result ≡ replace_part nothing (parts m i) old.totals =
-    c.exchanged-self.ensures ∙ (ap (λ (t : Totals). replace_part t c.of-part.result old.totals) c.nothing.ensures ∙ ap (λ (t : Totals). replace_part nothing t old.totals) c.of-part.ensures) in
-    subst (λ (js : List Item). AreIndexes m js (record { totals = c.exchanged-self.result; last_blocks = c.take.new.self; waiting = c.follow.new.self; messages = c.add.new.self; expiries = c.renew.new.self })) (sym all)
+    let exchanged : c.with_part-self.result ≡ replace_part nothing (parts m i) old.totals =
+    c.with_part-self.ensures ∙ ap (λ (t : Totals). replace_part nothing t old.totals) c.of-part.ensures in
+    subst (λ (js : List Item). AreIndexes m js (record { totals = c.with_part-self.result; last_blocks = c.take.new.self; waiting = c.follow.new.self; messages = c.add.new.self; expiries = c.renew.new.self })) (sym all)
     (record {
-      totals = totals_as m (is ++ i ∷ []) (is ++ i ∷ []) (replace_part nothing (parts m i) old.totals) c.exchanged-self.result
+      totals = totals_as m (is ++ i ∷ []) (is ++ i ∷ []) (replace_part nothing (parts m i) old.totals) c.with_part-self.result
           (totals_pushed m is i old.totals before.totals few (omega (arith, size.size, size.small))) refl exchanged;
       last_blocks = c.take.ensures is i (sym c.is_acked.ensures) before.last_blocks;
       waiting = c.follow.ensures is (is ++ i ∷ []) (turns_pushed old.waiting.first place is i c.should_be_retransmitted.result count waits)

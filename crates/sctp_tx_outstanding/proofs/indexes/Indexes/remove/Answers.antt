@@ -15,8 +15,8 @@ returns c =
     let old = c.args.self.now in
     let few : length is < 2 ^ 64 = omega arith in
     record {
-      totals = totals_as m is is (replace_part (parts m i) nothing old.totals) c.exchanged-self.result (totals_popped m i is old.totals c.requires.totals few)
-          refl (c.exchanged-self.ensures ∙ (ap (λ (t : Totals). replace_part t c.nothing.result old.totals) c.of-part.ensures ∙ ap (λ (t : Totals). replace_part (parts m i) t old.totals) c.nothing.ensures));
+      totals = totals_as m is is (replace_part (parts m i) nothing old.totals) c.without_part-self.result (totals_popped m i is old.totals c.requires.totals few)
+          refl (c.without_part-self.ensures ∙ ap (λ (t : Totals). replace_part t nothing old.totals) c.of-part.ensures);
       last_blocks = c.pass.ensures (i ∷ is) c.requires.last_blocks;
       waiting = (
         c.pass-2.ensures.index i is (sym c.should_be_retransmitted.ensures) c.requires.waiting.0,
