@@ -13,11 +13,6 @@ use Rattle.sctp_packet.specs.Packet.{HeaderTree, header_bytes, unsummed_bytes, j
 use Rattle.sctp_packet.proofs.PacketLemmas.{length_joined}
 use Rattle.sctp_packet.specs.Builder.{BuilderTree, HasPacket, build}
 
-pub header_written : (h : HeaderTree) (o w1 w2 w3 : List ℕ) → w1 ≡ o ++ be16 h.source_port → w2 ≡ w1 ++ be16 h.destination_port → w3 ≡ w2 ++ be32 h.verification_tag
-    → w3 ++ be32 0 ≡ o ++ unsummed_bytes h []
-unfolding unsummed_bytes header_bytes be32
-header_written h o w1 w2 w3 a b c = rw (c, b, a) (simp append_assoc)
-
 pub chunk_behind_header : (h : HeaderTree) (o w chunk : List ℕ) → o ≡ [] → w ≡ o ++ unsummed_bytes h [] → w ++ chunk ≡ unsummed_bytes h chunk
 unfolding unsummed_bytes header_bytes be16 be32
 chunk_behind_header h o w chunk none e = rw (e, none) refl

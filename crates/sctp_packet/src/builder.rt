@@ -13,7 +13,7 @@ ghost use Rattle.sctp_packet.specs.Builder.{BuilderTree, Holds, remaining, so_fa
 
 use crate::packet::{COMMON_HEADER_SIZE, CommonHeader};
 use sctp_control_chunk::Chunk;
-use sctp_wire::{SerializableTlv, push_u16, push_u32};
+use sctp_wire::SerializableTlv;
 use std::alloc::{AllocError, Global};
 use std::marker::Model;
 use std::mem;
@@ -239,15 +239,17 @@ fn reserve_packet(bytes: &mut Vec<u8>, limit: usize) -> Result<(), AllocError>
 }
 
 /// Appends a header, its checksum zero.
-#[tactic(auto, unfolding(crate::specs::Packet::unsummed_bytes, crate::specs::Packet::header_bytes))]
+#[tactic(auto, unfolding(crate::specs::Packet::unsummed_bytes, crate::specs::Packet::header_bytes, sctp_wire::specs::Field::be16, sctp_wire::specs::Field::be32))]
 fn push_header(bytes: &mut Vec<u8>, header: CommonHeader) -> Result<(), AllocError>
     ensures wrote { OnOk result (bytes.new.items ≡ bytes.old.items ++ unsummed_bytes (header_tree header) []) }
     ensures room { Fills bytes.old bytes.new 12 result }
 {
-    push_u16(bytes, header.source_port)?;
-    push_u16(bytes, header.destination_port)?;
-    push_u32(bytes, header.verification_tag)?;
-    push_u32(bytes, 0)
+    let from = header.source_port.to_be_bytes();
+    let to = header.destination_port.to_be_bytes();
+    let tag = header.verification_tag.to_be_bytes();
+    bytes.extend_from_slice(&[
+        from[0], from[1], to[0], to[1], tag[0], tag[1], tag[2], tag[3], 0, 0, 0, 0,
+    ])
 }
 
 /// Writes the word into the checksum's field of a packet.

@@ -94,10 +94,14 @@ fn push_zeros(count: usize, output: &mut Vec<u8>) -> Result<(), AllocError>
     ensures wrote { OnOk result (output.new.items ≡ output.old.items ++ replicate count 0) }
     ensures room { Fills output.old output.new count result }
 {
+    if count == 0 {
+        return Ok(());
+    }
     output.extend_from_slice(&[0, 0, 0][..count])
 }
 
 /// Appends an item's header: its first two bytes, and its length in bytes.
+#[tactic(auto, unfolding(crate::specs::Field::be16))]
 pub fn write_item_header(
     kind: [u8; 2],
     value_size: usize,
@@ -107,8 +111,8 @@ pub fn write_item_header(
     ensures wrote { OnOk result (output.new.items ≡ output.old.items ++ (kind ++ be16 (4 + value_size))) }
     ensures room { Fills output.old output.new 4 result }
 {
-    output.extend_from_slice(&kind)?;
-    push_u16(output, (4 + value_size) as u16)
+    let length = ((4 + value_size) as u16).to_be_bytes();
+    output.extend_from_slice(&[kind[0], kind[1], length[0], length[1]])
 }
 
 /// Appends the header of a parameter or a cause: its type, and its length in bytes.
