@@ -60,6 +60,8 @@ pub struct RetransmissionQueue {
     t3_rtx: Timer,
     rtx_packets_count: usize,
     rtx_bytes_count: u64,
+    /// Buffers of payloads that were acknowledged, for the next ones, while something is outstanding.
+    spares: Vec<Vec<u8>>,
 }
 
 impl Model for RetransmissionQueue {
@@ -100,6 +102,7 @@ impl RetransmissionQueue {
             ),
             rtx_packets_count: 0,
             rtx_bytes_count: 0,
+            spares: Vec::new(alloc),
         }
     }
 
@@ -241,11 +244,22 @@ impl RetransmissionQueue {
             sack.cumulative_tsn_ack,
             &sack.gap_ack_blocks,
             !is_open,
+            &mut self.spares,
             events,
         )?;
+        self.let_spares_go();
         self.update_windows(number, sack.a_rwnd, moved, before, info);
         self.run_timer(now, moved);
         Ok(info.bytes_acked)
+    }
+
+    /// Where nothing is outstanding no buffer is kept.
+    fn let_spares_go(&mut self)
+        ensures { self.new ≡ self.old }
+    {
+        if self.outstanding.is_empty() {
+            self.spares = Vec::new(self.alloc);
+        }
     }
 
     /// The windows follow what the items received; `before` bytes were unacknowledged.
@@ -553,7 +567,7 @@ impl RetransmissionQueue {
         if !self.can_send_data() || max_payload == 0 {
             return Ok(None);
         }
-        let Some(fragment) = queue.produce(now, max_payload, events)? else {
+        let Some(fragment) = queue.produce_in(now, max_payload, &mut self.spares, events)? else {
             return Ok(None);
         };
         let size = self.append(now, fragment, form, packet)?;

@@ -350,6 +350,11 @@ impl Item {
         self.state = ItemState::GivenUp;
     }
 
+    /// Its payload's buffer; the rest is let go.
+    pub(crate) fn into_payload(self) -> Vec<u8> {
+        self.data.payload
+    }
+
     /// The time since it was first sent.
     pub fn get_rtt_from(&self, now: SocketTime) -> Duration
         ensures { as_nanos result ≡ rtt_from now self.now }

@@ -544,7 +544,12 @@ impl OutstandingData {
     }
 
     /// The items up to the number leave, with their events. The answer is how many bytes are newly acknowledged by that.
-    fn leave(&mut self, number: u64, events: &mut Events) -> Result<usize, AllocError>
+    fn leave(
+        &mut self,
+        number: u64,
+        spares: &mut Vec<Vec<u8>>,
+        events: &mut Events,
+    ) -> Result<usize, AllocError>
         requires onward { self.old.items.acked ≤ number }
         requires small { number < 2 ^ 63 }
         ensures items { OnOk result (self.new ≡ record self.old { items = staying number self.old.items }) }
@@ -559,7 +564,7 @@ impl OutstandingData {
             events.roll_back(mark);
             return Err(AllocError);
         }
-        let bytes = take_out(&mut self.kept, count);
+        let bytes = take_out(&mut self.kept, count, spares);
         self.acked = number;
         forget_passed(&mut self.breakpoints, number);
         Ok(bytes)
@@ -572,12 +577,13 @@ impl OutstandingData {
     /// reports are done.
     ///
     /// Blocks that are runs, as in a SACK that was cleaned, are walked along with the items. Others cost a search of all of them
-    /// for each item.
+    /// for each item. Of the payloads that leave a few buffers are kept for the next ones.
     pub fn handle_sack(
         &mut self,
         cumulative_tsn: Tsn,
         blocks: &[GapAckBlock],
         is_in_fast_recovery: bool,
+        spares: &mut Vec<Vec<u8>>,
         events: &mut Events,
     ) -> Result<AckInfo, AllocError>
         requires valid { IsTrue (is_in_range (number_of self.old cumulative_tsn.0) self.old.items) }
@@ -588,7 +594,7 @@ impl OutstandingData {
         ensures err { OnErr result (Same self.old events.old self.new events.new ⊎ SackPartlyTaken (number_of self.old cumulative_tsn.0) blocks.now is_in_fast_recovery self.old events.old self.new events.new) }
     {
         let number = self.unwrapped(cumulative_tsn);
-        let left = self.leave(number, events)?;
+        let left = self.leave(number, spares, events)?;
         let covered = settle_all(&mut self.kept, blocks);
         let fast = !is_in_fast_recovery;
         let is_lossy = self.nack_uncovered(covered.below, blocks, fast, events)?;

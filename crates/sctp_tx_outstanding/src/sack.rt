@@ -32,8 +32,21 @@ fn left_bytes(item: &Item, is_interleaved: bool) -> usize
     item.chunk_size(is_interleaved)
 }
 
-/// Takes the first items out. The answer is how many bytes are newly acknowledged by that, at most `usize::MAX`.
-pub(crate) fn take_out(kept: &mut Kept, count: usize) -> usize
+/// So many buffers of payloads are kept for the next ones, of at least so many bytes.
+const MOST_SPARES: usize = 4;
+
+const LEAST_SPARE: usize = 512;
+
+/// Keeps a buffer for another payload.
+fn keep_spare(spares: &mut Vec<Vec<u8>>, buffer: Vec<u8>) {
+    if spares.len() < MOST_SPARES && LEAST_SPARE <= buffer.capacity() {
+        let _is_kept = spares.push(buffer).is_ok();
+    }
+}
+
+/// Takes the first items out, and keeps buffers of their payloads. The answer is how many bytes are newly acknowledged by that, at
+/// most `usize::MAX`.
+pub(crate) fn take_out(kept: &mut Kept, count: usize, spares: &mut Vec<Vec<u8>>) -> usize
     ensures items { kept.new ≡ record kept.old { items = drop count kept.old.items } }
     ensures bytes { result ≡ min (sum_by (departing_part kept.old.is_interleaved) (take count kept.old.items)) (2 ^ 64 - 1) }
 {
@@ -45,6 +58,7 @@ pub(crate) fn take_out(kept: &mut Kept, count: usize) -> usize
             return bytes;
         };
         bytes = bytes.saturating_add(left_bytes(&item, is_interleaved));
+        keep_spare(spares, item.into_payload());
         left -= 1;
     }
     bytes

@@ -209,6 +209,7 @@ impl SendQueue {
         &mut self,
         id: StreamId,
         size: usize,
+        spares: &mut Vec<Vec<u8>>,
         events: &mut Events,
     ) -> Result<Option<DataToSend>, AllocError>
         ensures queue { OnOk result (self.new ≡ (turn_from id.0 size self.old.streams self.old events.old).queue) }
@@ -219,7 +220,7 @@ impl SendQueue {
         let is_interleaved = self.scheduler.is_interleaved();
         let made = self
             .streams
-            .send_front(self.alloc, id, size, &mut self.scheduler, events)?;
+            .send_front(self.alloc, spares, id, size, &mut self.scheduler, events)?;
         self.begun = begun_by(id, is_interleaved, &made);
         Ok(made)
     }
@@ -230,6 +231,7 @@ impl SendQueue {
         now: SocketTime,
         id: StreamId,
         size: usize,
+        spares: &mut Vec<Vec<u8>>,
         events: &mut Events,
     ) -> Result<Option<DataToSend>, AllocError>
         ensures queue { OnOk result (self.new ≡ (turn now id.0 size self.old events.old).queue) }
@@ -238,7 +240,7 @@ impl SendQueue {
         ensures err { OnErr result (Stopped now id.0 self.old events.old self.new events.new) }
     {
         self.drop_stale(now, id, events)?;
-        self.send_front(id, size, events)
+        self.send_front(id, size, spares, events)
     }
 
     /// Asks streams until one gives a fragment, or none is left.
@@ -246,6 +248,7 @@ impl SendQueue {
         &mut self,
         now: SocketTime,
         size: usize,
+        spares: &mut Vec<Vec<u8>>,
         events: &mut Events,
     ) -> Result<Option<DataToSend>, AllocError>
         requires { 0 < size }
@@ -259,7 +262,7 @@ impl SendQueue {
             let Some(id) = self.next_stream() else {
                 return Ok(None);
             };
-            let made = self.turn(now, id, size, events)?;
+            let made = self.turn(now, id, size, spares, events)?;
             if let Some(made) = made {
                 return Ok(Some(made));
             }
@@ -287,7 +290,28 @@ impl SendQueue {
         ensures goes_on { IfOk result (λ found. GoesOn self.old (option_map produced_of found)) }
         ensures err { OnErr result (Interrupted now max_payload self.old events.old self.new events.new) }
     {
-        let made = self.ask(now, max_payload, events)?;
+        let mut spares = Vec::new(self.alloc);
+        self.produce_in(now, max_payload, &mut spares, events)
+    }
+
+    /// The same. A part of a message is copied into one of these buffers, where it serves.
+    pub fn produce_in(
+        &mut self,
+        now: SocketTime,
+        max_payload: usize,
+        spares: &mut Vec<Vec<u8>>,
+        events: &mut Events,
+    ) -> Result<Option<DataToSend>, AllocError>
+        requires { 0 < max_payload }
+        ensures queue { OnOk result (self.new ≡ (produce now max_payload self.old events.old).queue) }
+        ensures emitted { OnOk result (events.new ≡ (produce now max_payload self.old events.old).emitted) }
+        ensures made { IfOk result (λ found. option_map produced_of found ≡ (produce now max_payload self.old events.old).made) }
+        ensures idle { IfOk result (λ found. found ≡ None → self.new.scheduler.times ≡ []) }
+        ensures begins { IfOk result (λ found. Begins self.old.scheduler.is_interleaved (option_map produced_of found) self.new) }
+        ensures goes_on { IfOk result (λ found. GoesOn self.old (option_map produced_of found)) }
+        ensures err { OnErr result (Interrupted now max_payload self.old events.old self.new events.new) }
+    {
+        let made = self.ask(now, max_payload, spares, events)?;
         Ok(made)
     }
 

@@ -121,6 +121,23 @@ fn numbers_from(mid: Option<u32>, ssn: Option<u16>) -> Option<MessageNumbers>
     }
 }
 
+/// A copy of the bytes, in the last of these buffers where it is neither too small nor over twice as large. A buffer that
+/// doesn't serve is let go.
+fn copied(alloc: Global, spares: &mut Vec<Vec<u8>>, bytes: &[u8]) -> Result<Vec<u8>, AllocError>
+    ensures { IfOk result (λ copy. copy.items ≡ bytes.now) }
+{
+    let Some(mut copy) = spares.pop() else {
+        return Vec::from_slice(alloc, bytes);
+    };
+    let capacity = copy.capacity();
+    if capacity < bytes.len() || bytes.len() < capacity / 2 {
+        return Vec::from_slice(alloc, bytes);
+    }
+    copy.clear();
+    copy.extend_from_slice(bytes)?;
+    Ok(copy)
+}
+
 impl QueuedMessage {
     /// The message of a record, in the socket that takes it up now.
     pub(crate) fn restored(
@@ -262,13 +279,18 @@ impl QueuedMessage {
         self.next_fsn = Fsn(0);
     }
 
-    /// The bytes of the next fragment, of at most `size`.
-    fn next_payload(&self, alloc: Global, size: usize) -> Result<Vec<u8>, AllocError>
+    /// The bytes of the next fragment, of at most `size`, in one of these buffers where it serves.
+    fn next_payload(
+        &self,
+        alloc: Global,
+        spares: &mut Vec<Vec<u8>>,
+        size: usize,
+    ) -> Result<Vec<u8>, AllocError>
         ensures { IfOk result (λ bytes. bytes.items ≡ take size (drop self.now.offset self.now.payload)) }
     {
         let left = self.payload.len() - self.offset;
         let end = self.offset + left.min(size);
-        Vec::from_slice(alloc, &self.payload[self.offset..end])
+        copied(alloc, spares, &self.payload[self.offset..end])
     }
 
     /// The lifecycle ends with the last fragment alone.
@@ -314,13 +336,14 @@ impl QueuedMessage {
     pub(crate) fn fragment(
         &self,
         alloc: Global,
+        spares: &mut Vec<Vec<u8>>,
         id: StreamId,
         numbers: MessageNumbers,
         size: usize,
     ) -> Result<DataToSend, AllocError>
         ensures { IfOk result (λ made. produced_of made ≡ made_of id.0 size numbers self.now) }
     {
-        let payload = self.next_payload(alloc, size)?;
+        let payload = self.next_payload(alloc, spares, size)?;
         Ok(self.fragment_with(id, numbers, size, payload))
     }
 

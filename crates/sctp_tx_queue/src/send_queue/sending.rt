@@ -102,6 +102,7 @@ fn send_whole(
 /// The next fragment of a stream is a part of a message, whose payload is copied, or there is none.
 fn send_part(
     alloc: Global,
+    spares: &mut Vec<Vec<u8>>,
     id: StreamId,
     size: usize,
     is_total_low: bool,
@@ -112,7 +113,7 @@ fn send_part(
     ensures sent { IfOk result (λ found. Sent id.0 size is_total_low (option_map produced_of found) stream.old scheduler.old events.old stream.new scheduler.new events.new) }
     ensures err { OnErr result (Unsent stream.old scheduler.old events.old stream.new scheduler.new events.new) }
 {
-    match stream.fragment(alloc, id, size)? {
+    match stream.fragment(alloc, spares, id, size)? {
         Some(made) => {
             let next = next_after(stream, size, is_total_low);
             go_in_line(scheduler, events, id, next, made.lifecycle_id)?;
@@ -131,6 +132,7 @@ fn send_part(
 /// Without memory nothing changes.
 pub(crate) fn send_from(
     alloc: Global,
+    spares: &mut Vec<Vec<u8>>,
     id: StreamId,
     size: usize,
     is_total_low: bool,
@@ -144,6 +146,15 @@ pub(crate) fn send_from(
     if stream.is_next_whole(size) {
         send_whole(alloc, id, size, is_total_low, stream, scheduler, events)
     } else {
-        send_part(alloc, id, size, is_total_low, stream, scheduler, events)
+        send_part(
+            alloc,
+            spares,
+            id,
+            size,
+            is_total_low,
+            stream,
+            scheduler,
+            events,
+        )
     }
 }

@@ -224,6 +224,7 @@ fn settled(pause_state: PauseState) -> PauseState
 fn front_fragment(
     messages: &VecDeque<QueuedMessage>,
     alloc: Global,
+    spares: &mut Vec<Vec<u8>>,
     id: StreamId,
     numbers: MessageNumbers,
     size: usize,
@@ -231,7 +232,7 @@ fn front_fragment(
     ensures { IfOk result (λ found. option_map produced_of found ≡ front_made id.0 size numbers messages.now.items) }
 {
     match messages.front() {
-        Some(message) => Ok(Some(message.fragment(alloc, id, numbers, size)?)),
+        Some(message) => Ok(Some(message.fragment(alloc, spares, id, numbers, size)?)),
         None => Ok(None),
     }
 }
@@ -539,13 +540,14 @@ impl Stream {
     pub(crate) fn fragment(
         &self,
         alloc: Global,
+        spares: &mut Vec<Vec<u8>>,
         id: StreamId,
         size: usize,
     ) -> Result<Option<DataToSend>, AllocError>
         ensures { IfOk result (λ found. option_map produced_of found ≡ next_fragment id.0 size self.now) }
     {
         let numbers = self.front_numbers();
-        front_fragment(&self.messages, alloc, id, numbers, size)
+        front_fragment(&self.messages, alloc, spares, id, numbers, size)
     }
 
     /// How many bytes the next fragment has.

@@ -271,6 +271,7 @@ impl Streams {
     pub(crate) fn send_front(
         &mut self,
         alloc: Global,
+        spares: &mut Vec<Vec<u8>>,
         id: StreamId,
         size: usize,
         scheduler: &mut StreamScheduler,
@@ -293,7 +294,16 @@ impl Streams {
         let before = stream.amount();
         let was_ready = stream.is_ready();
         let is_total_low = self.total.is_crossed_by(stream.fragment_size(size));
-        let made = send_from(alloc, id, size, is_total_low, stream, scheduler, events)?;
+        let made = send_from(
+            alloc,
+            spares,
+            id,
+            size,
+            is_total_low,
+            stream,
+            scheduler,
+            events,
+        )?;
         self.total.decrease(before - stream.amount());
         self.ready_count = ready_count_after(self.ready_count, was_ready, stream.is_ready());
         Ok(made)

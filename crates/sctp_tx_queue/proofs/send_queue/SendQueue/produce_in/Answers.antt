@@ -4,7 +4,7 @@ use Rattle.sctp_tx_queue.specs.Views.{produced_of}
 use Rattle.sctp_tx_queue.specs.Begun.{IsBegun}
 use Rattle.sctp_tx_queue.proofs.BegunLemmas.{begins, goes_on}
 use Rattle.sctp_tx_queue.proofs.ProduceLemmas.{produced_idle}
-use Rattle.sctp_tx_queue.proofs.send_queue.SendQueue.produce.Goals as goal
+use Rattle.sctp_tx_queue.proofs.send_queue.SendQueue.produce_in.Goals as goal
 
 pub returns-clause-idle : goal.returns-clause-idle
 returns-clause-idle c = λ e. ap (λ q. q.scheduler.times) c.in_ok-made.ensures.queue
