@@ -33,7 +33,7 @@ fn left_bytes(item: &Item, is_interleaved: bool) -> usize
 }
 
 /// So many buffers of payloads are kept for the next ones, of at least so many bytes.
-const MOST_SPARES: usize = 4;
+const MOST_SPARES: usize = 32;
 
 const LEAST_SPARE: usize = 512;
 

@@ -121,8 +121,8 @@ fn numbers_from(mid: Option<u32>, ssn: Option<u16>) -> Option<MessageNumbers>
     }
 }
 
-/// A copy of the bytes, in the last of these buffers where it is neither too small nor over twice as large. A buffer that
-/// doesn't serve is let go.
+/// A copy of the bytes, in the last of these buffers where it is neither too small nor over twice as large. One that is too
+/// small is let go.
 fn copied(alloc: Global, spares: &mut Vec<Vec<u8>>, bytes: &[u8]) -> Result<Vec<u8>, AllocError>
     ensures { IfOk result (λ copy. copy.items ≡ bytes.now) }
 {
@@ -130,7 +130,11 @@ fn copied(alloc: Global, spares: &mut Vec<Vec<u8>>, bytes: &[u8]) -> Result<Vec<
         return Vec::from_slice(alloc, bytes);
     };
     let capacity = copy.capacity();
-    if capacity < bytes.len() || bytes.len() < capacity / 2 {
+    if bytes.len() < capacity / 2 {
+        let _is_kept = spares.push(copy).is_ok();
+        return Vec::from_slice(alloc, bytes);
+    }
+    if capacity < bytes.len() {
         return Vec::from_slice(alloc, bytes);
     }
     copy.clear();
