@@ -32,14 +32,18 @@ fn left_bytes(item: &Item, is_interleaved: bool) -> usize
     item.chunk_size(is_interleaved)
 }
 
-/// So many buffers of payloads are kept for the next ones, of at least so many bytes.
+/// So many buffers of payloads are kept for the next ones.
 const MOST_SPARES: usize = 32;
 
+/// They have room for so many bytes at least, and at most: an owner's may have room for more.
 const LEAST_SPARE: usize = 512;
+
+const LARGEST_SPARE: usize = 2048;
 
 /// Keeps a buffer for another payload.
 fn keep_spare(spares: &mut Vec<Vec<u8>>, buffer: Vec<u8>) {
-    if spares.len() < MOST_SPARES && LEAST_SPARE <= buffer.capacity() {
+    let capacity = buffer.capacity();
+    if spares.len() < MOST_SPARES && LEAST_SPARE <= capacity && capacity <= LARGEST_SPARE {
         let _is_kept = spares.push(buffer).is_ok();
     }
 }
