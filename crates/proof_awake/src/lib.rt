@@ -4,7 +4,7 @@
 
 ghost use Rattle.proof_awake.specs.Asking.{OwnPacketsAskOnce};
 ghost use Rattle.proof_awake.specs.Laws.{EachCallKeepsTimed, NewEndsAreTimed, OnlyQuietEndsNameNoMoment, TimedEndsAreAwake};
-ghost use Rattle.proof_awake.specs.LeftBehind.{ALineIsLeft, AResetIsLeftBehind};
+ghost use Rattle.proof_awake.specs.LeftBehind.{ALineIsLeft, AResetIsLeftBehind, NumbersAreLeftBehind};
 ghost use Rattle.proof_awake.specs.Line.{EachCallKeepsLined, NewEndsAreLined, SendingCallsLeaveNoLine, SendingsLeaveNoLine};
 ghost use Rattle.proof_awake.specs.Restored.{EachPacketWithDataStartsTimers, EachSackStartsT3};
 ghost use Rattle.proof_awake.specs.Worlds.{WorldsAreAwake, WorldsHaveNoLine};
@@ -36,6 +36,12 @@ pub fn worlds_are_awake()
 pub fn a_reset_is_left_behind()
     ensures left { AResetIsLeftBehind }
     ensures line { ALineIsLeft }
+{}
+
+/// And numbers go on: in this conversation, computed, such an end sends an ordered message on a stream that it used before. It has the number
+/// behind the last one, is acknowledged and never ready, and nothing says so.
+pub fn numbers_are_left_behind()
+    ensures left { NumbersAreLeftBehind }
 {}
 
 /// Once connected, a sending leaves no stream in line where it leaves no item kept: with bursts of two packets at least, since the first
