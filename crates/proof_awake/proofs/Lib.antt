@@ -17,3 +17,6 @@ pub mod LineRowLemmas
 pub mod LineEachLemmas
 pub mod LineTimeLemmas
 pub mod LineInputLemmas
+pub mod RestoredLemmas
+pub mod AskingLemmas
+pub mod WorldLineLemmas

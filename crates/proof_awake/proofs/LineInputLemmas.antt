@@ -5,6 +5,7 @@ use Rattle.std.proofs.lemmas.Bool.{and_parts}
 use Rattle.sctp_serial.specs.Messages.{Message}
 use Rattle.sctp_wire.specs.Cause.{protocol_violation}
 use Rattle.sctp_packet.specs.Chunk.{ChunkTree, data_chunk, init_chunk, init_ack_chunk, sack_chunk, heartbeat_request_chunk, heartbeat_ack_chunk, abort_chunk, shutdown_chunk, shutdown_ack_chunk, error_chunk, cookie_echo_chunk, cookie_ack_chunk, shutdown_complete_chunk, idata_chunk, re_config_chunk, forward_tsn_chunk, i_forward_tsn_chunk, unknown_chunk}
+use Rattle.sctp_packet.specs.Packet.{PacketTree}
 use Rattle.sctp_state.specs.declared.api.ErrorKind.TheVariants.{ProtocolViolation}
 use Rattle.sctp_state.specs.declared.api.errors.SendError.{SendError}
 use Rattle.sctp_state.specs.declared.api.errors.ResetStreamsError.{ResetStreamsError}
@@ -155,6 +156,12 @@ module _ {P : Type 0} where
       open_lined on_packet_end end_lined (receive_all tag chunks x).endpoint_state (all_hold tag chunks x hx)
       (all_lined tag chunks x e hx (repeats_if_lined (has_data_chunk chunks) s h l))
   packet_by_lined (Some text) tag chunks s e h l = l
+
+  -- whatever it asks, a packet that is refused leaves the end as it was
+  pub refused_lined : (p : PacketTree) (text : List ℕ) (s : Endpoint P) → packet_refusal p.header.verification_tag p.chunks s.endpoint_state.state ≡ Some text → EndLined s.endpoint_state
+      → EndLined (called (ReceivePacket p) s).endpoint_state
+  refused_lined p text s is l =
+      subst (λ (o : Option (List ℕ)). EndLined (packet_if o p.header.verification_tag p.chunks (count_packet_at s)).endpoint_state) (sym is) l
 
   -- ---- calls
 

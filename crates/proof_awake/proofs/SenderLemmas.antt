@@ -247,6 +247,13 @@ module _ {P : Type 0} (s : Sender) where
       has_some true e = e
       has_some false e = tt
 
+  -- the timer is as it was until the packet is full
+  pub same_t3 : (now most : ℕ) (left : Changed P)
+      → let x : Filling P = filled_with most (without_discards s) (resent most (without_discards s)) left in (fill (suc x.left) now x).sender.t3 ≡ s.t3
+  same_t3 now most left =
+      let x : Filling P = filled_with most (without_discards s) (resent most (without_discards s)) left in
+      (fills (suc x.left) now x (record { t3 = refl; items = as_before (none_resent false _ _ (without_discards s).outstanding) })).t3
+
   pub send_holds : (b : Bool) (now most : ℕ) (q : Queue) (e : Emitted P) → SenderHolds b s → SenderHolds b (send now most s q e).sender
   send_holds b now most q e h =
       let left : Changed P = discard_all s.outstanding.items.discards q e in

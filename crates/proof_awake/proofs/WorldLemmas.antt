@@ -20,7 +20,7 @@ SideIsTimed side = IsTimed side.socket.endpoint_state
 abbrev AreTimed : World → Type 0
 AreTimed w = (x : End) → SideIsTimed (side_of x w)
 
-no_restore : (call : Call) → is_restore (table_call call) ≡ false
+pub no_restore : (call : Call) → is_restore (table_call call) ≡ false
 no_restore Connect = refl
 no_restore Shutdown = refl
 no_restore Close = refl

@@ -6,6 +6,7 @@ use Rattle.sctp_packet.specs.Chunk.{re_config_chunk}
 use Rattle.sctp_state.specs.Options.{plainly}
 use Rattle.sctp_tx_queue.specs.SendQueue.{is_empty}
 use Rattle.spec_endpoint.specs.Association.{Established, State, Open, Endpoint}
+use Rattle.spec_endpoint.specs.Calls.{ready_in}
 use Rattle.spec_endpoint.specs.Pair.{Move, Connect, Give, Send, Close, Reset, SentPacket, after_moves, give_packet}
 use Rattle.spec_endpoint.specs.Input.{my_tag}
 use Rattle.spec_endpoint.specs.Rows.{message, opened}
@@ -23,6 +24,21 @@ pub record AResetIsLeftBehind : Type 0 where
   pub connected : HasNothingUnderWay (after_moves reopened).b.endpoint_state.state
   pub queued : is_empty (after_moves reopened).b.endpoint_state.context.queue ≡ false
   pub not_in_line : (after_moves reopened).b.endpoint_state.context.queue.scheduler.times ≡ []
+
+-- ---- numbers of an association that is over
+
+-- a message of b on stream 1 arrives, b closes, a connects again, and another one on that stream is sent, given and acknowledged
+abbrev pub answered_anew : List Move
+answered_anew = opened
+    ++ (Send false (message 1 (120 ∷ [])) plainly ∷ Give 2 true ∷ Give 2 false ∷ Close false ∷ Give 3 true ∷ Connect true ∷ Give 3 false ∷ Give 4 true ∷ Give 4 false ∷ Give 5 true
+    ∷ Send false (message 1 (121 ∷ [])) plainly ∷ Give 6 true ∷ Give 5 false ∷ [])
+
+-- It has the number behind the first one's, and is never ready: its sender is at rest.
+pub record NumbersAreLeftBehind : Type 0 where
+  pub nothing_kept : HasNothingUnderWay (after_moves answered_anew).b.endpoint_state.state
+  pub nothing_queued : is_empty (after_moves answered_anew).b.endpoint_state.context.queue ≡ true
+  pub connected : HasNothingUnderWay (after_moves answered_anew).a.endpoint_state.state
+  pub not_ready : ready_in (after_moves answered_anew).a.endpoint_state.state ≡ []
 
 -- ---- an answer beside two requests
 

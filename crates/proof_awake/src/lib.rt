@@ -2,10 +2,12 @@
 //! runs, so that it names a moment at which to call it next.
 #![tactic(auto)]
 
+ghost use Rattle.proof_awake.specs.Asking.{OwnPacketsAskOnce};
 ghost use Rattle.proof_awake.specs.Laws.{EachCallKeepsTimed, NewEndsAreTimed, OnlyQuietEndsNameNoMoment, TimedEndsAreAwake};
-ghost use Rattle.proof_awake.specs.LeftBehind.{ALineIsLeft, AResetIsLeftBehind};
+ghost use Rattle.proof_awake.specs.LeftBehind.{ALineIsLeft, AResetIsLeftBehind, NumbersAreLeftBehind};
 ghost use Rattle.proof_awake.specs.Line.{EachCallKeepsLined, NewEndsAreLined, SendingCallsLeaveNoLine, SendingsLeaveNoLine};
-ghost use Rattle.proof_awake.specs.Worlds.{WorldsAreAwake};
+ghost use Rattle.proof_awake.specs.Restored.{EachPacketWithDataStartsTimers, EachSackStartsT3};
+ghost use Rattle.proof_awake.specs.Worlds.{WorldsAreAwake, WorldsHaveNoLine};
 
 /// A new end, with valid options, and what each call leaves of one is awake: where an item is kept T3-rtx runs; where a request to
 /// reset streams waits its timer runs, and where an acknowledgement is delayed its delay; T1 and T2 run in their states, and the
@@ -36,6 +38,12 @@ pub fn a_reset_is_left_behind()
     ensures line { ALineIsLeft }
 {}
 
+/// And numbers go on: in this conversation, computed, such an end sends an ordered message on a stream that it used before. It has the number
+/// behind the last one, is acknowledged and never ready, and nothing says so.
+pub fn numbers_are_left_behind()
+    ensures left { NumbersAreLeftBehind }
+{}
+
 /// Once connected, a sending leaves no stream in line where it leaves no item kept: with bursts of two packets at least, since the first
 /// one may be full of a request to reset streams.
 pub fn sendings_leave_no_line()
@@ -48,4 +56,23 @@ pub fn sendings_leave_no_line()
 pub fn no_line_is_left()
     ensures new { NewEndsAreLined }
     ensures calls { EachCallKeepsLined }
+{}
+
+/// The end that took up a record has its timers again from its first packet with data on: that starts the heartbeats' interval, and
+/// T3-rtx where something is in flight. So does the first SACK that leaves something in flight start T3-rtx.
+pub fn timers_start_again()
+    ensures data_starts { EachPacketWithDataStartsTimers }
+    ensures sack_starts { EachSackStartsT3 }
+{}
+
+/// What an end itself sends asks once: no RE-CONFIG that it puts together has two requests for outgoing streams, whatever comes to it.
+pub fn own_packets_ask_once()
+    ensures calls { OwnPacketsAskOnce }
+{}
+
+/// So at an end of a world with bursts of two packets or more no stream is in line between events, once connected with no item kept.
+/// Whatever led the world there, since what is given to an end the other one sent, and bytes from elsewhere are given only where the
+/// end refuses them.
+pub fn worlds_have_no_line()
+    ensures worlds { WorldsHaveNoLine }
 {}
