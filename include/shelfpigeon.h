@@ -437,7 +437,7 @@ enum {
     PIGEON_LIFECYCLE_END = 15,
     /* These come from pigeon_channels_borrow_event alone; `stream` is the channel's number. */
     PIGEON_CHANNEL_OPENED = 16, /* the peer has opened it, or has answered */
-    PIGEON_CHANNEL_TEXT = 17,   /* a message of text, in UTF-8; the bytes are it, and may be none */
+    PIGEON_CHANNEL_TEXT = 17,   /* a message of text; the bytes are it, and may be none. That they are UTF-8 is the peer's word, and isn't tested */
     PIGEON_CHANNEL_BINARY = 18, /* a message of bytes */
     PIGEON_CHANNEL_CLOSED = 19, /* whoever closed it; its number is free, unless the peer refused the reset */
     PIGEON_CHANNEL_REFUSED = 20 /* something that came was not taken, for `error`, one of PIGEON_REFUSED_.. */

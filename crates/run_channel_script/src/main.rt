@@ -19,10 +19,10 @@
 mod table;
 
 use hex::FromHexError;
-use sctp_channel_messages::{
-    ChannelMessage, DataChannelOpen, PayloadKind, PayloadProtocol, Reliability, data_message,
+use sctp_channels::{
+    ChannelMessage, Channels, DataChannelOpen, PayloadKind, PayloadProtocol, Reliability,
+    data_message,
 };
-use sctp_channels::Channels;
 use sctp_wire::{PpId, StreamId};
 use std::alloc::{AllocError, Global};
 use std::io::Read;

@@ -1,8 +1,7 @@
 //! The channels of one end, call by call.
 
 use crate::bytes_of;
-use sctp_channel_messages::{DataChannelOpen, Reliability};
-use sctp_channels::Channels;
+use sctp_channels::{Channels, DataChannelOpen, Reliability};
 use sctp_wire::{Message, PpId, StreamId};
 use std::alloc::{AllocError, Global};
 use std::io;

@@ -7,7 +7,7 @@ use rand_pcg::Pcg32;
 use sctp_association::{
     CallError, Checksum, DcSctpSocket, Options, Socket, SocketEvent, SocketTime, StreamId,
 };
-use sctp_channel_socket::{ChannelEvent, DataChannelOpen, DataChannels, PayloadKind, Reliability};
+use sctp_channels::{ChannelEvent, DataChannelOpen, DataChannels, PayloadKind, Reliability};
 use sctp_crc32c::Crc32c;
 use std::alloc::{AllocError, Global};
 

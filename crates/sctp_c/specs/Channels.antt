@@ -1,7 +1,7 @@
 -- What a call through a handle does to the channels of the socket behind it.
 use Rattle.std.specs.Prelude.{◌≡◌, ℕ}
-use Rattle.sctp_channel.specs.Channel.{Channel}
-use Rattle.sctp_channel_socket.specs.DataChannels.{DataChannels}
+use Rattle.sctp_channels.specs.Channel.{Channel}
+use Rattle.sctp_channels.specs.DataChannels.{DataChannels}
 use Rattle.sctp_c_channels.specs.Answers.{OfChannelAt, OnAnswer, OnChannels, OnOthers}
 use Rattle.sctp_c_channels.specs.Records.{IsStarted}
 use Rattle.sctp_c_channels.specs.declared.starting.StartRecord.{StartRecord}

@@ -2,7 +2,7 @@
 
 use sctp_association::{Socket, SocketEvent, SocketHandoverState};
 use sctp_c_records::{PacketChecksum, SeededWords};
-use sctp_channel_socket::DataChannels;
+use sctp_channels::DataChannels;
 
 /// A socket, the event and the record that were taken from it and didn't fit yet, the bytes that are lent, and its data channels, where it has any.
 #[derive(Drop)]

@@ -1,8 +1,8 @@
 -- What a call did to the channels of a socket, by the number that it answers.
 use Rattle.std.specs.Prelude.{◌≡◌, ℕ, ◌==◌, ◌||◌, ◌<◌, Bool, true, false, Option, Some, None, List, [], ◌∷◌}
-use Rattle.sctp_channel.specs.Channel.{Channel}
-use Rattle.sctp_channel_messages.specs.Views.{Open}
-use Rattle.sctp_channel_socket.specs.DataChannels.{DataChannels, IsOpenAt, IsShortEnough, with_channels}
+use Rattle.sctp_channels.specs.Channel.{Channel}
+use Rattle.sctp_channels.specs.Views.{Open}
+use Rattle.sctp_channels.specs.DataChannels.{DataChannels, IsOpenAt, IsShortEnough, with_channels}
 use Rattle.sctp_channels.specs.Channels.{is_own, negotiate, open_own, sent}
 use Rattle.sctp_channels.specs.Entries.{channel_at}
 

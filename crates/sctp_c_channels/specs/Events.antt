@@ -2,10 +2,10 @@
 use Rattle.std.specs.Prelude.{IsUtf8, ◌≡◌, ◌==◌, ℕ, Option, Some, None, cond, List, [], length}
 use Rattle.sctp_c_records.specs.Event.{bytes_of, event_bytes, record_of, shown}
 use Rattle.sctp_c_records.specs.declared.event.EventRecord.{EventRecord}
-use Rattle.sctp_channel_messages.specs.declared.payload.PayloadKind.{PayloadKind}
-use Rattle.sctp_channel_messages.specs.declared.payload.PayloadKind.TheVariants.{Text, Binary}
-use Rattle.sctp_channel_socket.specs.declared.event.ChannelEvent.{ChannelEvent}
-use Rattle.sctp_channel_socket.specs.declared.event.ChannelEvent.TheVariants as events
+use Rattle.sctp_channels.specs.declared.payload.PayloadKind.{PayloadKind}
+use Rattle.sctp_channels.specs.declared.payload.PayloadKind.TheVariants.{Text, Binary}
+use Rattle.sctp_channels.specs.declared.event.ChannelEvent.{ChannelEvent}
+use Rattle.sctp_channels.specs.declared.event.ChannelEvent.TheVariants as events
 use Rattle.sctp_channels.specs.declared.output.Refusal.{Refusal}
 use Rattle.sctp_channels.specs.declared.output.Refusal.TheVariants as refusals
 use Rattle.sctp_state.specs.Events.{event_of}

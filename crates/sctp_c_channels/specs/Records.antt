@@ -1,11 +1,11 @@
 -- The records of C about channels, as the values of channels.
 use Rattle.std.specs.Prelude.{◌≡◌, ◌⊎◌, Option, Some, None, ℕ, ◌+◌, ◌<◌, ◌/◌, ◌%◌, ◌^◌, ◌==◌, Bool, true, false, cond, List, [], ◌∷◌, length, take}
 use Rattle.sctp_c_records.specs.Layout.{in_turn, put_u32, put_u64, u32_or}
-use Rattle.sctp_channel.specs.declared.channel.Statistics.{Statistics}
-use Rattle.sctp_channel_messages.specs.Views.{Open}
-use Rattle.sctp_channel_messages.specs.declared.reliability.Reliability.{Reliability}
-use Rattle.sctp_channel_messages.specs.declared.reliability.Reliability.TheVariants.{Reliable, MaxRetransmissions, MaxLifetime}
-use Rattle.sctp_channel_socket.specs.DataChannels.{DataChannels}
+use Rattle.sctp_channels.specs.declared.channel.Statistics.{Statistics}
+use Rattle.sctp_channels.specs.Views.{Open}
+use Rattle.sctp_channels.specs.declared.reliability.Reliability.{Reliability}
+use Rattle.sctp_channels.specs.declared.reliability.Reliability.TheVariants.{Reliable, MaxRetransmissions, MaxLifetime}
+use Rattle.sctp_channels.specs.DataChannels.{DataChannels}
 use Rattle.sctp_channels.specs.Channels.{no_channels}
 use Rattle.sctp_c_channels.specs.declared.records.ChannelRecord.{ChannelRecord}
 use Rattle.sctp_c_channels.specs.declared.starting.StartRecord.{StartRecord}

@@ -1,7 +1,7 @@
 //! Channels are opened, and looked at.
 
 ghost use Rattle.std.specs.Prelude.{◌≡◌, ◌<◌, ◌^◌, [], ◌∷◌};
-ghost use Rattle.sctp_channel_messages.specs.Views.{open_of};
+ghost use Rattle.sctp_channels.specs.Views.{open_of};
 ghost use Rattle.sctp_c_channels.specs.Answers.{IsAmong, Negotiated, OfChannelAt, OnAnswer, OnChannels, OnOthers, Opened};
 ghost use Rattle.sctp_c_channels.specs.Records.{channel_bytes, given_open, shown_channel};
 
@@ -10,7 +10,7 @@ use sctp_c_records::answers::{
     MEMORY, NO_CHANNEL, NO_CHANNELS, NO_FREE_STREAM, NO_ROOM, NOT_TAKEN, NOT_UTF8, OK,
     STREAM_IN_USE, TEXT_TOO_LONG,
 };
-use sctp_channel_socket::{DataChannelOpen, DataChannels, OpenError};
+use sctp_channels::{DataChannelOpen, DataChannels, OpenError};
 use sctp_serial::StreamId;
 use sctp_socket_interface::DcSctpSocket;
 use std::alloc::Global;

@@ -7,7 +7,7 @@ ghost use Rattle.sctp_c_channels.specs.Events.{Shows, content_of, head_of, kind_
 
 use sctp_c_records::answers::{FAILED, MEMORY, NO_CHANNELS, NO_ROOM, NOTHING, OK};
 use sctp_c_records::{EventParts, EventRecord, parts_of};
-use sctp_channel_socket::{ChannelEvent, DataChannels, PayloadKind, Refusal};
+use sctp_channels::{ChannelEvent, DataChannels, PayloadKind, Refusal};
 use sctp_serial::StreamId;
 use sctp_socket_interface::DcSctpSocket;
 use sctp_state::{CallError, SocketEvent};

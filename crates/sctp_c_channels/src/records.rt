@@ -1,11 +1,11 @@
 //! How a channel is opened, as C has it.
 
 ghost use Rattle.std.specs.Prelude.{◌≡◌, ◌<◌, ◌↔◌, ◌^◌, IsTrue, IfOk};
-ghost use Rattle.sctp_channel_messages.specs.Views.{open_of};
+ghost use Rattle.sctp_channels.specs.Views.{open_of};
 ghost use Rattle.sctp_c_channels.specs.Records.{IsKnown, channel_bytes, channel_in, given_open, given_reliability, shown_channel};
 
 use sctp_c_records::{put_u32, u32_or};
-use sctp_channel_socket::{DataChannelOpen, Reliability};
+use sctp_channels::{DataChannelOpen, Reliability};
 use std::alloc::{AllocError, Global};
 
 /// The bytes of `pigeon_channel_options`.

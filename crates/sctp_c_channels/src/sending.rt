@@ -9,7 +9,7 @@ use sctp_c_records::answers::{
     CHANNEL_CLOSING, FAILED, MEMORY, MESSAGE_TOO_LARGE, NO_CHANNEL, NO_CHANNELS, NO_ROOM,
     NOT_TAKEN, NOT_UTF8, OK, QUEUE_FULL,
 };
-use sctp_channel_socket::{DataChannels, PayloadKind, SendRefusal};
+use sctp_channels::{DataChannels, PayloadKind, SendRefusal};
 use sctp_serial::StreamId;
 use sctp_socket_interface::DcSctpSocket;
 use sctp_state::CallError;

@@ -6,7 +6,7 @@ ghost use Rattle.sctp_c_channels.specs.Records.{IsStarted, start_in};
 
 use sctp_c_records::answers::{HAS_CHANNELS, OK};
 use sctp_c_records::u32_or;
-use sctp_channel_socket::DataChannels;
+use sctp_channels::DataChannels;
 use sctp_socket_interface::DcSctpSocket;
 use std::alloc::Global;
 

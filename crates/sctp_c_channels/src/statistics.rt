@@ -6,7 +6,7 @@ ghost use Rattle.sctp_c_channels.specs.Records.{CopiesText, statistics_bytes};
 
 use sctp_c_records::answers::{NO_CHANNEL, NO_CHANNELS, OK, SHORT_BUFFER};
 use sctp_c_records::{put_bytes, put_u64};
-use sctp_channel_socket::{DataChannels, Statistics};
+use sctp_channels::{DataChannels, Statistics};
 use sctp_serial::StreamId;
 
 /// The bytes of `pigeon_channel_statistics`.

@@ -1,1 +1,5 @@
+pub mod AnswerLemmas
+pub mod DataLemmas
+pub mod MessageLemmas
+pub mod RunLemmas
 pub mod StandsLemmas

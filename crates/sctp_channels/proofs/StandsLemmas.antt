@@ -5,8 +5,8 @@ use Rattle.std.proofs.lemmas.Map.{keys-set_value}
 use Rattle.std.specs.BTreeMap.{is_at}
 use Rattle.std.specs.Map.{keys_of}
 use Rattle.std.specs.Ordering.{nat_cmp}
-use Rattle.sctp_channel.specs.Channel.{Channel}
-use Rattle.sctp_channel.specs.Lifecycle.{is_connecting}
+use Rattle.sctp_channels.specs.Channel.{Channel}
+use Rattle.sctp_channels.specs.Lifecycle.{is_connecting}
 use Rattle.sctp_channels.specs.Channels.{Channels, Stands, change, confirm_from, confirm_one, emit, on_ack, tell_opened}
 use Rattle.sctp_channels.specs.Entries.{Entries, channel_at, changed, changed_from}
 

@@ -2,20 +2,20 @@
 -- RFC 8832 sections 4 and 6).
 use Rattle.std.specs.Prelude.{◌≡◌, ◌≢◌, ◌⊎◌, ℕ, ◌%◌, ◌==◌, ◌&&◌, nat_le, cond, Bool, true, false, not, Option, Some, None, List, [], ◌∷◌, ◌++◌, map}
 use Rattle.std.specs.Map.{keys_of}
-use Rattle.sctp_channel_messages.specs.declared.fault.ChannelMessageFault.{ChannelMessageFault}
-use Rattle.sctp_channel_messages.specs.declared.fault.ChannelMessageFault.TheVariants.{Memory}
-use Rattle.sctp_channel_messages.specs.declared.payload.PayloadKind.{PayloadKind}
-use Rattle.sctp_channel_messages.specs.declared.payload.PayloadProtocol.{PayloadProtocol}
-use Rattle.sctp_channel_messages.specs.declared.payload.PayloadProtocol.TheVariants.{Control}
-use Rattle.sctp_channel_messages.specs.declared.reliability.Reliability.TheVariants.{Reliable}
-use Rattle.sctp_channel_messages.specs.Message.{Establishment, Open, RefusedAs, Says, opens, acknowledges}
-use Rattle.sctp_channel.specs.Channel.{Channel, Received, count_sent, message, new_channel, nothing, on_data, received, reset_incoming, too_long, with_lifecycle}
-use Rattle.sctp_channel.specs.Lifecycle as life
-use Rattle.sctp_channel.specs.declared.lifecycle.Lifecycle.{Lifecycle}
-use Rattle.sctp_channel.specs.declared.lifecycle.Opening.{Opening}
-use Rattle.sctp_channel.specs.declared.lifecycle.Opening.TheVariants.{Refused}
-use Rattle.sctp_channel.specs.declared.lifecycle.Outgoing.{Outgoing}
-use Rattle.sctp_channel.specs.declared.lifecycle.Outgoing.TheVariants.{Denied}
+use Rattle.sctp_channels.specs.declared.fault.ChannelMessageFault.{ChannelMessageFault}
+use Rattle.sctp_channels.specs.declared.fault.ChannelMessageFault.TheVariants.{Memory}
+use Rattle.sctp_channels.specs.declared.payload.PayloadKind.{PayloadKind}
+use Rattle.sctp_channels.specs.declared.payload.PayloadProtocol.{PayloadProtocol}
+use Rattle.sctp_channels.specs.declared.payload.PayloadProtocol.TheVariants.{Control}
+use Rattle.sctp_channels.specs.declared.reliability.Reliability.TheVariants.{Reliable}
+use Rattle.sctp_channels.specs.Message.{Establishment, Open, RefusedAs, Says, opens, acknowledges}
+use Rattle.sctp_channels.specs.Channel.{Channel, Received, count_sent, message, new_channel, nothing, on_data, received, reset_incoming, too_long, with_lifecycle}
+use Rattle.sctp_channels.specs.Lifecycle as life
+use Rattle.sctp_channels.specs.declared.lifecycle.Lifecycle.{Lifecycle}
+use Rattle.sctp_channels.specs.declared.lifecycle.Opening.{Opening}
+use Rattle.sctp_channels.specs.declared.lifecycle.Opening.TheVariants.{Refused}
+use Rattle.sctp_channels.specs.declared.lifecycle.Outgoing.{Outgoing}
+use Rattle.sctp_channels.specs.declared.lifecycle.Outgoing.TheVariants.{Denied}
 use Rattle.sctp_channels.specs.declared.output.Output as given
 use Rattle.sctp_channels.specs.declared.output.Output.TheVariants as outputs
 use Rattle.sctp_channels.specs.declared.output.Refusal.{Refusal}

@@ -3,7 +3,7 @@ use Rattle.std.specs.Prelude.{ℕ, Option, Some, None, List}
 use Rattle.std.specs.BTreeMap.{insert_entry, is_at}
 use Rattle.std.specs.Map.{lookup, remove_entry, set_value}
 use Rattle.std.specs.Ordering.{nat_cmp}
-use Rattle.sctp_channel.specs.Channel.{Channel}
+use Rattle.sctp_channels.specs.Channel.{Channel}
 
 abbrev pub Entries : Type 0
 Entries = List (ℕ × Channel)

@@ -1,2 +1,9 @@
+pub mod Channel
 pub mod Channels
+pub mod DataChannels
 pub mod Entries
+pub mod Lifecycle
+pub mod Message
+pub mod Payload
+pub mod Runs
+pub mod Views

@@ -2,17 +2,16 @@
 
 ghost use Rattle.std.specs.Prelude.{◌≡◌, ◌<◌, ◌++◌, ◌⊎◌, [], cond, true, None, Some, IfSome, IfNone, IsSome, IfErr, IfOk, OnOk, OnErr, ℕ, map, option_copied, option_map, option_to_list};
 ghost use Rattle.std.specs.Map.{keys_of};
-ghost use Rattle.sctp_channel_messages.specs.Payload.{protocol_of};
-ghost use Rattle.sctp_channel_messages.specs.Views.{open_of};
-ghost use Rattle.sctp_channel.specs.Channel.{on_data, received_as};
+ghost use Rattle.sctp_channels.specs.Payload.{protocol_of};
+ghost use Rattle.sctp_channels.specs.Views.{open_of};
+ghost use Rattle.sctp_channels.specs.Channel.{on_data, received_as};
 ghost use Rattle.sctp_channels.specs.Channels.{Emits, OnControl, OnMessage, Stands, change, close, deliver, drain, emit, end, hand, is_denied, is_own, negotiate, no_channels, on_ack, on_incoming_reset, on_open, on_payload, on_reset_denied, on_reset_performed, open_from, open_own, output_of, sent, take_open, tell_closed, turn_down, with_entries};
 ghost use Rattle.sctp_channels.specs.Entries.{channel_at, forget};
 
 use crate::entries::{Entries, is_shown};
-use crate::{Output, Refusal};
-use sctp_channel::{Channel, Lifecycle, Outgoing, Received};
-use sctp_channel_messages::{
-    ChannelMessage, ChannelMessageFault, DataChannelOpen, PayloadProtocol, Reliability,
+use crate::{
+    Channel, ChannelMessage, ChannelMessageFault, DataChannelOpen, Lifecycle, Outgoing, Output,
+    PayloadProtocol, Received, Refusal, Reliability,
 };
 use sctp_wire::{Message, StreamId};
 use std::alloc::{AllocError, Global};

@@ -2,12 +2,11 @@
 
 ghost use Rattle.std.specs.Prelude.{◌≡◌, [], ◌∷◌, ◌++◌, cond, map, option_copied, is_some, IfOk, OnOk, OnErr};
 ghost use Rattle.std.specs.Map.{keys_of};
-ghost use Rattle.sctp_channel.specs.Channel.{count_sent, on_data, received_as, reset_incoming};
+ghost use Rattle.sctp_channels.specs.Channel.{count_sent, on_data, received_as, reset_incoming};
 ghost use Rattle.sctp_channels.specs.Channels.{close_one, confirm_one, deny_one, drain_one, finish_one, is_shown, received_on, shown_streams};
 ghost use Rattle.sctp_channels.specs.Entries.{channel_at, changed, forget, put};
 
-use sctp_channel::{Channel, Lifecycle, Opening, Outgoing, Received};
-use sctp_channel_messages::PayloadProtocol;
+use crate::{Channel, Lifecycle, Opening, Outgoing, PayloadProtocol, Received};
 use sctp_wire::StreamId;
 use std::alloc::{AllocError, Global};
 use std::collections::BTreeMap;

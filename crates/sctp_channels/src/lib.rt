@@ -1,10 +1,38 @@
-//! The data channels of an association: which streams they have, and what each call and each thing that the socket hands out makes of them (RFC 8831,
-//! RFC 8832). What is to be done is an output, so that no socket occurs here.
+//! Data channels (RFC 8831, RFC 8832), lowest layer first: the messages that open a channel, and the payload protocol identifiers of its data
+//! (`message`, `payload`); one channel (`lifecycle`, `channel`); those of an association, without a socket (`channels`); and over one (`data_channels`):
+//! opened, written, read and closed, whichever socket it is.
+//!
+//! The owner drives the socket as without channels, and calls `collect` behind each call that may have emitted something: behind `handle_input`
+//! for each packet, and behind `advance_time`. What the socket emitted is then taken by `next_event` alone.
 #![tactic(auto)]
 
+mod channel;
+mod channel_laws;
 mod channels;
+mod data_channels;
 mod entries;
+mod event;
+mod fault;
+mod header;
+mod lifecycle;
+mod message;
+mod message_laws;
 mod output;
+mod payload;
+mod reliability;
 
+pub use channel::{Channel, Received, Statistics};
+pub use channel_laws::{
+    a_reset_is_asked_for_once, both_resets_free_a_stream, data_is_handed_out_as_it_was_accepted,
+    ordered_until_it_is_confirmed, who_closes_sends_no_more,
+};
 pub use channels::Channels;
+pub use data_channels::DataChannels;
+pub use event::{ChannelEvent, OpenError, SendRefusal};
+pub use fault::ChannelMessageFault;
+pub use lifecycle::{Lifecycle, Opening, Outgoing};
+pub use message::{ChannelMessage, DataChannelOpen};
+pub use message_laws::{one_answer, one_message, one_payload, read_back, written_alike};
 pub use output::{Output, Refusal};
+pub use payload::{CONTROL_PPID, PayloadKind, PayloadProtocol, data_message};
+pub use reliability::Reliability;

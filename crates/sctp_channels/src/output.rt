@@ -1,6 +1,6 @@
 //! What is to be done, and what is told to the owner.
 
-use sctp_channel_messages::{ChannelMessageFault, PayloadKind};
+use crate::{ChannelMessageFault, PayloadKind};
 use sctp_wire::StreamId;
 
 /// Why something that came was not taken.

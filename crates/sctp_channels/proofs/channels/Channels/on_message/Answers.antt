@@ -1,7 +1,7 @@
 use Rattle.std.proofs.Common.{◌≡◌, ℕ, List, Option, Some, subst, sym, ap, ◌∙◌}
 use Rattle.std.proofs.lemmas.Result.{on_ok_weaker}
-use Rattle.sctp_channel_messages.specs.declared.payload.PayloadProtocol.{PayloadProtocol}
-use Rattle.sctp_channel_messages.specs.declared.payload.PayloadProtocol.TheVariants.{Control}
+use Rattle.sctp_channels.specs.declared.payload.PayloadProtocol.{PayloadProtocol}
+use Rattle.sctp_channels.specs.declared.payload.PayloadProtocol.TheVariants.{Control}
 use Rattle.sctp_channels.specs.Channels.{Channels, OnControl, OnMessage}
 use Rattle.sctp_channels.proofs.channels.Channels.on_message.Goals as goal
 

@@ -1,5 +1,5 @@
 use Rattle.std.proofs.lemmas.Result.{on_err_weaker}
-use Rattle.sctp_channel.specs.Channel.{on_data}
+use Rattle.sctp_channels.specs.Channel.{on_data}
 use Rattle.sctp_channels.proofs.StandsLemmas.{after_ack}
 use Rattle.sctp_channels.proofs.channels.Channels.on_payload.Goals as goal
 

@@ -4,7 +4,7 @@ use Rattle.std.proofs.lemmas.Result.{on_err_weaker}
 use Rattle.std.specs.BTreeMap.{is_at}
 use Rattle.std.specs.Map.{set_value}
 use Rattle.std.specs.Ordering.{nat_cmp}
-use Rattle.sctp_channel.specs.Channel.{Channel}
+use Rattle.sctp_channels.specs.Channel.{Channel}
 use Rattle.sctp_channels.proofs.entries.Entries.on_data.Goals as goal
 
 pub returns-clause-err : goal.returns-clause-err

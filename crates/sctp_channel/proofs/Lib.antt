@@ -1,2 +1,0 @@
-pub mod DataLemmas
-pub mod RunLemmas

@@ -1,3 +1,0 @@
-pub mod Channel
-pub mod Lifecycle
-pub mod Runs

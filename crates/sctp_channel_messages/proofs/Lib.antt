@@ -1,2 +1,0 @@
-pub mod MessageLemmas
-pub mod AnswerLemmas

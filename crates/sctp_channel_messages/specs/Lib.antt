@@ -1,3 +1,0 @@
-pub mod Message
-pub mod Payload
-pub mod Views

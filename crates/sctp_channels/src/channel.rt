@@ -1,0 +1,210 @@
+//! A channel: what it is, its lifecycle, and the data that came.
+
+ghost use Rattle.std.specs.Prelude.{◌≡◌, [], ◌++◌, length, IfOk, OnOk, OnErr};
+ghost use Rattle.sctp_channels.specs.Views.{open_of};
+ghost use Rattle.sctp_channels.specs.Channel.{count_received, count_sent, exceeds, goes_unordered, keep, new_channel, nothing, on_data, received, received_as, reset_incoming, take, taken, with_lifecycle, with_parts};
+
+use crate::{DataChannelOpen, Lifecycle, PayloadKind, PayloadProtocol};
+use std::alloc::{AllocError, Global};
+use std::marker::Model;
+
+/// What a channel counts. Each count stops at the greatest number of its type.
+#[derive(Clone, Copy, Debug)]
+pub struct Statistics {
+    /// Messages of the owner that the socket has accepted.
+    pub messages_sent: u64,
+    /// The bytes of these.
+    pub bytes_sent: u64,
+    /// Messages that were handed out.
+    pub messages_received: u64,
+    /// The bytes of these.
+    pub bytes_received: u64,
+}
+
+/// What becomes of data.
+#[derive(Debug, Drop)]
+pub enum Received {
+    /// It waits for the last part of its message.
+    Nothing,
+    /// A message for the owner.
+    Message(PayloadKind, Vec<u8>),
+    /// A message that was longer than it may be is dropped.
+    TooLong,
+}
+
+/// A channel.
+#[derive(Drop)]
+pub struct Channel {
+    lifecycle: Lifecycle,
+    description: DataChannelOpen,
+    parts: Vec<u8>,
+    is_too_long: bool,
+    statistics: Statistics,
+}
+
+impl Model for Channel {
+    ghost use Rattle.sctp_channels.specs.Views.{open_of};
+    ghost use Rattle.sctp_channels.specs.Channel.{Channel};
+
+    ghost Value = { Channel };
+
+    ghost view = { λ c. record { lifecycle = c.lifecycle; description = open_of c.description; parts = c.parts.items; is_too_long = c.is_too_long; statistics = c.statistics } };
+}
+
+impl Channel {
+    /// A channel that nothing was sent or came on.
+    pub fn new(alloc: Global, lifecycle: Lifecycle, description: DataChannelOpen) -> Channel
+        ensures { result ≡ new_channel lifecycle (open_of description) }
+    {
+        Channel {
+            lifecycle,
+            description,
+            parts: Vec::new(alloc),
+            is_too_long: false,
+            statistics: Statistics {
+                messages_sent: 0,
+                bytes_sent: 0,
+                messages_received: 0,
+                bytes_received: 0,
+            },
+        }
+    }
+
+    /// What it may do.
+    pub fn lifecycle(&self) -> Lifecycle
+        ensures { result ≡ self.now.lifecycle }
+    {
+        self.lifecycle
+    }
+
+    /// Goes on with this lifecycle.
+    pub fn set_lifecycle(&mut self, lifecycle: Lifecycle)
+        ensures { self.new ≡ with_lifecycle lifecycle self.old }
+    {
+        self.lifecycle = lifecycle;
+    }
+
+    /// What it was opened as.
+    pub fn description(&self) -> &DataChannelOpen
+        ensures { open_of result.now ≡ self.now.description }
+    {
+        &self.description
+    }
+
+    /// What it has counted.
+    pub fn statistics(&self) -> Statistics
+        ensures { result ≡ self.now.statistics }
+    {
+        self.statistics
+    }
+
+    /// Whether the next message may overtake others: on an unordered channel, once an answer came.
+    pub fn goes_unordered(&self) -> bool
+        ensures { result ≡ goes_unordered self.now }
+    {
+        self.description.unordered && !self.lifecycle.is_connecting()
+    }
+
+    /// The socket has accepted a message of so many bytes.
+    pub fn count_sent(&mut self, size: usize)
+        ensures { self.new ≡ count_sent size self.old }
+    {
+        self.statistics.messages_sent = self.statistics.messages_sent.saturating_add(1);
+        self.statistics.bytes_sent = self.statistics.bytes_sent.saturating_add(size as u64);
+    }
+
+    fn count_received(&mut self, size: usize)
+        ensures { self.new ≡ count_received size self.old }
+    {
+        self.statistics.messages_received = self.statistics.messages_received.saturating_add(1);
+        self.statistics.bytes_received = self.statistics.bytes_received.saturating_add(size as u64);
+    }
+
+    /// The peer has reset its outgoing stream: this end closes the channel too, and of a message whose last part did not come nothing is kept.
+    pub fn reset_incoming(&mut self)
+        ensures { self.new ≡ reset_incoming self.old }
+    {
+        self.lifecycle.stop_incoming();
+        self.drop_parts(false);
+    }
+
+    fn drop_parts(&mut self, is_too_long: bool)
+        ensures { self.new ≡ with_parts [] is_too_long self.old }
+    {
+        self.parts.clear();
+        self.is_too_long = is_too_long;
+    }
+
+    fn exceeds(&self, limit: usize, payload: &[u8]) -> bool
+        ensures { result ≡ exceeds limit (length payload.now) self.now }
+    {
+        self.is_too_long || limit < self.parts.len() + payload.len()
+    }
+
+    /// A payload came on the stream, under a PPID of this protocol. A message of more than `limit` bytes is dropped, of which this end has
+    /// told the peer. Where memory runs out the channel is as it was, and the payload is lost.
+    pub fn on_data(
+        &mut self,
+        alloc: Global,
+        limit: usize,
+        protocol: PayloadProtocol,
+        payload: Vec<u8>,
+    ) -> Result<Received, AllocError>
+        ensures row { OnOk result (self.new ≡ on_data limit protocol payload.items self.old) }
+        ensures received { IfOk result (λ it. received_as it ≡ received limit protocol payload.items self.old) }
+        ensures err { OnErr result (self.new ≡ self.old) }
+    {
+        match protocol {
+            PayloadProtocol::Control => Ok(Received::Nothing),
+            PayloadProtocol::Part(_kind) => self.keep(limit, &payload),
+            PayloadProtocol::Data(kind) => self.take(alloc, limit, kind, payload),
+            PayloadProtocol::Empty(kind) => self.take(alloc, limit, kind, Vec::new(alloc)),
+        }
+    }
+
+    fn keep(&mut self, limit: usize, payload: &[u8]) -> Result<Received, AllocError>
+        ensures row { OnOk result (self.new ≡ keep limit payload.now self.old) }
+        ensures received { IfOk result (λ it. received_as it ≡ nothing) }
+        ensures err { OnErr result (self.new ≡ self.old) }
+    {
+        if self.exceeds(limit, payload) {
+            self.drop_parts(true);
+        } else {
+            self.parts.extend_from_slice(payload)?;
+        }
+        Ok(Received::Nothing)
+    }
+
+    fn take(
+        &mut self,
+        alloc: Global,
+        limit: usize,
+        kind: PayloadKind,
+        payload: Vec<u8>,
+    ) -> Result<Received, AllocError>
+        ensures row { OnOk result (self.new ≡ take limit payload.items self.old) }
+        ensures received { IfOk result (λ it. received_as it ≡ taken limit kind payload.items self.old) }
+        ensures err { OnErr result (self.new ≡ self.old) }
+    {
+        if self.exceeds(limit, &payload) {
+            self.drop_parts(false);
+            return Ok(Received::TooLong);
+        }
+        let whole = self.join(alloc, payload)?;
+        self.count_received(whole.len());
+        Ok(Received::Message(kind, whole))
+    }
+
+    /// The parts and the payload behind them. Mostly there are no parts, and then nothing is copied.
+    fn join(&mut self, alloc: Global, payload: Vec<u8>) -> Result<Vec<u8>, AllocError>
+        ensures whole { IfOk result (λ whole. whole.items ≡ self.old.parts ++ payload.items) }
+        ensures rest { OnOk result (self.new ≡ with_parts [] self.old.is_too_long self.old) }
+        ensures err { OnErr result (self.new ≡ self.old) }
+    {
+        if self.parts.is_empty() {
+            return Ok(payload);
+        }
+        self.parts.extend_from_slice(&payload)?;
+        Ok(std::mem::replace(&mut self.parts, Vec::new(alloc)))
+    }
+}

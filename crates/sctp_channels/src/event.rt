@@ -1,0 +1,97 @@
+//! What the owner is told.
+
+use crate::{PayloadKind, Refusal};
+use sctp_serial::StreamId;
+use sctp_state::{SendError, SocketEvent};
+use std::alloc::AllocError;
+use thiserror::Error;
+
+/// What happened.
+#[derive(Debug, Drop)]
+pub enum ChannelEvent {
+    /// The channel is open: the peer has opened it, or has answered.
+    Opened(StreamId),
+    /// A message came.
+    Message(StreamId, PayloadKind, Vec<u8>),
+    /// What waits to be sent on the channel fell to its threshold.
+    BufferedAmountLow(StreamId),
+    /// The channel is closed, whoever closed it.
+    Closed(StreamId),
+    /// Something that came was not taken.
+    Refused(StreamId, Refusal),
+    /// An event of the socket, as it is without channels.
+    Socket(SocketEvent),
+}
+
+/// Why a channel isn't opened. Nothing has changed then, but where memory ran out.
+#[derive(Clone, Copy, Debug, Error)]
+pub enum OpenError {
+    /// Label or protocol has 65,536 bytes or more.
+    #[error("label or protocol is too long")]
+    TooLong,
+    /// All streams of this end's parity are in use.
+    #[error("no stream is free")]
+    NoFreeStream,
+    /// The stream has a channel, or isn't free yet.
+    #[error("stream is in use")]
+    StreamInUse,
+    /// The socket takes no message: its queue is full, or it is shutting down.
+    #[error("socket takes no message")]
+    SocketRefused,
+    /// There was too little memory, now or before.
+    #[error("out of memory")]
+    Memory,
+}
+
+/// Why a message isn't accepted. Nothing has changed then, but where memory ran out.
+#[derive(Clone, Copy, Debug, Error)]
+pub enum SendRefusal {
+    /// There is no channel on the stream.
+    #[error("no channel")]
+    NoChannel,
+    /// The channel is being closed.
+    #[error("channel is closing")]
+    Closing,
+    /// The message is longer than the peer takes.
+    #[error("message is too long for the peer")]
+    TooLong,
+    /// As much waits to be sent on the channel as may.
+    #[error("too much is buffered")]
+    Full,
+    /// The socket takes no message: its queue is full, or it is shutting down.
+    #[error("socket takes no message")]
+    SocketRefused,
+    /// There was too little memory, now or before.
+    #[error("out of memory")]
+    Memory,
+}
+
+impl From<AllocError> for OpenError {
+    fn from(_e: AllocError) -> OpenError {
+        OpenError::Memory
+    }
+}
+
+impl From<AllocError> for SendRefusal {
+    fn from(_e: AllocError) -> SendRefusal {
+        SendRefusal::Memory
+    }
+}
+
+impl From<SendError> for OpenError {
+    fn from(e: SendError) -> OpenError {
+        match e {
+            SendError::Memory | SendError::Failed => OpenError::Memory,
+            _ => OpenError::SocketRefused,
+        }
+    }
+}
+
+impl From<SendError> for SendRefusal {
+    fn from(e: SendError) -> SendRefusal {
+        match e {
+            SendError::Memory | SendError::Failed => SendRefusal::Memory,
+            _ => SendRefusal::SocketRefused,
+        }
+    }
+}
