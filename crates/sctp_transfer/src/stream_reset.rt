@@ -46,7 +46,8 @@ fn respond(
     Ok(())
 }
 
-/// The reset of these streams is to wait for what was sent before it.
+/// The reset of these streams is to wait for what was sent before it, so that what comes late isn't taken for what is sent behind it
+/// (RFC 6525 section 5.2.2).
 #[tactic(auto, using(sctp_reassembly::proofs::ExtendsLemmas::extends_none))]
 fn defer_reset<C: Checksum>(
     context: &Context<C>,
@@ -173,7 +174,8 @@ fn handle_incoming_request<C: Checksum>(
     respond(responses, number, answer)
 }
 
-/// What an answer says of the streams of the own request, and of no others.
+/// What an answer says of the streams of the own request, and of no others: their numbers begin anew only where the peer has reset
+/// them too (RFC 6525 section 5.2.7).
 #[tactic(auto, using(sctp_endpoint::proofs::GoesOnLemmas::goes_on_same, sctp_endpoint::proofs::GoesOnLemmas::goes_on_through, sctp_endpoint::proofs::GoesOnLemmas::goes_on_as))]
 fn handle_outcome<C: Checksum>(
     context: &mut Context<C>,
