@@ -76,7 +76,7 @@ fn abort_by_violation<C: Checksum>(
     context.emit_aborted(ErrorKind::ProtocolViolation, misuse.text())
 }
 
-/// ABORT.
+/// ABORT: the association ends at once, and nothing answers it (RFC 9260 section 9.1).
 #[tactic(auto, using(sctp_endpoint::proofs::GoesOnLemmas::goes_on_same, sctp_endpoint::proofs::GoesOnLemmas::goes_on_through))]
 pub fn handle_abort<C: Checksum>(
     state: &mut State,

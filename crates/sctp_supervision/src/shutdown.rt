@@ -35,7 +35,8 @@ fn begin_shutdown<C: Checksum>(
     }
 }
 
-/// SHUTDOWN: the peer sends no more, and waits for what is in flight.
+/// SHUTDOWN: the peer sends no more, and waits for what is in flight. Where both asked for it, each answers the other at once
+/// (RFC 9260 section 9.2).
 #[tactic(auto, using(sctp_endpoint::proofs::GoesOnLemmas::goes_on_same, sctp_endpoint::proofs::GoesOnLemmas::goes_on_through))]
 fn take_shutdown<C: Checksum>(
     context: &mut Context<C>,
@@ -157,7 +158,7 @@ pub fn handle_shutdown<C: Checksum>(
     }
 }
 
-/// SHUTDOWN ACK, in a packet under this tag.
+/// SHUTDOWN ACK, in a packet under this tag. Where both ends have sent one, each completes the shutdown (RFC 9260 section 9.2).
 #[tactic(auto, using(sctp_endpoint::proofs::GoesOnLemmas::goes_on_same, sctp_endpoint::proofs::GoesOnLemmas::goes_on_through))]
 pub fn handle_shutdown_ack<C: Checksum>(
     state: &mut State,
@@ -184,7 +185,7 @@ pub fn handle_shutdown_ack<C: Checksum>(
     }
 }
 
-/// SHUTDOWN COMPLETE.
+/// SHUTDOWN COMPLETE. It counts behind the own SHUTDOWN ACK alone (RFC 9260 section 9.2).
 #[tactic(auto, using(sctp_endpoint::proofs::GoesOnLemmas::goes_on_same, sctp_endpoint::proofs::GoesOnLemmas::goes_on_through))]
 pub fn handle_shutdown_complete<C: Checksum>(
     state: &mut State,

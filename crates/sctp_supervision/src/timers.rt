@@ -17,7 +17,7 @@ use sctp_transfer::stream_reset::tick_requests;
 use sctp_wire::Checksum;
 use std::alloc::AllocError;
 
-/// The delay of an acknowledgement. The answer is whether it expired.
+/// The delay of an acknowledgement (RFC 9260 section 6.2). The answer is whether it expired.
 fn tick_ack<C: Checksum>(context: &Context<C>, tcb: &mut TransmissionControlBlock) -> bool
     ensures ok { ticking_of C.word_of tcb.new context.now result ≡ table.tick_ack (table.ticking (tcb_of tcb.old) (context_of C.word_of context.now)) }
     ensures received { tcb.new.reassembly_queue ≡ tcb.old.reassembly_queue }
@@ -26,7 +26,8 @@ fn tick_ack<C: Checksum>(context: &Context<C>, tcb: &mut TransmissionControlBloc
     tcb.data_tracker.handle_timeout(context.clock)
 }
 
-/// T3-rtx (RFC 9260 section 6.3.3), after the other one has expired or not. The answer is whether any did.
+/// T3-rtx (RFC 9260 section 6.3.3), after the other one has expired or not: an expiry is an error of the peer (section 8.1). The
+/// answer is whether any did.
 #[tactic(auto, using(sctp_endpoint::proofs::GoesOnLemmas::goes_on_same, sctp_endpoint::proofs::GoesOnLemmas::goes_on_through, sctp_endpoint::proofs::GoesOnLemmas::goes_on_as))]
 fn tick_t3<C: Checksum>(
     context: &mut Context<C>,
@@ -66,7 +67,7 @@ fn tick_tcb<C: Checksum>(
     tick_requests(context, tcb, is_unanswered || is_beat || has_expired)
 }
 
-/// Too many errors end the association. The answer is whether it ended.
+/// Too many errors end the association (RFC 9260 section 8.1). The answer is whether it ended.
 #[tactic(auto, using(sctp_endpoint::proofs::GoesOnLemmas::goes_on_same, sctp_endpoint::proofs::GoesOnLemmas::goes_on_through))]
 fn end_if_exhausted<C: Checksum>(
     context: &mut Context<C>,
@@ -243,7 +244,7 @@ fn tick_open<C: Checksum>(
     }
 }
 
-/// Before the INIT ACK: the INIT goes out again.
+/// Before the INIT ACK: the INIT goes out again (RFC 9260 section 5.1).
 #[tactic(auto, using(sctp_endpoint::proofs::GoesOnLemmas::goes_on_same, sctp_endpoint::proofs::GoesOnLemmas::goes_on_through))]
 fn tick_cookie_wait<C: Checksum>(
     context: &mut Context<C>,
