@@ -344,7 +344,8 @@ fn ack_delay(rto: Duration, most: Duration) -> Duration
     }
 }
 
-/// Whether there is a reason to acknowledge at once.
+/// Whether there is a reason to acknowledge at once: a TSN that came before, one that is missing (RFC 9260 section 6.2), the peer's wish
+/// (RFC 7053), or the first packet of all.
 fn is_urgent(is_new: bool, has_gap: bool, is_immediate: bool, seen_packet: bool) -> bool
     ensures { result ≡ is_urgent is_new has_gap is_immediate seen_packet }
 {

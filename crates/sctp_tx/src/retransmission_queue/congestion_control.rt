@@ -50,6 +50,7 @@ impl CongestionControl {
         }
     }
 
+    /// A window that is used grows by what was acknowledged, at most by a packet (RFC 9260 section 7.2.1).
     fn start_slowly(&mut self, before: usize, acked: usize)
         ensures { self.new ≡ record self.old { cwnd = slow_start (nat_le self.old.cwnd (before + self.old.mtu)) acked self.old } }
     {
@@ -58,6 +59,7 @@ impl CongestionControl {
         }
     }
 
+    /// A packet more for each window that was acknowledged (RFC 9260 section 7.2.2).
     fn avoid_congestion(&mut self, sum: usize)
         ensures { self.new ≡ avoidance (nat_le self.old.cwnd sum) sum self.old }
     {
@@ -69,13 +71,15 @@ impl CongestionControl {
         }
     }
 
+    /// What a loss leaves of the window (RFC 9260 section 7.2.3).
     fn halved(&self) -> usize
         ensures { result ≡ halved_cwnd self.now }
     {
         (self.cwnd / 2).max(self.least_cwnd)
     }
 
-    /// An item was reported missing for the third time outside fast recovery, which lasts until `exit` is acknowledged.
+    /// An item was reported missing for the third time outside fast recovery, which lasts until `exit` is acknowledged: the window is
+    /// halved once for all that was lost in one flight (RFC 9260 section 7.2.4).
     pub fn recover(&mut self, exit: u128)
         ensures { self.new ≡ recovering exit self.old }
     {
@@ -84,7 +88,7 @@ impl CongestionControl {
         self.fast_recovery_exit = Some(exit);
     }
 
-    /// The timer of retransmissions expired.
+    /// The timer of retransmissions expired: slow start begins anew, with one packet (RFC 9260 section 7.2.3).
     pub fn time_out(&mut self)
         ensures { self.new ≡ timed_out self.old }
     {

@@ -120,7 +120,7 @@ impl Windows {
         self.congestion.maybe_exit_fast_recovery(cumulative);
     }
 
-    /// The peer advertised its window, while so much payload was unacknowledged.
+    /// The peer advertised its window, while so much payload was unacknowledged, which may not have reached it (RFC 9260 section 6.2.1).
     pub fn update_receiver_window(&mut self, a_rwnd: u32, payload: usize)
         ensures { self.new ≡ update_rwnd a_rwnd payload self.old }
     {
@@ -134,7 +134,8 @@ impl Windows {
         self.rwnd = self.rwnd.saturating_sub(size);
     }
 
-    /// What may go yet, with so much in flight. With nothing in flight the peer's window doesn't count.
+    /// What may go yet, with so much in flight. With nothing in flight the peer's window doesn't count, so that one chunk asks for a SACK
+    /// that tells of a window that has opened again (RFC 9260 section 6.1, rule A).
     pub fn room(&self, is_quiet: bool, flight: usize) -> usize
         ensures { result ≡ room is_quiet flight self.now }
     {
