@@ -44,7 +44,8 @@ pub(crate) fn count_packet<C: Checksum>(context: &mut Context<C>)
     context.rx_packets_count = context.rx_packets_count.saturating_add(1);
 }
 
-/// At the end of a packet an acknowledgement goes out, where one is due, and what else may be sent.
+/// At the end of a packet an acknowledgement goes out, where one is due, and what else may be sent: one SACK for all DATA of a packet
+/// (RFC 9260 section 6.2).
 fn maybe_send_sack<C: Checksum>(
     context: &mut Context<C>,
     phase: &Phase,
@@ -85,7 +86,7 @@ fn repeat_shutdown<C: Checksum>(
     }
 }
 
-/// HEARTBEAT is answered with its own parameters, where they fit.
+/// HEARTBEAT is answered with its own parameters, where they fit (RFC 9260 section 8.3).
 fn handle_heartbeat<C: Checksum>(
     state: &State,
     context: &mut Context<C>,

@@ -39,7 +39,8 @@ pub fn agreed_by(
     )
 }
 
-/// The cookie that an INIT is answered with.
+/// The cookie that an INIT is answered with: all that the association needs, so that nothing is kept until it comes back (RFC 9260
+/// section 5.1.3).
 fn cookie_for(init: &InitChunk, tag: u32, initial_tsn: Tsn, tie_tag: u64) -> StateCookie
     ensures { cookie_of result ≡ cookie_for (init_tree init.now) tag initial_tsn.0 tie_tag }
 {

@@ -101,7 +101,8 @@ fn wait<C: Checksum>(
     Ok(())
 }
 
-/// INIT. It is answered by what it announces and by what the end is, and nothing of it is kept.
+/// INIT. It is answered by what it announces and by what the end is, and nothing of it is kept. An end that has sent an INIT itself
+/// answers under the tag and the first TSN of that one, so that both lead to one association (RFC 9260 section 5.2.1).
 #[tactic(auto, using(sctp_endpoint::proofs::GoesOnLemmas::goes_on_same, sctp_endpoint::proofs::GoesOnLemmas::goes_on_through))]
 pub fn handle_init<R: Rng, C: Checksum>(
     state: &State,
@@ -164,7 +165,8 @@ fn answer_open<R: Rng, C: Checksum>(
     }
 }
 
-/// The answer to a peer that may have restarted: under a new tag, with the tie of the association that there is.
+/// The answer to a peer that may have restarted: under a new tag, with the tie of the association that there is, which goes on until
+/// the cookie comes back (RFC 9260 section 5.2.2).
 #[tactic(auto, using(sctp_endpoint::proofs::GoesOnLemmas::goes_on_same, sctp_endpoint::proofs::GoesOnLemmas::goes_on_through))]
 fn answer_restart<R: Rng, C: Checksum>(
     tcb: &TransmissionControlBlock,

@@ -69,7 +69,7 @@ fn abort_by_violation<C: Checksum>(
     context.emit_aborted(ErrorKind::ProtocolViolation, misuse.text())
 }
 
-/// ABORT.
+/// ABORT: the association ends at once, and nothing answers it (RFC 9260 section 9.1).
 pub fn handle_abort<C: Checksum>(
     state: &mut State,
     context: &mut Context<C>,

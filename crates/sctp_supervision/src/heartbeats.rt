@@ -66,7 +66,7 @@ pub fn tick_heartbeat_interval<C: Checksum>(
     Ok(true)
 }
 
-/// An answer that doesn't come in time counts as an error. The answer is whether that time is over.
+/// A HEARTBEAT ACK that doesn't come in time counts as an error (RFC 9260 section 8.3). The answer is whether that time is over.
 pub fn tick_heartbeat_timeout<C: Checksum>(context: &mut Context<C>) -> bool
     ensures due { result ≡ is_due context.old.clock context.old.heartbeats.timeout }
     ensures context { context_of C.word_of context.new ≡ table.heartbeat_timeout_if result (context_of C.word_of context.old) }
@@ -86,7 +86,7 @@ pub fn heartbeat_expiry<C: Checksum>(context: &Context<C>) -> SocketTime
     interval.min(context.heartbeat_timeout.next_expiry())
 }
 
-/// HEARTBEAT ACK: an answer to the last HEARTBEAT shows that the peer is there.
+/// HEARTBEAT ACK: an answer to the last HEARTBEAT shows that the peer is there, and its errors are forgotten (RFC 9260 section 8.3).
 pub fn handle_heartbeat_ack<C: Checksum>(
     context: &mut Context<C>,
     parameters: &[Parameter],

@@ -32,7 +32,8 @@ fn begin_shutdown<C: Checksum>(
     }
 }
 
-/// SHUTDOWN: the peer sends no more, and waits for what is in flight.
+/// SHUTDOWN: the peer sends no more, and waits for what is in flight. Where both asked for it, each answers the other at once
+/// (RFC 9260 section 9.2).
 fn take_shutdown<C: Checksum>(
     context: &mut Context<C>,
     phase: &mut Phase,
@@ -141,7 +142,7 @@ pub fn handle_shutdown<C: Checksum>(
     }
 }
 
-/// SHUTDOWN ACK, in a packet under this tag.
+/// SHUTDOWN ACK, in a packet under this tag. Where both ends have sent one, each completes the shutdown (RFC 9260 section 9.2).
 pub fn handle_shutdown_ack<C: Checksum>(
     state: &mut State,
     context: &mut Context<C>,
@@ -165,7 +166,7 @@ pub fn handle_shutdown_ack<C: Checksum>(
     }
 }
 
-/// SHUTDOWN COMPLETE.
+/// SHUTDOWN COMPLETE. It counts behind the own SHUTDOWN ACK alone (RFC 9260 section 9.2).
 pub fn handle_shutdown_complete<C: Checksum>(
     state: &mut State,
     context: &mut Context<C>,

@@ -16,14 +16,15 @@ use sctp_transfer::stream_reset::tick_requests;
 use sctp_wire::Checksum;
 use std::alloc::AllocError;
 
-/// The delay of an acknowledgement. The answer is whether it expired.
+/// The delay of an acknowledgement (RFC 9260 section 6.2). The answer is whether it expired.
 fn tick_ack<C: Checksum>(context: &Context<C>, tcb: &mut TransmissionControlBlock) -> bool
     ensures { ticking_of C.word_of tcb.new context.now result ≡ table.tick_ack (table.ticking (tcb_of tcb.old) (context_of C.word_of context.now)) }
 {
     tcb.data_tracker.handle_timeout(context.clock)
 }
 
-/// T3-rtx (RFC 9260 section 6.3.3), after the other one has expired or not. The answer is whether any did.
+/// T3-rtx (RFC 9260 section 6.3.3), after the other one has expired or not: an expiry is an error of the peer (section 8.1). The
+/// answer is whether any did.
 fn tick_t3<C: Checksum>(
     context: &mut Context<C>,
     tcb: &mut TransmissionControlBlock,
@@ -56,7 +57,7 @@ fn tick_tcb<C: Checksum>(
     tick_requests(context, tcb, is_unanswered || is_beat || has_expired)
 }
 
-/// Too many errors end the association. The answer is whether it ended.
+/// Too many errors end the association (RFC 9260 section 8.1). The answer is whether it ended.
 fn end_if_exhausted<C: Checksum>(
     context: &mut Context<C>,
     tcb: &TransmissionControlBlock,
@@ -203,7 +204,7 @@ fn tick_open<C: Checksum>(
     }
 }
 
-/// Before the INIT ACK: the INIT goes out again.
+/// Before the INIT ACK: the INIT goes out again (RFC 9260 section 5.1).
 fn tick_cookie_wait<C: Checksum>(
     context: &mut Context<C>,
     waiting: &mut CookieWaitState,

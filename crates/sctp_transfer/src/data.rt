@@ -36,7 +36,8 @@ pub fn handle_data<C: Checksum>(
 }
 
 /// A fragment is observed, and copied and kept where its TSN is new; unless there is no room, for its bytes or
-/// for one fragment more, or the TSN lies too far away.
+/// for one fragment more, or the TSN lies too far away. What isn't observed isn't acknowledged, so that the peer
+/// sends it again (RFC 9260 section 6.2).
 #[tactic(auto, using(crate::proofs::DataLemmas::not_taken))]
 fn take_data(
     tcb: &mut TransmissionControlBlock,
@@ -103,8 +104,8 @@ fn send_no_user_data<C: Checksum>(
     context.emit_chunk(tcb, Chunk::Error(ErrorChunk { error_causes }))
 }
 
-/// A forward point is observed, unless it lies too far away, or has no room behind a reset. It reaches reassembly where it moves the
-/// cumulative TSN.
+/// A forward point is observed, unless it lies too far away, or has no room behind a reset: up to it all counts as received. It
+/// reaches reassembly where it moves the cumulative TSN; an older one is acknowledged alone (RFC 3758 section 3.6).
 fn skip_to(
     tcb: &mut TransmissionControlBlock,
     now: SocketTime,

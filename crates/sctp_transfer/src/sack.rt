@@ -15,7 +15,8 @@ use sctp_wire::Checksum;
 use std::alloc::AllocError;
 use std::time::Duration;
 
-/// The chunk with its blocks as the maximal runs of the offsets that they cover.
+/// The chunk with its blocks as the maximal runs of the offsets that they cover: in order and apart, as RFC 9260 section 3.3.4 has
+/// them, whatever the peer sends.
 fn cleaned(sack: SackChunk) -> SackChunk
     ensures blocks { result.gap_ack_blocks.items ≡ clean_blocks sack.gap_ack_blocks.items }
     ensures kept { result ≡ record sack { gap_ack_blocks = result.gap_ack_blocks } }
@@ -23,7 +24,7 @@ fn cleaned(sack: SackChunk) -> SackChunk
     clean_sack(sack)
 }
 
-/// A round trip sets the retransmission timeout, which each part counts by.
+/// A round trip sets the retransmission timeout (RFC 9260 section 6.3.1), which each part counts by.
 fn observe_rtt(tcb: &mut TransmissionControlBlock, rtt: Option<Duration>)
     ensures { tcb_of tcb.new ≡ sample_rtt (option_map as_nanos rtt) (tcb_of tcb.old) }
 {
@@ -69,6 +70,8 @@ fn sack_open<C: Checksum>(
     after_sack(phase, tcb, context, answer)
 }
 
+/// What was acknowledged shows that the peer is there, so its errors are forgotten (RFC 9260 section 8.1). Then goes out what waited for
+/// it: a shutdown (section 9.2), what is to be sent again at once (section 7.2.4), and what there is room for.
 fn after_sack<C: Checksum>(
     phase: &mut Phase,
     tcb: &mut TransmissionControlBlock,

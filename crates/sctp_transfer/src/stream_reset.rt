@@ -42,7 +42,8 @@ fn respond(
     Ok(())
 }
 
-/// The reset of these streams is to wait for what was sent before it.
+/// The reset of these streams is to wait for what was sent before it, so that what comes late isn't taken for what is sent behind it
+/// (RFC 6525 section 5.2.2).
 fn defer_reset<C: Checksum>(
     context: &Context<C>,
     tcb: &mut TransmissionControlBlock,
@@ -152,7 +153,8 @@ fn handle_incoming_request<C: Checksum>(
     respond(responses, number, answer)
 }
 
-/// What an answer says of the streams of the own request, and of no others.
+/// What an answer says of the streams of the own request, and of no others: their numbers begin anew only where the peer has reset
+/// them too (RFC 6525 section 5.2.7).
 fn handle_outcome<C: Checksum>(
     context: &mut Context<C>,
     outcome: ResetOutcome,
