@@ -14,7 +14,7 @@ ghost use Rattle.proof_world.specs.Agreed.{WorldAgrees, EachEndDrawsDistinctTags
 ghost use Rattle.proof_world.specs.Composed.{Composes};
 ghost use Rattle.proof_world.specs.Consistent.{WorldKeepsRules};
 ghost use Rattle.proof_world.specs.Delivered.{WorldDelivers};
-ghost use Rattle.proof_world.specs.Few.{RunNumbersFew};
+ghost use Rattle.proof_world.specs.Few.{LogUsesFew};
 ghost use Rattle.proof_world.specs.Reachable.{Origin, origin, IsReachable, Continues};
 ghost use Rattle.proof_awake.specs.Worlds.{EndsAreAwake};
 ghost use Rattle.sctp_network_side.specs.SideView.{action_of, end_tree, entry_tree, side_in};
@@ -109,8 +109,8 @@ impl<R: Rng + Drop, C: Checksum + Drop> World<R, C> {
     }
 
     /// A new world, and what these events make of it: `World::new`, and then `run`. What the clauses conclude rests on what is handed in
-    /// here: `delivers` gives the one run of these events from this new world. Its premises speak of that run, by its log and by how many
-    /// numbers each end has used between events; `composes` has it for longer runs, by windows.
+    /// here: `delivers` gives the one run of these events from this new world. Its premises speak of the log alone; `composes` has it for
+    /// longer runs, by windows.
     pub fn after(
         alloc: Global,
         options_a: &Options,
@@ -126,7 +126,7 @@ impl<R: Rng + Drop, C: Checksum + Drop> World<R, C> {
         ensures delivers { IfOk result (λ w.
             let first = fresh_world (options_of options_a.now) (options_of options_b.now) (R.stream rng_a) (R.stream rng_b) (C.word_of checksum_a) (C.word_of checksum_b) in
             let last = world_of R.stream C.word_of w in (runs : Runs (map action_of events.now) first last)
-            × (WorldKeepsRules last → RunNumbersFew (map action_of events.now) first last runs → (x : observed.End) → WorldDelivers x (map action_of events.now) first last runs)) }
+            × (WorldKeepsRules last → LogUsesFew last.log → (x : observed.End) → WorldDelivers x (map action_of events.now) first last runs)) }
         ensures composes { IfOk result (λ w.
             let o = origin (options_of options_a.now) (options_of options_b.now) (R.stream rng_a) (R.stream rng_b) (C.word_of checksum_a) (C.word_of checksum_b) in
             (l : IsReachable o (map action_of events.now) (world_of R.stream C.word_of w)) × Composes o (map action_of events.now) (world_of R.stream C.word_of w) l.runs) }
