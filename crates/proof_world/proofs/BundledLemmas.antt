@@ -1,7 +1,6 @@
 -- What an end emits are packets in which an INIT and an INIT ACK are alone, and a COOKIE ECHO comes first: along any trace, whatever rules it
 -- follows.
-use Rattle.std.proofs.Common.{◌≡◌, ℕ, Bool, true, false, cond, ◌||◌, ◌==◌, Option, Some, None, List, [], ◌∷◌, ◌++◌, slice_get, All, refl, sym, ap, subst, ◌∙◌, arith}
-use Rattle.std.specs.List.{list_all}
+use Rattle.std.proofs.Common.{◌≡◌, ℕ, Bool, true, false, cond, ◌||◌, ◌==◌, Option, Some, None, List, [], ◌∷◌, ◌++◌, slice_get, All, refl, sym, subst, arith}
 use Rattle.std.proofs.lemmas.List.Elements.{All-nil, All-cons, All-head, All-tail, All-append, All-weaker}
 use Rattle.rand_core.specs.Stream.{Stream}
 use Rattle.sctp_packet.specs.Packet.{PacketTree}
@@ -12,7 +11,7 @@ use Rattle.sctp_capabilities.specs.StateCookie.{Cookie}
 use Rattle.sctp_tx_queue.specs.SendQueue.{Queued, stream}
 use Rattle.sctp_tx_queue.specs.Resets.{is_partly, emit_unsent}
 use Rattle.spec_endpoint.specs.Association.{Endpoint, Packing}
-use Rattle.spec_endpoint.specs.Packets.{PacketDraft, header_to, room, emit_event_in}
+use Rattle.spec_endpoint.specs.Packets.{header_to, room, emit_event_in}
 use Rattle.spec_endpoint.specs.ResetRequests.{Outcome, Unsettled, Done, Denied, outcome}
 use Rattle.spec_endpoint.specs.Sack.{clean_blocks}
 use Rattle.spec_endpoint.specs.Calls.{lifecycle_end_events, refusal_events}
@@ -20,11 +19,11 @@ use Rattle.spec_endpoint.specs.StreamReset.{on_outcome}
 use Rattle.spec_endpoint.specs.Input.{packet_refusal}
 use Rattle.spec_endpoint.specs.Laws.{Call, ReceivePacket, called, IsShort, ending}
 use Rattle.proof_endpoint.specs.Mapped.{Carried}
-use Rattle.proof_endpoint.specs.Acts.{EndWithPacket, calm, in_open, with_context, opened_by, point_of, fragments_of, IsBundled, PacketAct, emits, emits_error, before_packets, after_packets, OpeningAct, establishes, opens, restarts, opens_again, maintains, before_opening, after_opening, ClosingAct, closes, before_closing, after_closing, DataAct, takes_data, before_data, after_data, SackAct, takes_sack, before_sack, after_sack, SendingAct, expires, sends, before_sending, after_sending, TimeAct, times_out, timeout_of, before_time, after_time, CallAct, refuses, sets_low_threshold, before_call, after_call, ResetAct, prepares, performs, takes_response, before_reset, after_reset, HandoverAct, leaves, takes_up, before_handover, after_handover, InputAct, ends_packet, before_input, after_input, Preserves}
+use Rattle.proof_endpoint.specs.Acts.{EndWithPacket, in_open, with_context, opened_by, point_of, IsBundled, PacketAct, emits, emits_error, before_packets, after_packets, OpeningAct, establishes, opens, restarts, opens_again, maintains, before_opening, after_opening, ClosingAct, closes, before_closing, after_closing, DataAct, takes_data, before_data, after_data, SackAct, takes_sack, before_sack, after_sack, SendingAct, expires, sends, before_sending, after_sending, TimeAct, times_out, before_time, after_time, CallAct, refuses, sets_low_threshold, before_call, after_call, ResetAct, prepares, performs, takes_response, before_reset, after_reset, HandoverAct, leaves, takes_up, before_handover, after_handover, InputAct, ends_packet, before_input, after_input, Preserves}
 use Rattle.proof_endpoint.proofs.ActsLemmas.{keeps_call}
 use Rattle.proof_endpoint.proofs.StepsLemmas.{Emits}
 use Rattle.proof_endpoint.proofs.EmitsLemmas.{quiet_both, quiet_expiry, quiet_end, quiet_refusal, emits_nothing, emits_given_up, emits_all, emits_then, emits_sack, emits_expired, emits_sent, emits_nack_all, emits_threshold}
-use Rattle.proof_pair.specs.Trace.{Side, Pair, as_carried, new_side, packets_in, emitted_packets, EndAction, Calls, Gives, Refuses, drain, as_received, give_carried, foreign_if, act, goes, run, start}
+use Rattle.proof_pair.specs.Trace.{Side, as_carried, new_side, packets_in, emitted_packets, EndAction, Calls, Gives, Refuses, drain, as_received, give_carried, foreign_if, act}
 use Rattle.proof_pair.proofs.JoinActsLemmas.{packets_both}
 
 abbrev EventIsBundled : Event Carried → Type 0

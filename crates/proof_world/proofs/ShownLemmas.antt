@@ -1,5 +1,5 @@
 -- What a trace keeps and shows, its world keeps and shows.
-use Rattle.std.proofs.Common.{◌≡◌, ℕ, ◌+◌, ◌-◌, ◌^◌, ◌<◌, ◌==◌, ◌&&◌, not, Bool, true, false, List, [], ◌∷◌, ◌++◌, length, refl, sym, ap, subst, ◌∙◌, append-nil, append_assoc, length-append, arith}
+use Rattle.std.proofs.Common.{◌≡◌, ℕ, ◌+◌, ◌-◌, ◌^◌, ◌<◌, ◌≤◌, ◌==◌, ◌&&◌, not, Bool, true, false, List, [], ◌∷◌, ◌++◌, length, refl, sym, ap, subst, ◌∙◌, append-nil, append_assoc, length-append, arith}
 use Rattle.std.proofs.lemmas.List.{length-map}
 use Rattle.std.specs.Prelude.{All}
 use Rattle.std.specs.List.{flat_map, list_any}
@@ -131,9 +131,9 @@ used_in x trace c = most_fragments (accepted x trace c) + length (given_up x tra
 abbrev used_by : End → List Entry → ℕ
 used_by x log = most_fragments (accepted_messages x log) + length (observations.given_up x log)
 
-used_as : (x : End) {log : List Entry} {os : List AcceptedMessage} {places : List ℕ} → accepted_messages x log ≡ os → given_up_places x log ≡ places → most_fragments os + length places < 32000
+used_as : (x : End) (log : List Entry) (os : List AcceptedMessage) (places : List ℕ) → accepted_messages x log ≡ os → given_up_places x log ≡ places → most_fragments os + length places < 32000
     → used_by x log < 32000
-used_as x {log} offers gone small =
+used_as x log os places offers gone small =
     let sizes : length (given_up_places x log) ≡ length (observations.given_up x log) = length-map (observations.given_up x log) (λ (g : GivenUp). g.number) in
     omega (arith, small, ap (λ (l : List AcceptedMessage). most_fragments l) offers, ap (λ (l : List ℕ). length l) gone, sizes)
 
@@ -251,8 +251,8 @@ module _ (a b : Options) (draws_a draws_b : Stream) (word_of_a word_of_b : List 
 
     -- and few numbers are used
     used_there : ((x : Bool) → used_in x trace first_pair < 32000) → (x : End) → used_by x there.log < 32000
-    used_there h A = used_as A (shows_all.offers_are A) (shows_all.given_up_are A) (h true)
-    used_there h B = used_as B (shows_all.offers_are B) (shows_all.given_up_are B) (h false)
+    used_there h A = used_as A there.log _ _ (shows_all.offers_are A) (shows_all.given_up_are A) (h true)
+    used_there h B = used_as B there.log _ _ (shows_all.offers_are B) (shows_all.given_up_are B) (h false)
 
     pub log_uses_few : delivery.IsInBounds trace first_pair → ((x : Bool) → used_in x trace first_pair < 32000) → LogUsesFew there.log
     log_uses_few k h x early late is stands = few_used x there.log early late is (used_there h x) ((resets_kept k.resets).few x early late is stands)

@@ -1,34 +1,33 @@
 -- Each call leaves an end within what it accepted, with what it accepts then.
-use Rattle.std.proofs.Common.{◌≡◌, ℕ, ◌+◌, ◌≤◌, ◌==◌, ◌&&◌, not, Bool, true, false, Option, Some, None, List, [], ◌∷◌, ◌++◌, map, length, refl, sym, ap, subst, ◌∙◌, append_assoc, append-nil, arith}
-use Rattle.std.specs.List.{list_any, AllByRecursion}
+use Rattle.std.proofs.Common.{◌≡◌, ℕ, ◌+◌, ◌≤◌, ◌==◌, ◌&&◌, not, Bool, true, false, Option, Some, None, List, [], ◌∷◌, ◌++◌, map, refl, sym, ap, subst, ◌∙◌, append_assoc, append-nil, arith}
+use Rattle.std.specs.List.{list_any}
 use Rattle.std.proofs.lemmas.Bool.{both_ways}
 use Rattle.std.proofs.lemmas.Bool.Decides.{nat_tests}
-use Rattle.sctp_serial.specs.Unwrapped.{origin}
 use Rattle.sctp_serial.specs.Messages.{Message}
 use Rattle.sctp_state.specs.declared.api.SocketState.{SocketState}
 use Rattle.sctp_state.specs.declared.api.errors.SendError.{SendError}
 use Rattle.sctp_state.specs.Options.{SendOptions}
-use Rattle.sctp_tx_queue.specs.SendQueue.{Queued, Stream, Entries, Queue, stream}
-use Rattle.spec_endpoint.specs.Association.{State, Closed, CookieWait, Open, Context, EndpointState, Endpoint, with_context}
+use Rattle.sctp_tx_queue.specs.SendQueue.{Queued, Entries, Queue, stream}
+use Rattle.spec_endpoint.specs.Association.{State, Context, EndpointState, Endpoint, with_context}
 use Rattle.spec_endpoint.specs.Sending.{send_in}
 use Rattle.spec_endpoint.specs.Calls.{shown_state, send_refusal, send_refusal_of, refusals, with_refusal, queue_entry, accept, offered, offer, offer_all}
 use Rattle.spec_endpoint.specs.Laws as table
 use Rattle.spec_endpoint.specs.Laws.{called}
 use Rattle.spec_endpoint.specs.Receiving.{Receives, read, not_read}
-use Rattle.proof_endpoint.specs.Acts.{EndWithPacket, calm, Preserves}
+use Rattle.proof_endpoint.specs.Acts.{calm, Preserves}
 use Rattle.proof_endpoint.specs.Lifecycles.{is_restore}
 use Rattle.proof_endpoint.proofs.ActsLemmas.{keeps_call}
 use Rattle.proof_endpoint.proofs.CallActsLemmas.{does_send_in, does_sent_if}
 use Rattle.proof_endpoint.proofs.LivesLemmas.{offers, not_offered}
-use Rattle.proof_endpoint.proofs.RowActsLemmas.{placed, does_where_open}
+use Rattle.proof_endpoint.proofs.RowActsLemmas.{does_where_open}
 use Rattle.proof_delivery.specs.Accepted.{AcceptedMessage}
-use Rattle.spec_world.specs.Observations.{Call, Connect, Shutdown, Close, Send, SendMany, TakeMessage, Reset, SetPriority, SetMaxMessageSize, SetLowThreshold, HandOver, Answer, Sent, SentMany, some_unless, unrefused}
-use Rattle.spec_world.specs.World.{table_call, after_call, after_time, answer_to}
+use Rattle.spec_world.specs.Observations.{Call, Connect, Shutdown, Close, Send, SendMany, TakeMessage, Reset, SetPriority, SetMaxMessageSize, SetLowThreshold, HandOver, Sent, some_unless, unrefused}
+use Rattle.spec_world.specs.World.{after_call, after_time, answer_to}
 use Rattle.proof_world.specs.Delivered.{accepted_messages_in}
 use Rattle.proof_world.specs.Few.{most_fragments, one_if, ordered_on}
 use Rattle.proof_world.proofs.LoggedLemmas.{none_before, unrefused_later}
-use Rattle.proof_world.proofs.UsedQueueLemmas.{of_messages, of_added}
-use Rattle.proof_world.proofs.UsedStreamLemmas.{HasOrdered, keeps_ordered, InQueue, AllStand, one_of, stream_stands, stands_added, pushed_ordered, more_ordered}
+use Rattle.proof_world.proofs.UsedQueueLemmas.{of_added}
+use Rattle.proof_world.proofs.UsedStreamLemmas.{HasOrdered, keeps_ordered, AllStand, one_of, stream_stands, stands_added, pushed_ordered, more_ordered}
 use Rattle.proof_world.proofs.UsedItemsLemmas.{count}
 use Rattle.proof_world.proofs.UsedLemmas.{left_cost, whole_cost, UsesIn, UsesAt, Onward, uses_on}
 

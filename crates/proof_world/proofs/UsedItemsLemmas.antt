@@ -1,11 +1,10 @@
 -- How many numbers a sender has given: what comes of its items gives none, but that each message that is given up may take one more; and a packet
 -- gives one to each fragment that it takes of the queue.
-use Rattle.std.proofs.Common.{◌≡◌, ℕ, zero, suc, ◌+◌, ◌-◌, min, ◌≤◌, ◌<◌, ◌&&◌, ◌||◌, not, nat_lt, nat_le, Bool, true, false, cond, Option, Some, None, unwrap_or, option_map, is_some, List, [], ◌∷◌, ◌++◌, length, map, take, drop, slice_get, refl, ap, ◌∙◌, arith}
+use Rattle.std.proofs.Common.{◌≡◌, ℕ, zero, suc, ◌+◌, ◌-◌, min, ◌≤◌, ◌<◌, ◌&&◌, ◌||◌, not, nat_lt, nat_le, Bool, true, false, cond, Option, Some, None, unwrap_or, option_map, is_some, List, [], ◌∷◌, ◌++◌, length, slice_get, refl, ap, ◌∙◌, arith}
 use Rattle.std.proofs.lemmas.List.{length-append, length-drop, length-map}
 use Rattle.std.proofs.lemmas.Bool.{and_parts, leb-true, ltb-true}
 use Rattle.sctp_chunk.specs.declared.sack.GapAckBlock.{GapAckBlock}
 use Rattle.sctp_packet.specs.Chunk.{FragmentTree}
-use Rattle.sctp_packet.specs.Covered.{is_covered}
 use Rattle.sctp_state.specs.declared.api.GivenUpCause.{GivenUpCause}
 use Rattle.sctp_state.specs.declared.api.GivenUpCause.TheVariants.{Lifetime, Retransmissions, Reset}
 use Rattle.sctp_state.specs.Events.{Emitted, emit_events, emit_given_up, expired_events}
@@ -15,16 +14,16 @@ use Rattle.sctp_tx_outstanding.specs.Item as item
 use Rattle.sctp_tx_outstanding.specs.OutstandingData.{Items, Discard, next_number, change_at, abandon_if_of, last_of}
 use Rattle.sctp_tx_outstanding.specs.Losses.{placeholder, placeholders, abandon_message, Step, abandon_with_record, change_items, loses, is_to_be_abandoned, nack_item, nack_below, nack_all, first_step, expired_at, given_up_if, expire_below, expire_outstanding}
 use Rattle.sctp_tx_outstanding.specs.Resending.{Resent, size_in, again_of, allowance, fast_turn, queued_turn, turn_of, apply_turn, resent_below, empty_packet}
-use Rattle.sctp_tx_outstanding.specs.Sack.{is_valid, bound, highest_end, leaving, staying, ack_or_uncover_all, reported_below, receive_sack_first, receive_sack}
+use Rattle.sctp_tx_outstanding.specs.Sack.{is_valid, bound, highest_end, leaving, staying, ack_or_uncover_all, reported_below, receive_sack_first}
 use Rattle.sctp_tx_queue.specs.SendQueue.{Queued, Queue}
 use Rattle.sctp_tx_queue.specs.Produced as queued
 use Rattle.sctp_tx_queue.specs.Produced.{is_stale, emit_expired, emitted_made, turn, next_stream, idle, produce_within, produce}
-use Rattle.sctp_tx_queue.specs.Resets.{is_partly, emit_unsent, prepare_reset}
+use Rattle.sctp_tx_queue.specs.Resets.{is_partly, emit_unsent}
 use Rattle.sctp_tx_queue.specs.Settings.{Changed, discard_from, discard, front_discarded, streams_discarded}
 use Rattle.sctp_tx.specs.Windows.{is_open}
 use Rattle.sctp_tx.specs.RetransmissionQueue.{Sender, sender_if, emitted_if}
-use Rattle.sctp_tx.specs.Resent.{flight, resent_by, resent, resent_fast, may_send_new, start_t3_if, send_fast}
-use Rattle.sctp_tx.specs.Sending.{Filling, offered_payload, item_of, append, QueueStep, queue_step_if, next_turn, fill, discard_all, without_discards, filled_with, fill_and_start_t3, send}
+use Rattle.sctp_tx.specs.Resent.{flight, resent_by, resent, resent_fast, start_t3_if, send_fast}
+use Rattle.sctp_tx.specs.Sending.{discard_all}
 use Rattle.sctp_tx_queue.specs.SendQueue as queues
 
 -- ---- records only come

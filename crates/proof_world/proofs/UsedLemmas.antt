@@ -1,7 +1,6 @@
 -- Each act of a call leaves an end within what it accepted: no more fragments are numbered or wait than it accepted bytes and messages and gave
 -- messages up, and on each stream no more ordered messages than it accepted there.
-use Rattle.std.proofs.Common.{◌≡◌, ℕ, zero, suc, ◌+◌, ◌-◌, ◌≤◌, ◌<◌, ◌&&◌, ◌||◌, nat_lt, Bool, true, false, cond, Option, Some, None, List, [], ◌∷◌, ◌++◌, length, refl, ap, subst, sym, ◌∙◌, arith}
-use Rattle.std.specs.Prelude.{nat_le}
+use Rattle.std.proofs.Common.{◌≡◌, ℕ, zero, suc, ◌+◌, ◌-◌, ◌≤◌, ◌&&◌, ◌||◌, nat_lt, Bool, true, false, cond, Option, Some, None, List, [], ◌∷◌, length, refl, arith}
 use Rattle.std.proofs.lemmas.Bool.{and_parts, ltb-true}
 use Rattle.std.proofs.lemmas.List.{length-append}
 use Rattle.std.proofs.lemmas.Bool.Decides.{nat_tests}
@@ -13,7 +12,7 @@ use Rattle.sctp_state.specs.Handover.{HandoverState}
 use Rattle.sctp_state.specs.Events.{Emitted}
 use Rattle.sctp_tx_queue.specs.declared.send_queue.message.MessageNumbers.{MessageNumbers}
 use Rattle.sctp_tx_queue.specs.declared.send_queue.stream.ResetStep.TheVariants.{Requested, Performed, Refused}
-use Rattle.sctp_tx_queue.specs.SendQueue.{Queued, Stream, Streams, Entries, Queue, remaining_bytes}
+use Rattle.sctp_tx_queue.specs.SendQueue.{Queued, Entries, Queue, remaining_bytes}
 use Rattle.sctp_tx_queue.specs.SendQueue.{stream as stream_of}
 use Rattle.sctp_tx_queue.specs.Produced as queued
 use Rattle.sctp_tx_queue.specs.Produced.{ends, move_past, produce}
@@ -23,8 +22,8 @@ use Rattle.sctp_tx_queue.specs.Settings as settings
 use Rattle.sctp_tx_queue.specs.Settings.{Changed}
 use Rattle.sctp_tx_outstanding.specs.OutstandingData.{Items, next_number}
 use Rattle.sctp_tx.specs.RetransmissionQueue.{Sender}
-use Rattle.sctp_tx.specs.Resent.{resent, resent_by, may_send_new}
-use Rattle.sctp_tx.specs.Sending.{Filling, offered_payload, item_of, append, queue_step_if, next_turn, fill, discard_all, without_discards, filled_with, fill_and_start_t3, send}
+use Rattle.sctp_tx.specs.Resent.{resent, may_send_new}
+use Rattle.sctp_tx.specs.Sending.{Filling, offered_payload, item_of, append, queue_step_if, next_turn, fill, discard_all, without_discards, filled_with, send}
 use Rattle.spec_endpoint.specs.Association.{State, Closed, CookieWait, Open, Context}
 use Rattle.spec_endpoint.specs.ResetRequests.{Outcome, Unsettled, Done, Denied, outcome}
 use Rattle.spec_endpoint.specs.Opening.{agreed_by, queue_anew, queue_if, other_mode, queue_for}
@@ -152,7 +151,6 @@ module _ (all : ℕ) (most : ℕ → ℕ) where
       used : next_number x.sender.outstanding.items + of_queue left_cost x.queue + n ≤ next_number s + of_queue left_cost q + count x.emitted
       whole : of_queue whole_cost x.queue ≤ of_queue whole_cost q
       streams : S q → S x.queue
-
 
     -- what was made of the queue takes the next number
     appends : (s : Items) (q : Queue) (n now : ℕ) (o : Option queued.Produced) (x : Filling P) → s.acked ≤ x.sender.outstanding.items.acked

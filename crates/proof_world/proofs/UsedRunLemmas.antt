@@ -1,6 +1,5 @@
 -- Along each run of a new world each end stays within what it accepted, read off the log; so where the log uses few numbers, its ends do.
-use Rattle.std.proofs.Common.{◌≡◌, ℕ, ◌+◌, ◌-◌, ◌^◌, ◌≤◌, ◌<◌, Bool, true, false, Option, List, [], ◌∷◌, ◌++◌, length, refl, sym, ap, subst, ◌∙◌, append-nil, arith}
-use Rattle.std.specs.List.{flat_map}
+use Rattle.std.proofs.Common.{◌≡◌, ℕ, ◌+◌, ◌-◌, ◌^◌, ◌≤◌, ◌<◌, true, false, List, [], ◌∷◌, ◌++◌, length, refl, sym, ap, subst, ◌∙◌, append-nil, arith}
 use Rattle.std.proofs.lemmas.List.{length-append}
 use Rattle.std.proofs.lemmas.Grind.{flat_map-append}
 use Rattle.rand_core.specs.Stream.{Stream}
@@ -10,20 +9,18 @@ use Rattle.sctp_state.specs.Events.{GivenUp}
 use Rattle.sctp_tx_queue.specs.SendQueue.{Queue, stream}
 use Rattle.spec_endpoint.specs.Association.{State, Closed, CookieWait, Open, Endpoint}
 use Rattle.proof_delivery.specs.Accepted.{AcceptedMessage}
-use Rattle.proof_delivery.specs.Answered.{performed_in}
-use Rattle.spec_world.specs.Observations.{End, A, B, same_end, Entry, Called, Given, Foreign, Timed, given_up_by, given_up}
-use Rattle.spec_world.specs.World.{Side, World, Action, CallOf, Give, GiveForeign, AdvanceTime, TakesBytes, MeetsForeignAt, given, withheld, MeetsForeign, Gives, Happens, Runs, fresh_world, association, ready_at, news_of, take_emitted, after_call, after_time, call_entry, time_entry, answer_to}
+use Rattle.spec_world.specs.Observations.{End, A, B, same_end, Entry, given_up_by, given_up}
+use Rattle.spec_world.specs.World.{Side, World, Action, CallOf, Give, GiveForeign, AdvanceTime, TakesBytes, MeetsForeignAt, given, withheld, Happens, Runs, fresh_world, association, ready_at, news_of, take_emitted, after_call, after_time, call_entry, time_entry}
 use Rattle.proof_world.specs.Consistent.{NoEndingIsLogged}
-use Rattle.proof_world.specs.Delivered.{AlongRun, accepted_messages_by, accepted_messages, accepted_messages_in, emitted_events}
+use Rattle.proof_world.specs.Delivered.{AlongRun, accepted_messages_by, accepted_messages}
 use Rattle.proof_world.specs.Few.{most_fragments, ordered_on, UsesFew, LogUsesFew}
-use Rattle.proof_world.proofs.FewLemmas.{NumbersFew, AreFew, WorldNumbersFew, RunNumbersFew}
+use Rattle.proof_world.proofs.FewLemmas.{AreFew, WorldNumbersFew, RunNumbersFew}
 use Rattle.proof_world.proofs.LoggedLemmas.{quiet_offers, quiet_given_up, none_in_news, given_up_news}
 use Rattle.proof_world.proofs.WorldLemmas.{Extends}
 use Rattle.proof_world.proofs.RunsLemmas.{runs_extends}
 use Rattle.proof_world.proofs.UsedStreamLemmas.{HasOrdered, keeps_ordered, stream_stands}
-use Rattle.proof_world.proofs.UsedItemsLemmas.{count}
 use Rattle.proof_world.proofs.UsedLemmas.{UsesIn}
-use Rattle.proof_world.proofs.UsedCallLemmas.{most_both, ordered_both, uses_more, all_of, on_streams, Within, time_within, received_within, call_within}
+use Rattle.proof_world.proofs.UsedCallLemmas.{uses_more, all_of, on_streams, Within, time_within, received_within, call_within}
 
 -- ---- an end and the log
 

@@ -15,7 +15,7 @@ use Rattle.sctp_tx_queue.specs.declared.send_queue.message.MessageNumbers.{Messa
 use Rattle.sctp_tx_queue.specs.declared.send_queue.stream.ResetStep.{ResetStep}
 use Rattle.sctp_tx_queue.specs.declared.send_queue.stream.ResetStep.TheVariants.{Requested, Performed, Refused}
 use Rattle.sctp_tx_queue.specs.SendQueue.{Queued, Stream, Streams, Entries, Queue, stream, with_stream, put_stream, blank, blank_stream, push, add}
-use Rattle.sctp_tx_queue.specs.Produced.{Turn, is_stale, fresh, without_stale, streams_without_stale, streams_after, ends, move_past, moved_front, front_numbers, front_took, took, next_wrapping, advance, turn, next_stream, idle, produce_within, produce, pause_if_pending}
+use Rattle.sctp_tx_queue.specs.Produced.{Turn, is_stale, fresh, without_stale, streams_without_stale, ends, move_past, moved_front, front_numbers, front_took, took, next_wrapping, advance, turn, next_stream, idle, produce_within, produce, pause_if_pending}
 use Rattle.sctp_tx_queue.specs.Settings.{Changed, with_threshold, with_priority, set_low_threshold, set_priority, without_front, streams_discarded, front_discarded, discard_from, discard}
 use Rattle.sctp_tx_queue.specs.Restarted.{whole_front, restart, restarted_one, each_restarted, reset}
 use Rattle.sctp_tx_queue.specs.Resets.{is_partly, prepare_stream, prepare_reset, after_step, apply_reset_step, each_stepped}
