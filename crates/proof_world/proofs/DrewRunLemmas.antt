@@ -1,6 +1,5 @@
 -- Where an end of a run draws no tag twice, it draws none twice along the trace.
-use Rattle.std.proofs.Common.{ℕ, Bool, List, [], ◌∷◌, ◌++◌, inl, inr, sym, ap, subst}
-use Rattle.rand_core.specs.Stream.{Stream}
+use Rattle.std.proofs.Common.{ℕ, List, [], ◌∷◌, ◌++◌, inl, inr, sym, ap, subst}
 use Rattle.proof_pair.specs.Agreement.{Draw, Has, AreDistinct}
 use Rattle.spec_world.specs.Observations.{End}
 use Rattle.spec_world.specs.World.{World, Action, Runs}
