@@ -109,8 +109,8 @@ impl<R: Rng + Drop, C: Checksum + Drop> World<R, C> {
     }
 
     /// A new world, and what these events make of it: `World::new`, and then `run`. What the clauses conclude rests on what is handed in
-    /// here: `delivers` gives the one run of these events from this new world. Its premises speak of the log alone; `composes` has it for
-    /// longer runs, by windows.
+    /// here: `delivers` gives the one run of these events from this new world. Its premises speak of the log, and of the packets that
+    /// it numbers; `composes` has it for longer runs, by windows.
     pub fn after(
         alloc: Global,
         options_a: &Options,
