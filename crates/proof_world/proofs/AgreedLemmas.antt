@@ -6,6 +6,7 @@ use Rattle.std.proofs.lemmas.Grind.{flat_map-append}
 use Rattle.std.proofs.lemmas.Bool.{both_ways}
 use Rattle.std.proofs.lemmas.List.{map-append}
 use Rattle.std.proofs.lemmas.List.Elements.{All-nil, All-cons, All-head, All-tail, All-append}
+use Rattle.rand_core.specs.Stream.{Stream}
 use Rattle.sctp_serial.specs.Messages.{Message}
 use Rattle.sctp_state.specs.Events.{Event, GivenUp, SendPacket, OnConnected}
 use Rattle.spec_endpoint.specs.Association.{State, Closed, CookieWait, Open, Endpoint}
@@ -15,7 +16,7 @@ use Rattle.proof_endpoint.specs.Mapped.{Mapping, Carried, as_bytes}
 use Rattle.proof_pair.specs.Trace as traces
 use Rattle.proof_pair.specs.Trace.{Pair, EndAction, Calls, Gives, Refuses, has_connected, emitted_packets, give_carried, foreign_if, act, goes, start, state_of}
 use Rattle.proof_pair.specs.Agreement as agreement
-use Rattle.proof_pair.specs.Agreement.{Has, History, held_in, history_after, Histories, no_histories, histories_after, IsPlainCall, IsAllowed, AreAllowed, emitted_since, AgreesAlong}
+use Rattle.proof_pair.specs.Agreement.{Draw, drawn_in, histories_along, AreDistinctPerEnd, Has, History, held_in, history_after, Histories, no_histories, histories_after, IsPlainCall, IsAllowed, AreAllowed, emitted_since, AgreesAlong}
 use Rattle.proof_pair.proofs.AgreeTraceLemmas.{drop_emitted}
 use Rattle.proof_pair.proofs.AgreeWithinLemmas.{has_either}
 use Rattle.proof_pair.proofs.AgreeActionsLemmas.{ends_agree}
@@ -23,7 +24,7 @@ use Rattle.spec_world.specs.Observations.{End, A, B, same_end, none_unless, same
 use Rattle.spec_world.specs.World.{Side, World, Action, CallOf, Give, GiveForeign, AdvanceTime, MeetsForeignAt, given, withheld, Happens, Runs, side_of, other, packets_in, news_of, emitted_entries, given_up_entries, ready_entries, ready_before, ready_at, association, associated_if, association_entries, call_entry, after_call, time_entry, after_time, table_call}
 use Rattle.proof_world.specs.Reachable.{ActionFits, IsInBytes, initial_world}
 use Rattle.proof_world.specs.Traces.{is_a, end_of, give_action, IsForeign, IsActionOf, AreActionsOf, emitted_in}
-use Rattle.proof_world.specs.Agreed.{IsAgreed, WorldAgrees, WorldsAgree}
+use Rattle.proof_world.specs.Agreed.{IsAgreed, WorldAgrees, EachEndDrawsDistinctTags, WorldsAgree}
 use Rattle.proof_world.proofs.EventLemmas.{mapped, entries_both, same_itself, connected_emitted}
 use Rattle.proof_world.proofs.NewsLemmas.{emitted_both, held_both, connected_by_emitted}
 use Rattle.proof_world.proofs.PrefixLemmas.{one_is_longer}
@@ -32,6 +33,10 @@ use Rattle.proof_world.proofs.SidesLemmas.{IsFirst, silent_first, silent_news, G
 use Rattle.proof_world.proofs.WorldLemmas.{Both, Extends, extends_then, in_bytes_before, Stepped, steps}
 use Rattle.proof_world.proofs.RunsLemmas.{happens_extends, runs_extends, fresh_both}
 use Rattle.proof_world.proofs.ConsistentLemmas.{given_of}
+use Rattle.proof_world.specs.Draws.{draws}
+use Rattle.proof_world.proofs.BundledLemmas.{SideIsBundled, act_bundled, new_bundled}
+use Rattle.proof_world.proofs.DrewLemmas.{DrawsSo, act_so}
+use Rattle.proof_world.proofs.DrewRunLemmas.{AreDrawnOnce, none_before, beside_on, own_on}
 
 -- ---- entries
 
@@ -332,8 +337,47 @@ module _ (word_of : List ℕ → ℕ) (x : End) (log longer more : List Entry) (
 -- ---- runs
 
 module _ (word_of_a word_of_b : List ℕ → ℕ) where
-  record Ran (actions : List Action) (w v : World) (c : Pair) (k : Histories) : Type 0 where
+  -- what an end holds when its action begins, and what it drew then
+  draws_a : (x : World) (c : Pair) → Both word_of_a word_of_b x c → draws A x ≡ c.a.end.draws
+  draws_a x c h = ap (λ (s : Endpoint (List ℕ)). s.draws) h.a.image.socket
+
+  draws_b : (x : World) (c : Pair) → Both word_of_a word_of_b x c → draws B x ≡ c.b.end.draws
+  draws_b x c h = ap (λ (s : Endpoint (List ℕ)). s.draws) h.b.image.socket
+
+  moved : (ds : List Draw) (s t u v : Stream) → s ≡ u → t ≡ v → DrawsSo ds u v → DrawsSo ds s t
+  moved ds s t u v e f h = subst (λ (z : Stream). DrawsSo ds z t) (sym e) (subst (λ (z : Stream). DrawsSo ds u z) (sym f) h)
+
+  -- no end has drawn a tag that it draws again
+  record NoneIsDrawnAgain (actions : List Action) (w v : World) (r : Runs actions w v) (c : Pair) (k : Histories) : Type 0 where
+    bundled_a : SideIsBundled c.a
+    bundled_b : SideIsBundled c.b
+    once : EachEndDrawsDistinctTags actions w v r
+    a : AreDrawnOnce A k.a.drawn actions w v r
+    b : AreDrawnOnce B k.b.drawn actions w v r
+
+  drawn_on : (x : End) (t : EndAction) (action : Action) (actions : List Action) (w v : World) (r : Runs (action ∷ actions) w v) (c : Pair) (k : Histories) → Both word_of_a word_of_b w c
+      → Both word_of_a word_of_b r.0 (goes (is_a x) t c) → NoneIsDrawnAgain (action ∷ actions) w v r c k
+      → NoneIsDrawnAgain actions r.0 v r.2 (goes (is_a x) t c) (histories_after (is_a x) t c k)
+  drawn_on A t action actions w v r c k h g n = record {
+    bundled_a = act_bundled c.a c.b n.bundled_a t;
+    bundled_b = n.bundled_b;
+    once = λ x. (n.once x).1;
+    a = own_on A action actions w v r (drawn_in t c.a c.b) k.a.drawn
+        (moved (drawn_in t c.a c.b) (draws A w) (draws A r.0) c.a.end.draws (act t c.a c.b).end.draws (draws_a w c h) (draws_a r.0 (goes true t c) g) (act_so t c.a c.b n.bundled_b)) (n.once A) n.a;
+    b = beside_on B action actions w v r k.b.drawn n.b;
+  }
+  drawn_on B t action actions w v r c k h g n = record {
+    bundled_a = n.bundled_a;
+    bundled_b = act_bundled c.b c.a n.bundled_b t;
+    once = λ x. (n.once x).1;
+    a = beside_on A action actions w v r k.a.drawn n.a;
+    b = own_on B action actions w v r (drawn_in t c.b c.a) k.b.drawn
+        (moved (drawn_in t c.b c.a) (draws B w) (draws B r.0) c.b.end.draws (act t c.b c.a).end.draws (draws_b w c h) (draws_b r.0 (goes false t c) g) (act_so t c.b c.a n.bundled_a)) (n.once B) n.b;
+  }
+
+  record Ran (actions : List Action) (w v : World) (r : Runs actions w v) (c : Pair) (k : Histories) : Type 0 where
     trace : List (Bool × EndAction)
+    apart : NoneIsDrawnAgain actions w v r c k → AreDistinctPerEnd (histories_along trace c k)
     are : AreActionsOf word_of_a word_of_b actions trace c
     agrees : AgreesAlong trace c k → WorldAgrees w.log → WereHeld A w.log k.a → WereHeld B w.log k.b → WorldAgrees v.log
 
@@ -352,9 +396,9 @@ module _ (word_of_a word_of_b : List ℕ → ℕ) where
     were_turned word_of_b B w.log u.log more u.a.packets u.b c.b c.a t k.b logged g.b in_b,
   )
 
-  unfoldable ran : (actions : List Action) (w v : World) (c : Pair) (k : Histories) → All ActionFits actions → Runs actions w v → IsInBytes v → Both word_of_a word_of_b w c
-      → Ran actions w v c k
-  ran [] w v c k fit e small h = record { trace = []; are = tt; agrees = λ law agrees in_a in_b. subst (λ (z : World). WorldAgrees z.log) (sym e) agrees }
+  unfoldable ran : (actions : List Action) (w v : World) (c : Pair) (k : Histories) → All ActionFits actions → (r : Runs actions w v) → IsInBytes v → Both word_of_a word_of_b w c
+      → Ran actions w v r c k
+  ran [] w v c k fit e small h = record { trace = []; apart = λ n. (n.a.distinct, n.b.distinct); are = tt; agrees = λ law agrees in_a in_b. subst (λ (z : World). WorldAgrees z.log) (sym e) agrees }
   ran (action ∷ actions) w v c k fit r small h =
       let u : World = r.0 in
       let x : End = end_of action in
@@ -362,10 +406,11 @@ module _ (word_of_a word_of_b : List ℕ → ℕ) where
       let first : Extends w u = happens_extends action w u r.1 in
       let step : Stepped word_of_a word_of_b action w u c =
       steps word_of_a word_of_b action w u c (All-head ActionFits action actions fit) (in_bytes_before w v (extends_then w u v first later) small) r.1 h in
-      let rest : Ran actions u v (goes (is_a x) step.turn c) (histories_after (is_a x) step.turn c k) =
+      let rest : Ran actions u v r.2 (goes (is_a x) step.turn c) (histories_after (is_a x) step.turn c k) =
       ran actions u v (goes (is_a x) step.turn c) (histories_after (is_a x) step.turn c k) (All-tail ActionFits action actions fit) r.2 small step.both in
       record {
         trace = (is_a x, step.turn) ∷ rest.trace;
+        apart = λ n. rest.apart (drawn_on x step.turn action actions w v r c k h step.both n);
         are = (refl, step.is, rest.are);
         agrees = λ law agrees in_a in_b.
             let on = step_on x step.turn w u c k step.extends.more step.extends.logged h step.both (event_adds action w u r.1) law.0 agrees in_a in_b in
@@ -417,9 +462,15 @@ none_yet (b ∷ before) behind e h = cc
 pub worlds_agree : WorldsAgree
 worlds_agree origin actions w l distinct =
     let c : Pair = start origin.a origin.b origin.draws_a origin.draws_b in
-    let r : Ran origin.word_of_a origin.word_of_b actions (initial_world origin) w c no_histories =
+    let r : Ran origin.word_of_a origin.word_of_b actions (initial_world origin) w l.runs c no_histories =
     ran origin.word_of_a origin.word_of_b actions (initial_world origin) w c no_histories l.fit l.runs l.bytes (fresh_both origin.a origin.b origin.draws_a origin.draws_b origin.word_of_a origin.word_of_b l.fits_a l.fits_b) in
     r.agrees
     (ends_agree origin.a origin.b origin.draws_a origin.draws_b r.trace (given_of origin.a l.valid_a l.fits_a) (given_of origin.b l.valid_b l.fits_b)
-    (allowed_all origin.word_of_a origin.word_of_b actions r.trace c r.are) (distinct r.trace r.are))
+    (allowed_all origin.word_of_a origin.word_of_b actions r.trace c r.are) (r.apart (record {
+      bundled_a = new_bundled origin.a origin.draws_a;
+      bundled_b = new_bundled origin.b origin.draws_b;
+      once = distinct;
+      a = none_before A actions (initial_world origin) w l.runs;
+      b = none_before B actions (initial_world origin) w l.runs;
+    })))
     (λ x before behind e. none_yet before behind (connection x) e) (λ a h. absurd h) (λ a h. absurd h)

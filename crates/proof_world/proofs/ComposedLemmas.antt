@@ -35,6 +35,7 @@ use Rattle.proof_world.proofs.LastingLemmas.{first_pair, r, IsKept, trace_delive
 use Rattle.proof_world.proofs.JustifiedLemmas.{worlds_justified}
 use Rattle.proof_world.proofs.EndedLemmas.{ended_handed}
 use Rattle.proof_world.proofs.FewLemmas.{few_in_bounds}
+use Rattle.proof_world.proofs.UsedRunLemmas.{log_few}
 use Rattle.proof_world.proofs.MtuLemmas.{new_short, runs_short}
 use Rattle.proof_world.proofs.ReadBackLemmas.{packets_read_back}
 use Rattle.proof_protocol.proofs.ToolsLemmas.{not_both}
@@ -299,7 +300,7 @@ compose law refuses then origin actions w l = record {
       are_consistent ends_consistent origin front y (reachable_before origin actions w y l front fit before later) (record { follows = rules_before y w later rules; stands = stands }));
   handed = λ rules. handed_then w l rules;
   delivers = λ rules k. delivers_then w l rules k law then;
-  delivers_few = λ rules k. delivers_then w l rules (few_in_bounds actions (initial_world origin) w l.runs k) law then;
+  delivers_few = λ rules k. delivers_then w l rules (few_in_bounds actions (initial_world origin) w l.runs (log_few origin.a origin.b origin.draws_a origin.draws_b origin.word_of_a origin.word_of_b actions w l.runs k)) law then;
   none_refused = λ rules k. none_fails w l rules k refuses then;
   justified = worlds_justified origin.a origin.b origin.draws_a origin.draws_b origin.word_of_a origin.word_of_b actions w l.fits_a l.fits_b l.fit l.runs l.bytes;
   short = runs_short origin.a.mtu origin.b.mtu actions (initial_world origin) w l.runs

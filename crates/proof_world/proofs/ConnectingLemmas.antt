@@ -1,9 +1,9 @@
 -- Two runs of worlds in which both ends connect: their traces, computed, are those of worlds, and no tag is drawn twice.
-use Rattle.std.proofs.Common.{◌≡◌, ℕ, ◌==◌, ◌||◌, not, Bool, true, false, List, [], ◌∷◌, ◌++◌, map, drop, refl, sym, ap, subst, ◌∙◌, append_assoc, inl, inr}
+use Rattle.std.proofs.Common.{◌≡◌, ℕ, ◌==◌, ◌||◌, ◌+◌, ◌≤◌, ◌<◌, not, Bool, true, false, List, [], ◌∷◌, ◌++◌, length, map, drop, arith, refl, sym, ap, subst, ◌∙◌, append_assoc, inl, inr}
 use Rattle.std.specs.Prelude.{All}
 use Rattle.std.specs.List.{list_any}
 use Rattle.std.proofs.lemmas.Bool.{and_parts, or_parts, or_right, eq-eqb}
-use Rattle.rand_core.specs.Stream.{Stream, next_u32, next_u64}
+use Rattle.rand_core.specs.Stream.{Call, u32_call, Stream, next_u32, next_u64}
 use Rattle.sctp_wire.specs.Field.{be16, be32, be64}
 use Rattle.sctp_wire.specs.Serialize.{padded_item, inner_items}
 use Rattle.sctp_wire.specs.Parameter.{parameter_value}
@@ -21,11 +21,14 @@ use Rattle.proof_tx_refines.specs.Records.{are_distinct}
 use Rattle.proof_endpoint.specs.Mapped.{as_written}
 use Rattle.proof_pair.specs.Trace.{Pair, EndAction, emitted_packets, goes, run, start}
 use Rattle.proof_pair.specs.Opens.{one_connects}
-use Rattle.proof_pair.specs.Agreement.{Draw, Has, AreDistinct, AreDistinctPerEnd, no_histories, histories_along}
+use Rattle.proof_pair.specs.Agreement.{Draw, Has, AreDistinct}
 use Rattle.proof_pair.proofs.AgreeActionsLemmas.{has_front}
 use Rattle.proof_pair.proofs.OpensLemmas.{given_defaults}
 use Rattle.proof_draws.specs.Pairing.{drawn, drawn_at, AllDrawnTagsAreDistinct}
-use Rattle.spec_world.specs.World.{World, Action, Runs}
+use Rattle.spec_endpoint.specs.Opening.{tag_from}
+use Rattle.spec_world.specs.Observations.{End, A, B}
+use Rattle.spec_world.specs.World.{World, Action, Gives, Runs}
+use Rattle.proof_world.specs.Draws.{draws, DrawsTag, IsDrawn, DrawsTagsOnce}
 use Rattle.proof_world.specs.FirstRun.{opening, IsOpen}
 use Rattle.proof_world.specs.Reachable.{ActionFits, Origin, origin, initial_world, IsReachable}
 use Rattle.proof_world.specs.Traces.{AreActionsOf}
@@ -35,7 +38,7 @@ use Rattle.proof_world.specs.Agreed.{EachEndDrawsDistinctTags}
 use Rattle.proof_world.specs.Alike.{DrawsDistinctTags, NoneComesFromElsewhere}
 use Rattle.proof_world.specs.Connecting.{EndsConnect, TwoWorldsConnect}
 use Rattle.proof_world.proofs.NextLemmas.{one_trace}
-use Rattle.proof_world.proofs.FirstRunLemmas.{it_opens}
+use Rattle.proof_world.proofs.FirstRunLemmas.{it_opens, first, second, third, fourth, opened, to_first, to_second, to_third, to_fourth, to_opened}
 use Rattle.proof_world.proofs.ShownLemmas.{there, reachable}
 use Rattle.proof_world.proofs.ConnectsLemmas.{connects_first}
 use Rattle.proof_world.proofs.ComputedLemmas.{no_sum, actions_of, is_there, are_there, actions_are, are_small, all_small, all_true, fits_defaults, each_fits}
@@ -105,6 +108,71 @@ none_comes (action ∷ actions) w v r none =
     let parts = or_parts (is_foreign action) (list_any is_foreign actions) none in
     ((λ stands. parts.0), none_comes actions r.0 v r.2 parts.1)
 
+-- ---- generators that count
+
+-- each word is one more than the one before it, from this number on
+abbrev Counts : Stream → ℕ → Type 0
+Counts s n = (calls : List Call) → s.u32_after calls ≡ n + length calls
+
+-- a tag that is drawn is of a word from n on, and below m
+of_words : (s t : Stream) (n m tag : ℕ) → Counts s n → Counts t m → DrawsTag s t tag → (k : ℕ) × (n ≤ k) × (k < m) × (tag ≡ tag_from k)
+unfolding next_u32
+of_words s t n m tag a b (inl h) =
+    (n, omega arith, omega (arith, ap (λ (z : Stream). z.u32_after []) h.0, a (u32_call ∷ []), b []), h.1 ∙ ap tag_from (a [] ∙ more_none n))
+  where
+    more_none : (n : ℕ) → n + 0 ≡ n
+    more_none n = omega arith
+of_words s t n m tag a b (inr h) =
+    (n + 1, omega arith, omega (arith, ap (λ (z : Stream). z.u32_after []) h.0, a (u32_call ∷ u32_call ∷ []), b []), h.1 ∙ ap tag_from (a (u32_call ∷ [])))
+
+-- along a run
+abbrev CountsAlong : (x : End) (actions : List Action) (w v : World) → Runs actions w v → ℕ → Type 0
+CountsAlong x [] w v r n = Counts (draws x w) n × (n < 4000)
+CountsAlong x (action ∷ actions) w v r n = Counts (draws x w) n × ((m : ℕ) × (n ≤ m) × CountsAlong x actions r.0 v r.2 m)
+
+counts_there : (x : End) (actions : List Action) (w v : World) (r : Runs actions w v) (n : ℕ) → CountsAlong x actions w v r n → Counts (draws x w) n
+counts_there x [] w v r n h = h.0
+counts_there x (action ∷ actions) w v r n h = h.0
+
+counts_below : (x : End) (actions : List Action) (w v : World) (r : Runs actions w v) (n : ℕ) → CountsAlong x actions w v r n → n < 4000
+counts_below x [] w v r n h = h.1
+counts_below x (action ∷ actions) w v r n h = let below = counts_below x actions r.0 v r.2 h.1.0 h.1.2 in let grows = h.1.1 in omega (arith, below, grows)
+
+later_word : (x : End) (tag : ℕ) (actions : List Action) (w v : World) (r : Runs actions w v) (n : ℕ) → CountsAlong x actions w v r n → IsDrawn x tag actions w v r
+    → (k : ℕ) × (n ≤ k) × (k < 4000) × (tag ≡ tag_from k)
+later_word x tag [] w v r n h d = absurd d
+later_word x tag (action ∷ actions) w v r n h (inl d) =
+    let one = of_words (draws x w) (draws x r.0) n h.1.0 tag h.0 (counts_there x actions r.0 v r.2 h.1.0 h.1.2) d in
+    let below = counts_below x actions r.0 v r.2 h.1.0 h.1.2 in
+    let under = one.2 in
+    (one.0, one.1, omega (arith, below, under), one.3)
+later_word x tag (action ∷ actions) w v r n h (inr d) =
+    let one = later_word x tag actions r.0 v r.2 h.1.0 h.1.2 d in
+    let from = one.1 in
+    let grows = h.1.1 in
+    (one.0, omega (arith, from, grows), one.2, one.3)
+
+counts_once : (x : End) (actions : List Action) (w v : World) (r : Runs actions w v) (n : ℕ) → CountsAlong x actions w v r n → DrawsTagsOnce x actions w v r
+counts_once x [] w v r n h = tt
+counts_once x (action ∷ actions) w v r n h = (
+  λ tag d later.
+      let m : ℕ = h.1.0 in
+      let one = of_words (draws x w) (draws x r.0) n m tag h.0 (counts_there x actions r.0 v r.2 m h.1.2) d in
+      let other = later_word x tag actions r.0 v r.2 m h.1.2 later in
+      let below = counts_below x actions r.0 v r.2 m h.1.2 in
+      let under = one.2 in
+      let from = other.1 in
+      let small = other.2 in
+      let same : tag_from one.0 ≡ tag_from other.0 = sym one.3 ∙ other.3 in
+      omega (arith, below, under, from, small, same),
+  counts_once x actions r.0 v r.2 h.1.0 h.1.2,
+)
+
+-- where they begin to count
+abbrev begins : End → ℕ
+begins A = 456
+begins B = 1000
+
 -- ---- two ends that connect
 
 abbrev begin : Stream → Stream → Pair
@@ -153,11 +221,113 @@ module _ (x y : Stream) (all_are_there : are_there one_connects (begin x y) ≡ 
       distinct_up_to no_sum no_sum opening one_connects (begin x y) refl are (distinct_of (drawn one_connects (begin x y)) apart)
       (front ++ action ∷ []) rest (split ∙ sym (append_assoc front (action ∷ []) rest)) es h
 
-  each_end : are_distinct (tags (histories_along one_connects (begin x y) no_histories).a.drawn) ≡ true → are_distinct (tags (histories_along one_connects (begin x y) no_histories).b.drawn) ≡ true
-      → EachEndDrawsDistinctTags new opening
-  each_end a b es h =
-      subst (λ (t : List (Bool × EndAction)). AreDistinctPerEnd (histories_along t (begin x y) no_histories)) (one_trace no_sum no_sum opening one_connects es (begin x y) refl are h)
-      (distinct_of (histories_along one_connects (begin x y) no_histories).a.drawn a, distinct_of (histories_along one_connects (begin x y) no_histories).b.drawn b)
+  each_end : ((x : End) → CountsAlong x opening (initial_world new) world led.runs (begins x)) → EachEndDrawsDistinctTags opening (initial_world new) world led.runs
+  each_end counts x = counts_once x opening (initial_world new) world led.runs (begins x) (counts x)
+
+-- ---- the words of the opening
+
+abbrev from_new : World
+from_new = initial_world (origin defaults defaults (counting_from 456) (counting_from 1000) no_sum no_sum)
+
+counted : (x : End) (w u : World) (n : ℕ) → w ≡ u → Counts (draws x u) n → Counts (draws x w) n
+counted x w u n e h = subst (λ (z : World). Counts (draws x z) n) (sym e) h
+
+module _ (v : World) (r : Runs opening from_new v) where
+  abbrev a : Stream
+  a = counting_from 456
+
+  abbrev b : Stream
+  b = counting_from 1000
+
+  one : r.0 ≡ first a b no_sum
+  one = to_first a b no_sum r.0 r.1
+
+  two : r.2.0 ≡ second a b no_sum
+  two = to_second a b no_sum r.2.0 (subst (λ (w : World). Gives B 0 w r.2.0) one r.2.1)
+
+  three : r.2.2.0 ≡ third a b no_sum
+  three = to_third a b no_sum r.2.2.0 (subst (λ (w : World). Gives A 0 w r.2.2.0) two r.2.2.1)
+
+  four : r.2.2.2.0 ≡ fourth a b no_sum
+  four = to_fourth a b no_sum r.2.2.2.0 (subst (λ (w : World). Gives B 1 w r.2.2.2.0) three r.2.2.2.1)
+
+  five : r.2.2.2.2.0 ≡ opened a b no_sum
+  five = to_opened a b no_sum r.2.2.2.2.0 (subst (λ (w : World). Gives A 1 w r.2.2.2.2.0) four r.2.2.2.2.1)
+
+  opening_counts : (x : End) → CountsAlong x opening from_new v r (begins x)
+  unfolding next_u32 next_u64
+  opening_counts A = (
+    (λ calls. refl),
+    (
+      458,
+      omega arith,
+      (
+        counted A r.0 (first a b no_sum) 458 one (λ calls. omega arith),
+        (
+          458,
+          omega arith,
+          (
+            counted A r.2.0 (second a b no_sum) 458 two (λ calls. omega arith),
+            (
+              459,
+              omega arith,
+              (
+                counted A r.2.2.0 (third a b no_sum) 459 three (λ calls. omega arith),
+                (
+                  459,
+                  omega arith,
+                  (
+                    counted A r.2.2.2.0 (fourth a b no_sum) 459 four (λ calls. omega arith),
+                    (
+                      459,
+                      omega arith,
+                      (counted A r.2.2.2.2.0 (opened a b no_sum) 459 five (λ calls. omega arith), omega arith),
+                    ),
+                  ),
+                ),
+              ),
+            ),
+          ),
+        ),
+      ),
+    ),
+  )
+  opening_counts B = (
+    (λ calls. refl),
+    (
+      1000,
+      omega arith,
+      (
+        counted B r.0 (first a b no_sum) 1000 one (λ calls. omega arith),
+        (
+          1002,
+          omega arith,
+          (
+            counted B r.2.0 (second a b no_sum) 1002 two (λ calls. omega arith),
+            (
+              1002,
+              omega arith,
+              (
+                counted B r.2.2.0 (third a b no_sum) 1002 three (λ calls. omega arith),
+                (
+                  1003,
+                  omega arith,
+                  (
+                    counted B r.2.2.2.0 (fourth a b no_sum) 1003 four (λ calls. omega arith),
+                    (
+                      1003,
+                      omega arith,
+                      (counted B r.2.2.2.2.0 (opened a b no_sum) 1003 five (λ calls. omega arith), omega arith),
+                    ),
+                  ),
+                ),
+              ),
+            ),
+          ),
+        ),
+      ),
+    ),
+  )
 
 -- ---- computed
 
@@ -193,20 +363,12 @@ apart_two : are_distinct (tags (drawn one_connects (begin (counting_from 789) (c
 unfolding next_u32 next_u64 be16 be32 be64 padded_item inner_items parameter_value cause_value cause_text join_texts chunk_bytes chunks_bytes chunk_value data_value idata_value init_fields block_bytes sack_value skip_bytes forward_value cookie_bytes capability_bytes cookie_from read_cookie tick_timers
 apart_two = refl
 
-apart_at_a : are_distinct (tags (histories_along one_connects (begin (counting_from 456) (counting_from 1000)) no_histories).a.drawn) ≡ true
-unfolding next_u32 next_u64 be16 be32 be64 padded_item inner_items parameter_value cause_value cause_text join_texts chunk_bytes chunks_bytes chunk_value data_value idata_value init_fields block_bytes sack_value skip_bytes forward_value cookie_bytes capability_bytes cookie_from read_cookie tick_timers
-apart_at_a = refl
-
-apart_at_b : are_distinct (tags (histories_along one_connects (begin (counting_from 456) (counting_from 1000)) no_histories).b.drawn) ≡ true
-unfolding next_u32 next_u64 be16 be32 be64 padded_item inner_items parameter_value cause_value cause_text join_texts chunk_bytes chunks_bytes chunk_value data_value idata_value init_fields block_bytes sack_value skip_bytes forward_value cookie_bytes capability_bytes cookie_from read_cookie tick_timers
-apart_at_b = refl
-
 pub ends_connect : EndsConnect
 ends_connect = record {
   origin = origin defaults defaults (counting_from 456) (counting_from 1000) no_sum no_sum;
   world = world (counting_from 456) (counting_from 1000) there_one small_one_a small_one_b;
   reachable = led (counting_from 456) (counting_from 1000) there_one small_one_a small_one_b;
-  tags = each_end (counting_from 456) (counting_from 1000) there_one small_one_a small_one_b apart_at_a apart_at_b;
+  tags = each_end (counting_from 456) (counting_from 1000) there_one small_one_a small_one_b (λ x. opening_counts _ (led (counting_from 456) (counting_from 1000) there_one small_one_a small_one_b).runs x);
   are_open = is_open (counting_from 456) (counting_from 1000) there_one small_one_a small_one_b;
 }
 

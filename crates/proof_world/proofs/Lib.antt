@@ -30,8 +30,17 @@ pub mod LastingLemmas
 pub mod ClockLemmas
 pub mod JustifiedLemmas
 pub mod FewLemmas
+pub mod UsedQueueLemmas
+pub mod UsedStreamLemmas
+pub mod UsedItemsLemmas
+pub mod UsedLemmas
+pub mod UsedCallLemmas
+pub mod UsedRunLemmas
 pub mod ReadBackLemmas
 pub mod ComposedLemmas
+pub mod BundledLemmas
+pub mod DrewLemmas
+pub mod DrewRunLemmas
 pub mod AgreedLemmas
 pub mod VisibleLemmas
 pub mod AnswerLemmas
@@ -43,7 +52,6 @@ pub mod PairLemmas
 pub mod NextLemmas
 pub mod WindowsKeptLemmas
 pub mod ConnectsLemmas
-pub mod FewRunLemmas
 pub mod ShownLemmas
 pub mod ComputedLemmas
 pub mod SkippingLemmas

@@ -178,14 +178,14 @@ one_offer (Some e) m o = refl
 later_place : (p place : ℕ) (e : SendError) (rest : List (ℕ × SendError)) → p < place → list_any (λ (r : ℕ × SendError). r.0 == place) ((p, e) ∷ rest) ≡ list_any (λ (r : ℕ × SendError). r.0 == place) rest
 later_place p place e rest l = ap (λ (b : Bool). b || list_any (λ (r : ℕ × SendError). r.0 == place) rest) (ne_eqb p place (λ e. absurd (omega (arith, e, l))))
 
-unrefused_later : (p : ℕ) (e : SendError) (rest : List (ℕ × SendError)) (place : ℕ) (ms : List Message) → p < place → unrefused place ms ((p, e) ∷ rest) ≡ unrefused place ms rest
+pub unrefused_later : (p : ℕ) (e : SendError) (rest : List (ℕ × SendError)) (place : ℕ) (ms : List Message) → p < place → unrefused place ms ((p, e) ∷ rest) ≡ unrefused place ms rest
 unrefused_later p e rest place [] l = refl
 unrefused_later p e rest place (m ∷ ms) l =
     ap (λ (b : Bool). some_unless b m (unrefused (place + 1) ms ((p, e) ∷ rest))) (later_place p place e rest l)
     ∙ ap (λ (z : List Message). some_unless (list_any (λ (r : ℕ × SendError). r.0 == place) rest) m z) (unrefused_later p e rest (place + 1) ms (omega (arith, l)))
 
 -- refusals name later places only
-none_before : (place next : ℕ) → place < next → (ms : List Message) (o : SendOptions) (shown : SocketState) (c : Context (List ℕ))
+pub none_before : (place next : ℕ) → place < next → (ms : List Message) (o : SendOptions) (shown : SocketState) (c : Context (List ℕ))
     → list_any (λ (r : ℕ × SendError). r.0 == place) (refusals next ms o shown c) ≡ false
 none_before place next l [] o shown c = refl
 none_before place next l (m ∷ ms) o shown c =

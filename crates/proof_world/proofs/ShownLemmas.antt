@@ -1,12 +1,13 @@
 -- What a trace keeps and shows, its world keeps and shows.
-use Rattle.std.proofs.Common.{◌≡◌, ℕ, ◌+◌, ◌-◌, ◌^◌, ◌<◌, ◌==◌, ◌&&◌, not, Bool, true, false, List, [], ◌∷◌, ◌++◌, length, refl, sym, ap, subst, ◌∙◌, append-nil, append_assoc, length-append, arith}
+use Rattle.std.proofs.Common.{◌≡◌, ℕ, ◌+◌, ◌-◌, ◌^◌, ◌<◌, ◌≤◌, ◌==◌, ◌&&◌, not, Bool, true, false, List, [], ◌∷◌, ◌++◌, length, refl, sym, ap, subst, ◌∙◌, append-nil, append_assoc, length-append, arith}
+use Rattle.std.proofs.lemmas.List.{length-map}
 use Rattle.std.specs.Prelude.{All}
 use Rattle.std.specs.List.{flat_map, list_any}
 use Rattle.std.proofs.lemmas.Grind.{flat_map-append}
 use Rattle.rand_core.specs.Stream.{Stream}
 use Rattle.sctp_tx_outstanding.specs.Item.{Item}
 use Rattle.sctp_state.specs.Options.{Options, IsValid}
-use Rattle.sctp_state.specs.Events.{Event, SendPacket, OnConnected, OnClosed, OnConnectionRestarted, OnAborted, OnError, OnBufferedAmountLow, OnTotalBufferedAmountLow, OnStreamsResetFailed, OnStreamsResetPerformed, OnIncomingStreamReset, OnLifecycleMessageFullySent, OnLifecycleMessageMaybeExpired, OnLifecycleMessageExpired, OnLifecycleMessageDelivered, OnLifecycleEnd}
+use Rattle.sctp_state.specs.Events.{GivenUp, Event, SendPacket, OnConnected, OnClosed, OnConnectionRestarted, OnAborted, OnError, OnBufferedAmountLow, OnTotalBufferedAmountLow, OnStreamsResetFailed, OnStreamsResetPerformed, OnIncomingStreamReset, OnLifecycleMessageFullySent, OnLifecycleMessageMaybeExpired, OnLifecycleMessageExpired, OnLifecycleMessageDelivered, OnLifecycleEnd}
 use Rattle.proof_tx_refines.specs.Reachable.{delivered_ids}
 use Rattle.spec_endpoint.specs.Association.{State, Closed, CookieWait, Open, Endpoint}
 use Rattle.spec_endpoint.specs.Calls.{keeps_items}
@@ -28,6 +29,7 @@ use Rattle.proof_delivery.specs.StreamEpochs.{all_open}
 use Rattle.proof_delivery.specs.Windows as windows
 use Rattle.proof_delivery.proofs.ResetEventsLemmas.{performed_both}
 use Rattle.spec_world.specs.Observations.{End, A, B, Connect, Entry, ready}
+use Rattle.spec_world.specs.Observations as observations
 use Rattle.spec_world.specs.World.{Side, World, Action, CallOf, Runs, emitted_entries, fresh_world, is_at_rest}
 use Rattle.proof_world.specs.Reachable.{ActionFits, IsInBytes, Origin, IsReachable, initial_world}
 use Rattle.proof_world.specs.Traces.{is_a, AreActionsOf}
@@ -46,8 +48,8 @@ use Rattle.proof_world.proofs.BlockLemmas.{AreBlocks, run_more, IsReached, nothi
 use Rattle.proof_world.proofs.DeliveredLemmas.{Delivering, delivering, stands_along}
 use Rattle.proof_world.proofs.ConnectsLemmas.{asks_rules, connects_first}
 use Rattle.proof_world.proofs.NextLemmas.{one_trace, in_bytes, Reaches, reaches}
-use Rattle.proof_world.specs.Few.{RunNumbersFew}
-use Rattle.proof_world.proofs.FewRunLemmas.{few_along, few_along_run}
+use Rattle.proof_world.specs.Few.{most_fragments, one_if, ordered_on, UsesFew, LogUsesFew}
+use Rattle.proof_world.proofs.UsedCallLemmas.{most_both}
 use Rattle.proof_world.proofs.WindowsKeptLemmas.{AllAreReceived, keeps, keeps_requests}
 
 -- ---- no association is over
@@ -121,6 +123,41 @@ few_performed x log early late n is small =
     let both = ap (λ (es : List (Event (List ℕ))). performed_in es) (flat_map-append (emitted_events_by x) early late) in
     let sum = performed_both (emitted_events x early) (emitted_events x late) in
     omega (arith, parts, both, sum, small)
+
+-- how many numbers an end uses at most
+abbrev pub used_in : (x : Bool) → List (Bool × EndAction) → Pair → ℕ
+used_in x trace c = most_fragments (accepted x trace c) + length (given_up x trace c)
+
+abbrev used_by : End → List Entry → ℕ
+used_by x log = most_fragments (accepted_messages x log) + length (observations.given_up x log)
+
+used_as : (x : End) (log : List Entry) (os : List AcceptedMessage) (places : List ℕ) → accepted_messages x log ≡ os → given_up_places x log ≡ places → most_fragments os + length places < 32000
+    → used_by x log < 32000
+used_as x log os places offers gone small =
+    let sizes : length (given_up_places x log) ≡ length (observations.given_up x log) = length-map (observations.given_up x log) (λ (g : GivenUp). g.number) in
+    omega (arith, small, ap (λ (l : List AcceptedMessage). most_fragments l) offers, ap (λ (l : List ℕ). length l) gone, sizes)
+
+ordered_few : (stream : ℕ) (os : List AcceptedMessage) → ordered_on stream os ≤ most_fragments os
+ordered_few stream [] = omega arith
+ordered_few stream (o ∷ os) = at_most_one ((o.message.stream == stream) && not o.options.unordered) (ordered_few stream os)
+  where
+    at_most_one : (b : Bool) → ordered_on stream os ≤ most_fragments os → one_if b + ordered_on stream os ≤ most_fragments (o ∷ os)
+    at_most_one true h = omega (arith, h)
+    at_most_one false h = omega (arith, h)
+
+few_used : (x : End) (log early late : List Entry) → log ≡ early ++ late → used_by x log < 32000 → performed_in (emitted_events x early) < 2 ^ 32 - 1 → UsesFew x early
+few_used x log early late is small resets =
+    let offers : accepted_messages x log ≡ accepted_messages x early ++ accepted_messages x late = ap (λ (l : List Entry). accepted_messages x l) is ∙ flat_map-append (accepted_messages_by x) early late in
+    let sum : most_fragments (accepted_messages x log) ≡ most_fragments (accepted_messages x early) + most_fragments (accepted_messages x late) =
+    ap (λ (os : List AcceptedMessage). most_fragments os) offers ∙ most_both (accepted_messages x early) (accepted_messages x late) in
+    let gone = ap (λ (l : List Entry). length (observations.given_up x l)) is in
+    let both = ap (λ (gs : List GivenUp). length gs) (flat_map-append (observations.given_up_by x) early late) in
+    let sizes = length-append (observations.given_up x early) (observations.given_up x late) in
+    record {
+      fragments = omega (arith, small, sum, gone, both, sizes);
+      messages = λ stream. omega (arith, small, sum, ordered_few stream (accepted_messages x early));
+      resets = resets;
+    }
 
 -- ---- a trace, and its world
 
@@ -213,14 +250,12 @@ module _ (a b : Options) (draws_a draws_b : Stream) (word_of_a word_of_b : List 
     }
 
     -- and few numbers are used
-    pub numbers_few : AllAreReceived trace → delivery.IsInBounds trace first_pair → few_along trace first_pair ≡ true → RunNumbersFew actions first_world there reached.runs
-    numbers_few received k h =
-        let b : WorldIsInBounds actions first_world there reached.runs = bounds received k in
-        record {
-          numbers = few_along_run word_of_a word_of_b actions trace first_world there first_pair fit none are reached.runs small first_both h;
-          resets = b.resets.few;
-          accepted = b.few;
-        }
+    used_there : ((x : Bool) → used_in x trace first_pair < 32000) → (x : End) → used_by x there.log < 32000
+    used_there h A = used_as A there.log _ _ (shows_all.offers_are A) (shows_all.given_up_are A) (h true)
+    used_there h B = used_as B there.log _ _ (shows_all.offers_are B) (shows_all.given_up_are B) (h false)
+
+    pub log_uses_few : delivery.IsInBounds trace first_pair → ((x : Bool) → used_in x trace first_pair < 32000) → LogUsesFew there.log
+    log_uses_few k h x early late is stands = few_used x there.log early late is (used_there h x) ((resets_kept k.resets).few x early late is stands)
 
 -- ---- in one record
 
@@ -238,7 +273,7 @@ pub record Shown (actions : List Action) (trace : List (Bool × EndAction)) (c :
   pub over : (x : End) → times_ended x world.log ≡ 0
   pub follows : (rest : List Action) → actions ≡ CallOf A Connect ∷ rest → list_any asks_rules rest ≡ false → WorldKeepsRules world
   pub bounds : AllAreReceived trace → delivery.IsInBounds trace c → WorldIsInBounds actions (initial_world origin) world reachable.runs
-  pub few : AllAreReceived trace → delivery.IsInBounds trace c → few_along trace c ≡ true → RunNumbersFew actions (initial_world origin) world reachable.runs
+  pub few : delivery.IsInBounds trace c → ((x : Bool) → used_in x trace c < 32000) → LogUsesFew world.log
   pub rests : IsAtRest (run trace c).a → is_at_rest A world ≡ true
 
 pub shown : (a b : Options) (draws_a draws_b : Stream) (word_of_a word_of_b : List ℕ → ℕ) (actions : List Action) (trace : List (Bool × EndAction))
@@ -265,6 +300,6 @@ shown a b draws_a draws_b f g actions trace valid_a valid_b fits_a fits_b fit no
       over = over a b draws_a draws_b f g actions trace valid_a valid_b fits_a fits_b fit none are bytes follows not_ended;
       follows = λ rest is quiet. connects_first rest from r.world refl quiet (subst (λ (l : List Action). Runs l from r.world) is r.runs);
       bounds = bounds a b draws_a draws_b f g actions trace valid_a valid_b fits_a fits_b fit none are bytes follows not_ended;
-      few = numbers_few a b draws_a draws_b f g actions trace valid_a valid_b fits_a fits_b fit none are bytes follows not_ended;
+      few = log_uses_few a b draws_a draws_b f g actions trace valid_a valid_b fits_a fits_b fit none are bytes follows not_ended;
       rests = at_rest_a a b draws_a draws_b f g actions trace valid_a valid_b fits_a fits_b fit none are bytes;
     }

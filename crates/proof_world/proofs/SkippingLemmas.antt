@@ -1,5 +1,7 @@
 -- The run of a world in which a message is skipped: its trace, computed, is that of a world.
-use Rattle.std.proofs.Common.{◌≡◌, Bool, true, List, map, drop, All, refl, sym, ap, subst, ◌∙◌}
+use Rattle.std.proofs.Common.{◌≡◌, Bool, true, false, List, map, drop, All, refl, sym, ap, subst, ◌∙◌}
+use Rattle.std.specs.Prelude.{nat_lt}
+use Rattle.std.proofs.lemmas.Bool.{ltb-true}
 use Rattle.rand_core.specs.Stream.{next_u32, next_u64}
 use Rattle.sctp_wire.specs.Field.{be16, be32, be64}
 use Rattle.sctp_wire.specs.Serialize.{padded_item, inner_items}
@@ -25,8 +27,7 @@ use Rattle.proof_world.specs.Traces.{AreActionsOf}
 use Rattle.proof_world.specs.Skipping.{one_is_lost, OneIsSkipped}
 use Rattle.proof_world.specs.Worlds.{BothEmitBytes}
 use Rattle.proof_world.proofs.DeliveredLemmas.{offers_accepted}
-use Rattle.proof_world.proofs.FewRunLemmas.{few_streams, few_in, is_few, both_few, few_along}
-use Rattle.proof_world.proofs.ShownLemmas.{Shown, shown}
+use Rattle.proof_world.proofs.ShownLemmas.{used_in, Shown, shown}
 use Rattle.proof_world.proofs.ComputedLemmas.{no_sum, actions_of, is_there, are_there, actions_are, are_small, all_small, all_true, fits_defaults, each_fits, text_fits}
 use Rattle.proof_pair.proofs.OpensLemmas.{given_defaults}
 
@@ -47,9 +48,10 @@ small_b : all_small (map (as_written no_sum) (emitted_packets last.b)) ≡ true
 unfolding all_small are_small packet_bytes header_bytes next_u32 next_u64 be16 be32 be64 padded_item inner_items parameter_value cause_value cause_text join_texts chunk_bytes chunks_bytes chunk_value data_value idata_value init_fields block_bytes sack_value skip_bytes forward_value cookie_bytes capability_bytes cookie_from read_cookie tick_timers
 small_b = refl
 
-few_computed : few_along delivery.one_is_lost at_first ≡ true
-unfolding few_along both_few is_few few_in few_streams next_u32 next_u64 be16 be32 be64 padded_item inner_items parameter_value cause_value cause_text join_texts chunk_bytes chunks_bytes chunk_value data_value idata_value init_fields block_bytes sack_value skip_bytes forward_value cookie_bytes capability_bytes cookie_from read_cookie tick_timers
-few_computed = refl
+few_computed : (x : Bool) → nat_lt (used_in x delivery.one_is_lost at_first) 32000 ≡ true
+unfolding next_u32 next_u64 be16 be32 be64 padded_item inner_items parameter_value cause_value cause_text join_texts chunk_bytes chunks_bytes chunk_value data_value idata_value init_fields block_bytes sack_value skip_bytes forward_value cookie_bytes capability_bytes cookie_from read_cookie tick_timers
+few_computed true = refl
+few_computed false = refl
 
 -- ---- the world
 
@@ -81,7 +83,7 @@ one_skipped_there =
       reachable = s.reachable;
       undisturbed = record { follows = s.follows (drop 1 one_is_lost) refl refl; stands = s.over };
       bounds = s.bounds refl one_skipped.bounds;
-      few = s.few refl one_skipped.bounds few_computed;
+      few = s.few one_skipped.bounds (λ x. ltb-true (used_in x delivery.one_is_lost at_first) 32000 (few_computed x));
       accepts = offers_accepted A s.world.log ∙ (ap (map (λ (o : AcceptedMessage). o.message)) s.offers_a ∙ one_skipped.accepts);
       readies = s.ready_b ∙ one_skipped.readies;
       gives_up = s.given_up_a ∙ one_skipped.gives_up;

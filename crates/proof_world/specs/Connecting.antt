@@ -1,7 +1,7 @@
 -- Runs of worlds, computed, in which both ends connect. So agreement speaks of something, and so does independence: all that they ask holds.
 use Rattle.spec_world.specs.World.{World}
 use Rattle.proof_world.specs.FirstRun.{opening, IsOpen}
-use Rattle.proof_world.specs.Reachable.{Origin, IsReachable}
+use Rattle.proof_world.specs.Reachable.{Origin, initial_world, IsReachable}
 use Rattle.proof_world.specs.Agreed.{EachEndDrawsDistinctTags}
 use Rattle.proof_world.specs.Alike.{TwoOrigins, first_origin, second_origin, AreComparable}
 
@@ -10,7 +10,7 @@ pub record EndsConnect : Type 0 where
   pub origin : Origin
   pub world : World
   pub reachable : IsReachable origin opening world
-  pub tags : EachEndDrawsDistinctTags origin opening
+  pub tags : EachEndDrawsDistinctTags opening (initial_world origin) world reachable.runs
   pub are_open : IsOpen world
 
 -- two such worlds, whose ends draw other words, can be compared

@@ -1,32 +1,33 @@
--- A run in which few numbers are used: no number on the wire can be read as another one, whatever is lost, delayed or repeated.
-use Rattle.std.specs.Prelude.{◌≡◌, ℕ, ◌+◌, ◌-◌, ◌^◌, ◌<◌, ◌≤◌, List, ◌++◌, length, ⊤}
-use Rattle.sctp_serial.specs.Unwrapped.{origin}
-use Rattle.sctp_tx_queue.specs.SendQueue.{Queue, stream}
-use Rattle.sctp_tx_outstanding.specs.OutstandingData.{next_number}
-use Rattle.spec_endpoint.specs.Association.{Tcb, State, Closed, CookieWait, Open}
+-- A run in which few numbers are used: no number on the wire can be read as another one, whatever is lost, delayed or repeated. All is
+-- read off the log.
+use Rattle.std.specs.Prelude.{◌≡◌, ℕ, ◌+◌, ◌-◌, ◌^◌, ◌<◌, ◌==◌, ◌&&◌, not, Bool, true, false, List, [], ◌∷◌, ◌++◌, length}
+use Rattle.proof_delivery.specs.Accepted.{AcceptedMessage}
 use Rattle.proof_delivery.specs.Answered.{performed_in}
-use Rattle.spec_world.specs.Observations.{End, Entry}
-use Rattle.spec_world.specs.World.{World, Action, Runs}
+use Rattle.spec_world.specs.Observations.{End, Entry, given_up}
 use Rattle.proof_world.specs.Consistent.{NoEndingIsLogged}
-use Rattle.proof_world.specs.Delivered.{AlongRun, accepted_messages, emitted_events}
+use Rattle.proof_world.specs.Delivered.{accepted_messages, emitted_events}
 
--- so far fewer than 2^30 fragments, and on each stream fewer than 32,000 ordered messages; and no more items are kept
-pub record NumbersFew (q : Queue) (t : Tcb) : Type 0 where
-  pub fragments : next_number t.sender.outstanding.items < origin + 2 ^ 30
-  pub items : length t.sender.outstanding.items.kept ≤ 2 ^ 30
-  pub messages : (id : ℕ) → (stream id q.streams).next_ordered_mid < origin + 32000
+-- as many fragments at most take these messages: each has a byte at least
+abbrev pub most_fragments : List AcceptedMessage → ℕ
+most_fragments [] = 0
+most_fragments (o ∷ os) = length o.message.payload + 1 + most_fragments os
 
-abbrev pub AreFew : State → Queue → Type 0
-AreFew Closed q = ⊤
-AreFew (CookieWait tag first t1) q = ⊤
-AreFew (Open phase t) q = NumbersFew q t
+abbrev pub one_if : Bool → ℕ
+one_if true = 1
+one_if false = 0
 
-pub record WorldNumbersFew (w : World) : Type 0 where
-  pub a : AreFew w.a.socket.endpoint_state.state w.a.socket.endpoint_state.context.queue
-  pub b : AreFew w.b.socket.endpoint_state.state w.b.socket.endpoint_state.context.queue
+-- how many of them are ordered, on this stream
+abbrev pub ordered_on : (stream : ℕ) → List AcceptedMessage → ℕ
+ordered_on stream [] = 0
+ordered_on stream (o ∷ os) = one_if ((o.message.stream == stream) && not o.options.unordered) + ordered_on stream os
+
+-- So far: the bytes and the messages that the end accepted, with one more for each that it gave up, which may end with a fragment without
+-- bytes; ordered messages of each stream; and how often a reset was performed.
+pub record UsesFew (x : End) (log : List Entry) : Type 0 where
+  pub fragments : most_fragments (accepted_messages x log) + length (given_up x log) < 2 ^ 30
+  pub messages : (stream : ℕ) → ordered_on stream (accepted_messages x log) < 32000
+  pub resets : performed_in (emitted_events x log) < 2 ^ 32 - 1
 
 -- until an end first emits that an association is over
-pub record RunNumbersFew (actions : List Action) (w v : World) (runs : Runs actions w v) : Type 0 where
-  pub numbers : AlongRun (λ u. NoEndingIsLogged u.log → WorldNumbersFew u) actions w v runs
-  pub resets : (x : End) (early late : List Entry) → v.log ≡ early ++ late → NoEndingIsLogged early → performed_in (emitted_events x early) < 2 ^ 32 - 1
-  pub accepted : (x : End) (early late : List Entry) → v.log ≡ early ++ late → NoEndingIsLogged early → length (accepted_messages x early) < 2 ^ 32
+abbrev pub LogUsesFew : List Entry → Type 0
+LogUsesFew log = (x : End) (early late : List Entry) → log ≡ early ++ late → NoEndingIsLogged early → UsesFew x early

@@ -8,6 +8,7 @@ pub mod Delivered
 pub mod Composed
 pub mod Few
 pub mod Justified
+pub mod Draws
 pub mod Agreed
 pub mod Visible
 pub mod Pairs

@@ -10,7 +10,7 @@ use Rattle.proof_world.specs.FirstRun.{opening}
 use Rattle.proof_world.specs.Reachable.{Origin, IsReachable, initial_world}
 use Rattle.proof_world.specs.Consistent.{IsUndisturbed}
 use Rattle.proof_world.specs.Delivered.{message_epochs, emitted_events, WorldIsInBounds}
-use Rattle.proof_world.specs.Few.{RunNumbersFew}
+use Rattle.proof_world.specs.Few.{LogUsesFew}
 
 -- A message is sent; its stream is reset twice at once, and another message is accepted. The second call finds the stream waiting, and
 -- raises no epoch.
@@ -27,7 +27,7 @@ pub record OneIsReset : Type 0 where
   pub reachable : IsReachable origin one_is_reset world
   pub undisturbed : IsUndisturbed world
   pub bounds : WorldIsInBounds one_is_reset (initial_world origin) world reachable.runs
-  pub few : RunNumbersFew one_is_reset (initial_world origin) world reachable.runs
+  pub few : LogUsesFew world.log
   pub accepts : accepted A world.log ≡ text 97 ∷ text 98 ∷ []
   pub epochs : message_epochs A world.log all_open ≡ 0 ∷ 1 ∷ []
   pub readies : ready B world.log ≡ text 97 ∷ text 98 ∷ []

@@ -9,7 +9,7 @@ use Rattle.proof_world.specs.FirstRun.{opening}
 use Rattle.proof_world.specs.Reachable.{Origin, IsReachable, initial_world}
 use Rattle.proof_world.specs.Consistent.{IsUndisturbed}
 use Rattle.proof_world.specs.Delivered.{given_up_places, reported, WorldIsInBounds}
-use Rattle.proof_world.specs.Few.{RunNumbersFew}
+use Rattle.proof_world.specs.Few.{LogUsesFew}
 
 -- the packet of the second never comes; once T3-rtx expires, a forward point passes it
 abbrev pub one_is_lost : List Action
@@ -25,7 +25,7 @@ pub record OneIsSkipped : Type 0 where
   pub reachable : IsReachable origin one_is_lost world
   pub undisturbed : IsUndisturbed world
   pub bounds : WorldIsInBounds one_is_lost (initial_world origin) world reachable.runs
-  pub few : RunNumbersFew one_is_lost (initial_world origin) world reachable.runs
+  pub few : LogUsesFew world.log
   pub accepts : accepted A world.log ≡ text 97 ∷ text 98 ∷ text 99 ∷ []
   pub readies : ready B world.log ≡ text 97 ∷ text 99 ∷ []
   pub gives_up : given_up_places A world.log ≡ 1 ∷ []

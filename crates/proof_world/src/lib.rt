@@ -63,8 +63,8 @@ pub fn worlds_are_consistent()
 /// at its back. Of the others, an ordered one that isn't ready, while a later one of its stream is, was given up, and the log names
 /// it (RFC 3758 section 3.5). A lifecycle id that the log reports as delivered is that of a message that is ready. And between events,
 /// where nothing is queued at the sender and it keeps no item, each message that it accepted is ready or was given up. The bounds
-/// are read off the log and the values of the sockets between events: those of `messages_are_delivered` of `proof_delivery`. A run in which few
-/// numbers are used keeps them.
+/// are read off the log and the values of the sockets between events: those of `messages_are_delivered` of `proof_delivery`. A run whose log
+/// uses few numbers keeps them (`specs/Few.antt`).
 ///
 /// Streams may be reset (RFC 6525). By the log alone, a call of reset that is answered Ok begins the next epoch of each open stream that it
 /// names, and the stream is open again once its end emits that it was reset. Each message becomes ready in its epoch: that lies between

@@ -14,8 +14,8 @@ ghost use Rattle.proof_world.specs.Agreed.{WorldAgrees, EachEndDrawsDistinctTags
 ghost use Rattle.proof_world.specs.Composed.{Composes};
 ghost use Rattle.proof_world.specs.Consistent.{WorldKeepsRules};
 ghost use Rattle.proof_world.specs.Delivered.{WorldDelivers};
-ghost use Rattle.proof_world.specs.Few.{RunNumbersFew};
-ghost use Rattle.proof_world.specs.Reachable.{Origin, origin, IsReachable, Continues};
+ghost use Rattle.proof_world.specs.Few.{LogUsesFew};
+ghost use Rattle.proof_world.specs.Reachable.{Origin, origin, initial_world, IsReachable, Continues};
 ghost use Rattle.proof_awake.specs.Worlds.{EndsAreAwake};
 ghost use Rattle.sctp_network_side.specs.SideView.{action_of, end_tree, entry_tree, side_in};
 ghost use Rattle.sctp_network.specs.WorldView.{world_of};
@@ -109,8 +109,8 @@ impl<R: Rng + Drop, C: Checksum + Drop> World<R, C> {
     }
 
     /// A new world, and what these events make of it: `World::new`, and then `run`. What the clauses conclude rests on what is handed in
-    /// here: `delivers` gives the one run of these events from this new world. Its premises speak of that run, by its log and by how many
-    /// numbers each end has used between events; `composes` has it for longer runs, by windows.
+    /// here: `delivers` gives the one run of these events from this new world. Its premises speak of the log, and of the packets that
+    /// it numbers; `composes` has it for longer runs, by windows.
     pub fn after(
         alloc: Global,
         options_a: &Options,
@@ -126,13 +126,14 @@ impl<R: Rng + Drop, C: Checksum + Drop> World<R, C> {
         ensures delivers { IfOk result (λ w.
             let first = fresh_world (options_of options_a.now) (options_of options_b.now) (R.stream rng_a) (R.stream rng_b) (C.word_of checksum_a) (C.word_of checksum_b) in
             let last = world_of R.stream C.word_of w in (runs : Runs (map action_of events.now) first last)
-            × (WorldKeepsRules last → RunNumbersFew (map action_of events.now) first last runs → (x : observed.End) → WorldDelivers x (map action_of events.now) first last runs)) }
+            × (WorldKeepsRules last → LogUsesFew last.log → (x : observed.End) → WorldDelivers x (map action_of events.now) first last runs)) }
         ensures composes { IfOk result (λ w.
             let o = origin (options_of options_a.now) (options_of options_b.now) (R.stream rng_a) (R.stream rng_b) (C.word_of checksum_a) (C.word_of checksum_b) in
             (l : IsReachable o (map action_of events.now) (world_of R.stream C.word_of w)) × Composes o (map action_of events.now) (world_of R.stream C.word_of w) l.runs) }
-        ensures agrees { IfOk result (λ w. EachEndDrawsDistinctTags
-            (origin (options_of options_a.now) (options_of options_b.now) (R.stream rng_a) (R.stream rng_b) (C.word_of checksum_a) (C.word_of checksum_b)) (map action_of events.now)
-            → WorldAgrees (world_of R.stream C.word_of w).log) }
+        ensures agrees { IfOk result (λ w.
+            let first = fresh_world (options_of options_a.now) (options_of options_b.now) (R.stream rng_a) (R.stream rng_b) (C.word_of checksum_a) (C.word_of checksum_b) in
+            let last = world_of R.stream C.word_of w in (runs : Runs (map action_of events.now) first last)
+            × (EachEndDrawsDistinctTags (map action_of events.now) first last runs → WorldAgrees last.log)) }
         ensures works { IfOk result (λ w. w.has_failed ≡ false) }
         ensures stopped { IfErr result (λ e. e ≡ WorldError.NoSuchPacket → (v : table.World) × RunsUpToDisabled (map action_of events.now)
             (fresh_world (options_of options_a.now) (options_of options_b.now) (R.stream rng_a) (R.stream rng_b) (C.word_of checksum_a) (C.word_of checksum_b)) v) }
@@ -364,8 +365,8 @@ pub fn step<R: Rng, C: Checksum>(world: &mut World<R, C>, event: &Event) -> Resu
     ensures nothing_lacks { IfErr result (λ e. ContinuesFirstRun (action_of event.now ∷ []) (world_of R.stream C.word_of world.old) → e ≡ WorldError.Memory) }
     ensures reachable { OnOk result (Continues (action_of event.now ∷ []) (world_of R.stream C.word_of world.old) (world_of R.stream C.word_of world.new)) }
     ensures composes { (o : Origin) (actions : List Action) (l : IsReachable o actions (world_of R.stream C.word_of world.new)) → Composes o actions (world_of R.stream C.word_of world.new) l.runs }
-    ensures agrees { (o : Origin) (actions : List Action) → IsReachable o actions (world_of R.stream C.word_of world.new) → EachEndDrawsDistinctTags o actions
-        → WorldAgrees (world_of R.stream C.word_of world.new).log }
+    ensures agrees { (o : Origin) (actions : List Action) (l : IsReachable o actions (world_of R.stream C.word_of world.new))
+        → EachEndDrawsDistinctTags actions (initial_world o) (world_of R.stream C.word_of world.new) l.runs → WorldAgrees (world_of R.stream C.word_of world.new).log }
     ensures awake { (o : Origin) (actions : List Action) → IsReachable o actions (world_of R.stream C.word_of world.new) → EndsAreAwake (world_of R.stream C.word_of world.new) }
 {
     let a = world.sent(End::A);
@@ -395,8 +396,8 @@ pub fn run<R: Rng, C: Checksum>(world: &mut World<R, C>, events: &[Event]) -> Re
     ensures stopped { IfErr result (λ e. e ≡ WorldError.NoSuchPacket → (k : RunsUpToDisabled (map action_of events.now) (world_of R.stream C.word_of world.old) (world_of R.stream C.word_of world.new))
         × Continues k.before (world_of R.stream C.word_of world.old) (world_of R.stream C.word_of world.new)) }
     ensures composes { (o : Origin) (actions : List Action) (l : IsReachable o actions (world_of R.stream C.word_of world.new)) → Composes o actions (world_of R.stream C.word_of world.new) l.runs }
-    ensures agrees { (o : Origin) (actions : List Action) → IsReachable o actions (world_of R.stream C.word_of world.new) → EachEndDrawsDistinctTags o actions
-        → WorldAgrees (world_of R.stream C.word_of world.new).log }
+    ensures agrees { (o : Origin) (actions : List Action) (l : IsReachable o actions (world_of R.stream C.word_of world.new))
+        → EachEndDrawsDistinctTags actions (initial_world o) (world_of R.stream C.word_of world.new) l.runs → WorldAgrees (world_of R.stream C.word_of world.new).log }
     ensures awake { (o : Origin) (actions : List Action) → IsReachable o actions (world_of R.stream C.word_of world.new) → EndsAreAwake (world_of R.stream C.word_of world.new) }
 {
     let a = world.sent(End::A);

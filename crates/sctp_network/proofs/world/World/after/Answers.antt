@@ -28,7 +28,7 @@ returns-in-Ok-clause-agrees g c =
     (g.C.Checksum.word_of c.args.checksum_a) (g.C.Checksum.word_of c.args.checksum_b) in
     let last : World = world_of g.R.Rng.stream g.C.Checksum.word_of c.run.new.world in
     let l : IsReachable o (map action_of c.args.events.now) last = c.in-Ok.ensures.reachable o [] c.in_ok-world.ensures.reachable in
-    λ distinct. c.run.ensures.agrees o (map action_of c.args.events.now) l distinct
+    (l.runs, λ distinct. c.run.ensures.agrees o (map action_of c.args.events.now) l distinct)
 
 pub returns-in-Ok-clause-works : goal.returns-in-Ok-clause-works
 returns-in-Ok-clause-works g c = c.in-Ok.ensures.works.1
