@@ -73,8 +73,9 @@ async def main() -> int:
     parser.add_argument("--megabytes", type=int, default=32)
     parser.add_argument("--window", type=int, default=0, metavar="BYTES")
     parser.add_argument("--loud", action="store_true")
-    asked = parser.parse_args()
-    logging.basicConfig(level=logging.INFO if asked.loud else logging.CRITICAL)
+    asked = parser.parse_intermixed_args()
+    logging.basicConfig(level=logging.WARNING if asked.loud else logging.CRITICAL)
+    logging.getLogger("shelfpigeon").setLevel(logging.INFO if asked.loud else logging.CRITICAL)
     bench = Bench(asked.stack == "ours", asked.loud)
     if bench.ours:
         import shelfpigeon
