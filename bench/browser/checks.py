@@ -5,16 +5,29 @@ from __future__ import annotations
 import asyncio
 import itertools
 import random
+import re
+import sys
 import time
+from pathlib import Path
 
-from ends import Box, Pair, Wire, content_of, numbered, until
+from ends import SCRIPT, Box, Pair, Wire, content_of, numbered, until
+
+TOP = Path(__file__).resolve().parents[2]
 
 LARGEST = 262144
 SIZES = [0, 1, 2, 1000, 1191, 1200, 4096, 65535, 65536, 65537, LARGEST - 1, LARGEST]
 LABELS = ["", "chat", "two words", "Zürich 漢字 😀", "l" * 65535]
-RELIABILITY = {"reliable": {}, "0 retransmissions": {"maxRetransmits": 0}, "3 retransmissions": {"maxRetransmits": 3},
-               "50 ms": {"maxPacketLifeTime": 50}, "500 ms": {"maxPacketLifeTime": 500}}  # fmt: skip
-KINDS = {f"{'ordered' if ordered else 'unordered'}, {name}": {"ordered": ordered, **kind} for ordered in (True, False) for name, kind in RELIABILITY.items()}
+RELIABILITY: dict[str, dict] = {
+    "reliable": {},
+    "0 retransmissions": {"maxRetransmits": 0},
+    "3 retransmissions": {"maxRetransmits": 3},
+    "50 ms": {"maxPacketLifeTime": 50},
+    "500 ms": {"maxPacketLifeTime": 500},
+}
+KINDS = {
+    f"{'ordered' if ordered else 'unordered'}, {name}": {"ordered": ordered, **kind}
+    for ordered, (name, kind) in itertools.product((True, False), RELIABILITY.items())
+}
 OPENERS = ("browser", "ours")
 
 
@@ -245,7 +258,8 @@ async def leaving(bench, offerer: str) -> None:
 async def outages(bench, offerer: str) -> None:
     """The wire is cut for three seconds, with messages under way; and for good."""
     async with Pair(bench, offerer) as pair:
-        ours, theirs = await pair.both("x", {}, "ours"), await pair.both("y", {}, "browser")
+        ours = await pair.both("x", {}, "ours")
+        await pair.both("y", {}, "browser")
         going = asyncio.gather(
             ours.compare([(number % 2 == 0, number, 2000) for number in range(200)], 90),
             pair.page.call("sendAndCompare", "y", [(number % 2 == 0, number, 2000) for number in range(200)], 90, timeout=100),
@@ -279,5 +293,39 @@ async def slowness(bench, offerer: str) -> None:
         await asyncio.sleep(0.1)
         time.sleep(3)
         since = time.monotonic()
-        bench.check(await until(lambda: len(box.came) == count, 120) and box.came == list(range(count)), f"all of it comes, {len(box.came)} of {count}")
+        whole = await until(lambda: len(box.came) == count, 120)
+        bench.check(whole and box.came == list(range(count)), f"all of it comes, {len(box.came)} of {count}")
         bench.note("seconds until all is there", time.monotonic() - since)
+
+
+async def examples(bench, offerer: str) -> None:
+    """The lines of python/README.md as they stand there, and examples/python/echo.py with its page."""
+    if offerer == "ours":
+        return
+    (lines,) = re.findall(r"```python\n(.*?)```", (TOP / "python" / "README.md").read_text(), re.S)
+    told: dict = {}
+    exec(lines, told)
+    page = await bench.browser.page(SCRIPT)
+    await page.call("begin")
+    await page.call("open", "x", "x", {}, "compare")
+    await page.call("accept", await told["answer"](await page.call("description", "offer", None)))
+    bench.check(await page.call("untilOpen", "x", 20), "the lines of the README: the channel opens")
+    echoed = await page.call("sendAndCompare", "x", [(True, 1, 100), (False, 2, 100000)], 20)
+    bench.check(echoed["right"] == 2, "the lines of the README: messages come back")
+    await page.close()
+    server = await asyncio.create_subprocess_exec(
+        sys.executable, TOP / "examples" / "python" / "echo.py", "45800", stdout=asyncio.subprocess.PIPE
+    )
+    await server.stdout.readline()
+    page = await bench.browser.page("", "http://127.0.0.1:45800/")
+    said = "document.body.innerText"
+    wait = "(async (text) => { for (let i = 0; i < 400; i++) { if (%s.includes(text)) return true; await new Promise((d) => setTimeout(d, 50)); } return %s; })"
+    wait = wait % (said, said)
+    bench.check(await page.run(wait + "('connected')") is True, "the page of echo.py: connected")
+    await page.run("line.value = 'Zürich 😀'; form.requestSubmit(); 0")
+    bench.check(await page.run(wait + "('echo: Zürich 😀')") is True, "the page of echo.py: an echo")
+    await page.close()
+    server.terminate()
+    printed = (await asyncio.wait_for(server.stdout.read(), 10)).decode()
+    bench.check("chat: Zürich 😀" in printed, "echo.py prints what came")
+    await server.wait()

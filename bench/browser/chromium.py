@@ -20,8 +20,7 @@ FLAGS = [
     "--disable-sync",
     "--disable-background-timer-throttling",
     "--disable-renderer-backgrounding",
-    "--host-resolver-rules=MAP * ~NOTFOUND",  # no name leads anywhere,
-    "--allow-loopback-in-peer-connection",  # and candidates are those of the loopback
+    "--host-resolver-rules=MAP * ~NOTFOUND , EXCLUDE 127.0.0.1",
     "--disable-features=WebRtcHideLocalIpsWithMdns",
     "--remote-debugging-pipe",
 ]
@@ -116,9 +115,9 @@ class Chromium:
             raise PageError(answer["error"]["message"])
         return answer["result"]
 
-    async def page(self, script: str) -> Page:
+    async def page(self, script: str, address: str = "about:blank") -> Page:
         """A new page that has run a script."""
-        target = (await self.call("Target.createTarget", {"url": "about:blank"}))["targetId"]
+        target = (await self.call("Target.createTarget", {"url": address}))["targetId"]
         session = (await self.call("Target.attachToTarget", {"targetId": target, "flatten": True}))["sessionId"]
         page = Page(self, target, session)
         await page.run(script + "\n;0")

@@ -15,7 +15,7 @@ import chromium
 import checks
 import speed
 
-CHECKS = [checks.opening, checks.sizes, checks.many, checks.kinds, checks.closing, checks.leaving, checks.outages, checks.slowness]
+CHECKS = [checks.opening, checks.sizes, checks.many, checks.kinds, checks.closing, checks.leaving, checks.outages, checks.slowness, checks.examples]
 NAMES = [it.__name__ for it in CHECKS]
 
 
@@ -95,7 +95,7 @@ async def main() -> int:
             await speed.negotiated(bench, asked.interleaving)
         for check in CHECKS:
             if check.__name__ in asked.names or not asked.names and not asked.soak:
-                for offerer in [asked.offerer] if asked.offerer else ["browser", "ours"]:
+                for offerer in [asked.offerer] if asked.offerer else checks.OPENERS:
                     await run(bench, check, offerer)
         if "megabytes" in asked.names or not asked.names and not asked.soak:
             await speed.megabytes(bench, asked.megabytes)

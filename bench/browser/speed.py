@@ -90,7 +90,8 @@ async def soak(bench, minutes: float, offerer: str) -> None:
             kind = drawn.choice([it for name, it in KINDS.items() if name.endswith("reliable")] if reliable else list(KINDS.values()))
             opener, name, count = drawn.choice(OPENERS), f"soak {turns}", drawn.choice((1, 10, 100, 300))
             box = await pair.both(name, kind, opener, 60)
-            messages = [(drawn.random() < 0.5, number, drawn.choice((0, 1, 100, 1000, 10000, 60000)) if count < 100 else drawn.randrange(2000)) for number in range(count)]
+            lengths = (0, 1, 100, 1000, 10000, 60000) if count < 100 else range(2000)
+            messages = [(drawn.random() < 0.5, number, drawn.choice(lengths)) for number in range(count)]
             loose = not kind["ordered"] or len(kind) > 1
             if loose:  # what comes back is another matter: it is only to go on
                 for text, number, length in messages:

@@ -48,10 +48,10 @@ async def answer(offer: dict) -> dict:
 
     @end.on("datachannel")
     def opened(channel):
-        print(f"{channel.label}: opened")
+        print(f"{channel.label}: opened", flush=True)
         channel.send("hello from Python")
         channel.on("message", lambda message: reply(channel, message))
-        channel.on("close", lambda: print(f"{channel.label}: closed"))
+        channel.on("close", lambda: print(f"{channel.label}: closed", flush=True))
 
     @end.on("connectionstatechange")
     async def changed():
@@ -65,7 +65,7 @@ async def answer(offer: dict) -> dict:
 
 
 def reply(channel, message) -> None:
-    print(f"{channel.label}: {message}")
+    print(f"{channel.label}: {message}", flush=True)
     channel.send(f"echo: {message}" if isinstance(message, str) else message)
 
 

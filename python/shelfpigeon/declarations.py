@@ -28,13 +28,13 @@ class Sized(ctypes.Structure):
 
     @classmethod
     def known(cls, fields: dict[str, int]) -> dict[str, int]:
-        names = {name for name, _ in cls._fields_} - {"size"}
+        names = {it[0] for it in cls._fields_} - {"size"}
         if unknown := fields.keys() - names:
             raise TypeError(f"{cls.__name__} has no field {sorted(unknown)[0]!r}")
         return fields
 
     def __repr__(self) -> str:
-        values = ", ".join(f"{name}={getattr(self, name)}" for name, _ in self._fields_ if name != "size")
+        values = ", ".join(f"{it[0]}={getattr(self, it[0])}" for it in self._fields_ if it[0] != "size")
         return f"{type(self).__name__}({values})"
 
 

@@ -12,9 +12,9 @@ from dataclasses import dataclass, field
 from types import ModuleType
 from typing import Optional, Union
 
-from aiortc.exceptions import InvalidStateError, OperationError
-from aiortc.rtcdatachannel import RTCDataChannel, RTCDataChannelParameters
-from aiortc.rtcsctptransport import RTCSctpCapabilities, RTCSctpTransport
+from aiortc.exceptions import InvalidStateError, OperationError  # type: ignore[import]
+from aiortc.rtcdatachannel import RTCDataChannel, RTCDataChannelParameters  # type: ignore[import]
+from aiortc.rtcsctptransport import RTCSctpCapabilities, RTCSctpTransport  # type: ignore[import]
 
 from . import events
 from .aio import Driver, webrtc_options
@@ -42,13 +42,17 @@ class SctpTransport(RTCSctpTransport):
     def __init__(self, transport, port: int = 5000) -> None:
         super().__init__(transport, port)
         self._state_name = "new"
-        self._driver: Optional[Driver] = None
+        self._driver: Optional[Driver] = None  # from the start on
         self._of: dict[Channel, RTCDataChannel] = {}
         self._plain: dict[RTCDataChannel, Channel] = {}
         self._waiting: list[RTCDataChannel] = []
         self._buffering: set[RTCDataChannel] = set()
         self._packets: deque[bytes] = deque()
         self._flushing: Optional[asyncio.Task] = None
+
+    def _driven(self) -> Driver:
+        assert self._driver, "the transport hasn't started"
+        return self._driver
 
     @property
     def state(self) -> str:
@@ -136,7 +140,7 @@ class SctpTransport(RTCSctpTransport):
     # packets
 
     async def _handle_data(self, data: bytes) -> None:
-        self._driver.receive(data)
+        self._driven().receive(data)
         await self._flush()
 
     def _send_packet(self, packet: bytes) -> None:
@@ -208,7 +212,7 @@ class SctpTransport(RTCSctpTransport):
     # what RTCDataChannel calls
 
     def _begin(self, mine: RTCDataChannel) -> None:
-        channels = self._driver.channels
+        channels = self._driven().channels
         kind = {"ordered": mine.ordered, "max_retransmissions": mine.maxRetransmits, "lifetime": mine.maxPacketLifeTime}
         if mine.negotiated:
             self._join(mine, channels.negotiate(mine.id, mine.label, mine.protocol, **kind))
@@ -238,7 +242,8 @@ class SctpTransport(RTCSctpTransport):
         channel = self._plain.get(mine)
         if channel is None:
             raise InvalidStateError
-        self._driver.advance()
+        driver = self._driven()
+        driver.advance()
         try:
             channel.send(data)
         except NoChannel:
@@ -249,7 +254,7 @@ class SctpTransport(RTCSctpTransport):
             raise OperationError(str(fault)) from None
         mine._addBufferedAmount(len(data) if isinstance(data, bytes) else len(data.encode()))
         self._buffering.add(mine)
-        self._driver.soon()
+        driver.soon()
 
     def _data_channel_close(self, mine: RTCDataChannel, transmit: bool = True) -> None:
         if mine.readyState in ("closing", "closed"):
@@ -260,13 +265,13 @@ class SctpTransport(RTCSctpTransport):
             mine._setReadyState("closed")
             return
         mine._setReadyState("closing")
-        self._driver.advance()
+        self._driven().advance()
         channel.close()
-        self._driver.soon()
+        self._driven().soon()
 
 
 def use_for(aiortc: ModuleType, **settings) -> None:
     """Has peer connections that are made from now on use this library, with these `Settings`."""
     transport = type("SctpTransport", (SctpTransport,), {"settings": Settings(**settings)})
-    aiortc.rtcpeerconnection.RTCSctpTransport = transport
-    aiortc.RTCSctpTransport = transport
+    setattr(aiortc.rtcpeerconnection, "RTCSctpTransport", transport)
+    setattr(aiortc, "RTCSctpTransport", transport)

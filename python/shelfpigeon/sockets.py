@@ -65,12 +65,16 @@ class Options(OptionsStruct):
 
     def invalid_field(self) -> Optional[str]:
         """The name of the first field that is out of its bounds, if any is."""
-        place = c_uint32()
-        answer = library().pigeon_check_options_sized(byref(self), sizeof(self), byref(place))
-        if answer != Answer.INVALID_OPTIONS:
-            check(answer)
-            return None
-        return text(Text.OPTION, place.value)
+        return invalid_field(self)
+
+
+def invalid_field(options: OptionsStruct) -> Optional[str]:
+    place = c_uint32()
+    answer = library().pigeon_check_options_sized(byref(options), sizeof(options), byref(place))
+    if answer != Answer.INVALID_OPTIONS:
+        check(answer)
+        return None
+    return text(Text.OPTION, place.value)
 
 
 class Message(NamedTuple):
@@ -102,7 +106,7 @@ class End:
         seed = os.urandom(SEED_SIZE) if seed is None else bytes(seed)
         answer = self._library.pigeon_new_sized(self._at, byref(options), sizeof(options), seed, len(seed))
         if answer == Answer.INVALID_OPTIONS:
-            raise InvalidArgument(answer, f"{text(Text.ANSWER, answer)}: {Options.invalid_field(options)}")
+            raise InvalidArgument(answer, f"{text(Text.ANSWER, answer)}: {invalid_field(options)}")
         check(answer)
 
     def __enter__(self):
@@ -215,7 +219,7 @@ class End:
         check(answer)
         return GivenUp(record.number, Cause(record.cause), record.retransmissions)
 
-    def _borrowed(self, function) -> Optional[Kind]:
+    def _borrowed(self, function) -> Optional[int]:
         """Takes the next event into _event and _lent, and answers its kind."""
         event = self._event
         answer = function(self._at, byref(event), sizeof(event), byref(self._lent))
@@ -236,14 +240,14 @@ class End:
         if kind == Kind.BUFFERED_AMOUNT_LOW:
             return BufferedAmountLow(event.stream)
         if kind in (Kind.ON_ABORTED, Kind.ON_ERROR):
-            told = Aborted if kind == Kind.ON_ABORTED else Reported
-            return told(ErrorKind(event.error), event.cause, self._bytes().decode(errors="replace"))
+            error, cause, said = ErrorKind(event.error), event.cause, self._bytes().decode(errors="replace")
+            return Aborted(error, cause, said) if kind == Kind.ON_ABORTED else Reported(error, cause, said)
         if kind in (Kind.STREAMS_RESET_FAILED, Kind.STREAMS_RESET_PERFORMED, Kind.INCOMING_STREAM_RESET):
             return StreamsReset(Kind(kind), struct.unpack(f"={event.length // 2}H", self._bytes()))
         return Lifecycle(Kind(kind), event.lifecycle)
 
 
-PLAIN = {
+PLAIN: dict[int, type[Connected | Closed | Restarted | TotalBufferedAmountLow]] = {
     Kind.ON_CONNECTED: Connected,
     Kind.ON_CLOSED: Closed,
     Kind.ON_CONNECTION_RESTARTED: Restarted,
