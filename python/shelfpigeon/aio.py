@@ -1,0 +1,447 @@
+# SPDX-License-Identifier: Apache-2.0
+"""Data channels by asyncio: a `Connection` has the clock and the timer of its socket, and holds back who sends more than the peer takes.
+
+    connection = shelfpigeon.aio.open_udp(("127.0.0.1", 5001), ("127.0.0.1", 5002), role=Role.CLIENT)   # an end; UDP alone is for trusted networks
+    await connection.connect()
+    channel = connection.open("chat")
+    await channel.send("hello")
+    async for message in channel: ..
+"""
+from __future__ import annotations
+
+import asyncio
+import logging
+import socket
+import time
+from collections import deque
+from collections.abc import AsyncIterator, Callable
+from typing import Optional, Protocol, Union
+
+from . import events
+from .channels import Channel as PlainChannel
+from .channels import Channels
+from .declarations import OptionsStruct
+from .names import Role, SocketFailed, State
+from .sockets import Options
+
+logger = logging.getLogger(__name__)
+Address = tuple[str, int]
+
+
+def webrtc_options(**fields: int) -> Options:
+    """The options of data channels, with a send queue that is bounded by channel, and not in all."""
+    return Options.for_webrtc(**{"max_send_buffer_size": 2**32 - 1, "per_stream_send_queue_limit": 2**24, **fields})
+
+
+class Driver:
+    """Turns of a socket with channels in the running loop: it has the clock, and the timer by `poll_timeout`. `send` takes each packet, `handle` each
+    other event; `turned` is called behind each turn, and `failed` where the socket has too little memory."""
+
+    def __init__(
+        self,
+        channels: Channels,
+        send: Callable[[bytes], None],
+        handle: Callable[[events.ChannelsEvent], None],
+        failed: Callable[[], None],
+        turned: Callable[[], None] = lambda: None,
+    ):
+        self.channels = channels
+        self._send, self._handle, self._failed, self._turned = send, handle, failed, turned
+        self._loop = asyncio.get_running_loop()
+        self._start = time.monotonic_ns()
+        self._timer: Optional[asyncio.TimerHandle] = None
+        self._due = 0
+        self._planned = self._turning = self._stopped = False
+
+    def advance(self) -> None:
+        """Advances the time: before each call that sends, opens or closes. Behind it comes `soon`."""
+        self.channels.advance_time(time.monotonic_ns() - self._start)
+
+    def receive(self, packet: bytes) -> None:
+        """Takes a packet, and what it brings."""
+        if self._stopped:
+            return
+        try:
+            self.advance()
+            self.channels.handle_input(packet)
+        except SocketFailed:
+            self._fail()
+        else:
+            self.turn()
+
+    def soon(self) -> None:
+        """Has a turn come once the callbacks that are due have run, so that several calls share it."""
+        if not self._planned and not self._stopped:
+            self._planned = True
+            self._loop.call_soon(self._planned_turn)
+
+    def _planned_turn(self) -> None:
+        self._planned = False
+        self.turn()
+
+    def turn(self) -> None:
+        """Takes all that was emitted, and sets the timer."""
+        if self._stopped or self._turning:
+            return
+        self._turning = True
+        try:
+            while not self._stopped and (event := self.channels.next_event()) is not None:
+                if isinstance(event, events.Packet):
+                    self._send(event.data)
+                else:
+                    self._tell(event)
+            self._set_timer()
+        except SocketFailed:
+            self._fail()
+        finally:
+            self._turning = False
+        self._turned()
+
+    def _tell(self, event: events.ChannelsEvent) -> None:
+        try:
+            self._handle(event)
+        except Exception as fault:
+            self._loop.call_exception_handler({"message": f"the owner failed at {type(event).__name__}", "exception": fault})
+
+    def _set_timer(self) -> None:
+        if self._stopped:
+            return
+        due = self.channels.poll_timeout()
+        if self._timer and (due is None or due >= self._due):
+            return  # a turn that comes too early does no harm
+        if self._timer:
+            self._timer.cancel()
+            self._timer = None
+        if due is not None:
+            wait = (due + self._start - time.monotonic_ns()) / 1e9
+            self._due, self._timer = due, self._loop.call_later(max(wait, 0), self._expire)
+
+    def _expire(self) -> None:
+        self._timer = None
+        try:
+            self.advance()
+        except SocketFailed:
+            self._fail()
+        else:
+            self.turn()
+
+    def _fail(self) -> None:
+        self.stop()
+        self._failed()
+
+    def stop(self) -> None:
+        """No turn comes any more. The socket is its maker's to free."""
+        self._stopped = True
+        if self._timer:
+            self._timer.cancel()
+            self._timer = None
+
+
+class Wire(Protocol):
+    """What carries packets. It may lose them."""
+
+    def send(self, packet: bytes) -> None: ...
+
+    def pause_reading(self) -> None: ...
+
+    def resume_reading(self) -> None: ...
+
+    def close(self) -> None: ...
+
+
+class ChannelClosed(ConnectionError):
+    """The channel has been closed, and all that came was received."""
+
+
+class Channel:
+    """A data channel: `send` waits while too much is buffered, `receive` and `async for` take what comes, until it is closed."""
+
+    def __init__(self, connection: Connection, channel: PlainChannel):
+        self._connection = connection
+        self._channel = channel
+        self._came: deque[Union[str, bytes]] = deque()
+        self._news = asyncio.Event()
+        self._room = asyncio.Event()
+        self._opened = asyncio.Event()
+        self._closed = asyncio.Event()
+        channel.buffered_amount_low_threshold = connection.high_water // 2
+
+    id = property(lambda self: self._channel.id)
+    label = property(lambda self: self._channel.label)
+    protocol = property(lambda self: self._channel.protocol)
+    ordered = property(lambda self: self._channel.ordered)
+    max_retransmissions = property(lambda self: self._channel.max_retransmissions)
+    lifetime = property(lambda self: self._channel.lifetime)
+    buffered_amount = property(lambda self: self._channel.buffered_amount)
+    statistics = property(lambda self: self._channel.statistics)
+
+    async def opened(self) -> None:
+        """Waits until the peer has it. Messages may be sent before."""
+        await self._opened.wait()
+        self._alive()
+
+    async def send(self, message: Union[str, bytes]) -> None:
+        """Sends text or bytes, once less than `high_water` is buffered."""
+        self._alive()
+        while self._channel.buffered_amount >= self._connection.high_water:
+            self._room.clear()
+            await self._room.wait()
+            self._alive()
+        self._connection._driver.advance()
+        self._channel.send(message)
+        self._connection._driver.soon()
+
+    async def receive(self) -> Union[str, bytes]:
+        """The next message. ChannelClosed: none comes any more."""
+        while not self._came:
+            self._alive()
+            self._news.clear()
+            await self._news.wait()
+        message = self._came.popleft()
+        self._connection._read(message)
+        return message
+
+    async def __aiter__(self) -> AsyncIterator[Union[str, bytes]]:
+        while True:
+            try:
+                message = await self.receive()
+            except ChannelClosed:
+                return
+            yield message
+
+    def close(self) -> None:
+        """Closes the channel, behind what was sent."""
+        if not self._closed.is_set():
+            self._connection._driver.advance()
+            self._channel.close()
+            self._connection._driver.soon()
+
+    async def wait_closed(self) -> None:
+        await self._closed.wait()
+
+    def _alive(self) -> None:
+        if self._closed.is_set():
+            raise ChannelClosed(f"channel {self.id} is closed")
+
+    def _end(self) -> None:
+        for it in (self._closed, self._news, self._room, self._opened):
+            it.set()
+
+
+class Connection:
+    """An association with data channels over a wire. `packet_received` takes what comes by it.
+
+    Each channel buffers `high_water` bytes, then `Channel.send` waits. With `read_limit` bytes that came and weren't received the wire is told to
+    pause: what it then drops the peer sends again, and slower."""
+
+    def __init__(
+        self,
+        wire: Wire,
+        *,
+        role: Role,
+        options: Optional[OptionsStruct] = None,
+        max_message_size: int = 262144,
+        peer_max_message_size: int = 262144,
+        high_water: int = 1 << 20,
+        read_limit: int = 4 << 20,
+    ):
+        channels = Channels(
+            role,
+            webrtc_options() if options is None else options,
+            max_message_size=max_message_size,
+            peer_max_message_size=peer_max_message_size,
+            max_buffered_amount=2**32 - 1,
+        )
+        self.high_water, self.read_limit = high_water, read_limit
+        self.error: Optional[events.Aborted] = None
+        self._wire, self._paused, self._unread = wire, False, 0
+        self._driver = Driver(channels, wire.send, self._handle, self._end)
+        self._channels: dict[PlainChannel, Channel] = {}
+        self._accepted: deque[Channel] = deque()
+        self._news = asyncio.Event()
+        self._connected, self._closed = asyncio.Event(), asyncio.Event()
+
+    def packet_received(self, packet: bytes) -> None:
+        """Takes a packet that came by the wire."""
+        self._driver.receive(packet)
+
+    async def connect(self) -> None:
+        """Opens the association; both ends may. ConnectionError: it could not be."""
+        if self.socket.state == State.CLOSED:
+            self._driver.advance()
+            self.socket.connect()
+            self._driver.soon()
+        await self.connected()
+
+    async def connected(self) -> None:
+        """Waits until the association is there, whoever opened it."""
+        await self._connected.wait()
+        self._alive()
+
+    @property
+    def socket(self) -> Channels:
+        """The socket: its metrics, its state. What changes it goes by this connection."""
+        return self._driver.channels
+
+    def open(self, label: str, protocol: str = "", **kind) -> Channel:
+        """Opens a channel; `kind` is as of `Channels.open`. Messages may be sent at once."""
+        self._alive()
+        self._driver.advance()
+        channel = self._channel_of(self.socket.open(label, protocol, **kind))
+        self._driver.soon()
+        return channel
+
+    def negotiate(self, id: int, label: str = "", protocol: str = "", **kind) -> Channel:
+        """A channel that both ends have agreed on."""
+        self._alive()
+        channel = self._channel_of(self.socket.negotiate(id, label, protocol, **kind))
+        channel._opened.set()
+        return channel
+
+    async def accept(self) -> Channel:
+        """The next channel that the peer opens."""
+        while not self._accepted:
+            self._alive()
+            self._news.clear()
+            await self._news.wait()
+        return self._accepted.popleft()
+
+    async def __aiter__(self) -> AsyncIterator[Channel]:
+        while True:
+            try:
+                channel = await self.accept()
+            except ConnectionError:
+                return
+            yield channel
+
+    async def close(self, timeout: float = 5) -> None:
+        """Waits until what was sent has arrived, `timeout` seconds at most, and ends the association by an ABORT, at which browsers close their
+        channels: at a SHUTDOWN they don't."""
+        if not self._closed.is_set():
+            until = time.monotonic() + timeout
+            while not self._closed.is_set() and not self.socket.is_at_rest and time.monotonic() < until:
+                await asyncio.sleep(0.01)
+            self.abort()
+        await self._closed.wait()
+
+    def abort(self) -> None:
+        """Ends the association at once."""
+        if not self._closed.is_set():
+            self._driver.advance()
+            self.socket.close()
+            self._driver.turn()
+            self._end()
+
+    async def wait_closed(self) -> None:
+        await self._closed.wait()
+
+    async def __aenter__(self) -> Connection:
+        return self
+
+    async def __aexit__(self, *_) -> None:
+        await self.close()
+
+    def _alive(self) -> None:
+        if self._closed.is_set():
+            raise ConnectionError(self.error.text if self.error else "the association has ended")
+
+    def _channel_of(self, channel: PlainChannel) -> Channel:
+        if channel not in self._channels:
+            self._channels[channel] = Channel(self, channel)
+        return self._channels[channel]
+
+    def _handle(self, event: events.ChannelsEvent) -> None:
+        match event:
+            case events.ChannelMessage(channel, data):
+                mine = self._channel_of(channel)
+                mine._came.append(data)
+                mine._news.set()
+                self._unread += len(data)
+                if self._unread > self.read_limit and not self._paused:
+                    self._paused = True
+                    self._wire.pause_reading()
+            case events.ChannelOpened(channel):
+                if channel not in self._channels:
+                    self._accepted.append(self._channel_of(channel))
+                    self._news.set()
+                self._channels[channel]._opened.set()
+            case events.ChannelBufferedAmountLow(channel):
+                self._channel_of(channel)._room.set()
+            case events.ChannelClosed(channel):
+                self._channel_of(channel)._end()
+                del self._channels[channel]
+            case events.Connected():
+                self._connected.set()
+            case events.Aborted() | events.Closed():
+                self.error = event if isinstance(event, events.Aborted) else None
+                self._end()
+            case events.Reported() | events.ChannelRefused() | events.Restarted():
+                logger.info("%s", event)
+
+    def _read(self, message: Union[str, bytes]) -> None:
+        self._unread -= len(message)
+        if self._paused and self._unread <= self.read_limit // 2:
+            self._paused = False
+            self._wire.resume_reading()
+
+    def _end(self) -> None:
+        self._driver.stop()
+        for channel in list(self._channels.values()):
+            channel._end()
+        for it in (self._connected, self._closed, self._news):
+            it.set()
+        self._wire.close()
+
+
+class UdpWire:
+    """A UDP socket between two addresses. Who sees its packets can forge others: on a network that strangers reach SCTP goes through DTLS."""
+
+    def __init__(self, local: Address, peer: Address):
+        self._loop = asyncio.get_running_loop()
+        self._socket = socket.socket(socket.AF_INET, socket.SOCK_DGRAM)
+        self._socket.setblocking(False)
+        self._socket.bind(local)
+        self._socket.connect(peer)
+        self._receive: Callable[[bytes], None] = lambda packet: None
+
+    def start(self, receive: Callable[[bytes], None]) -> None:
+        self._receive = receive
+        self.resume_reading()
+
+    def _read(self) -> None:
+        for _ in range(16):
+            try:
+                packet = self._socket.recv(65536)
+            except BlockingIOError:
+                return
+            except OSError:
+                continue  # the peer isn't there yet, or any more
+            self._receive(packet)
+            if self._socket.fileno() < 0:
+                return
+
+    def send(self, packet: bytes) -> None:
+        try:
+            self._socket.send(packet)
+        except OSError:
+            pass  # lost: it is sent again in time
+
+    def pause_reading(self) -> None:
+        self._loop.remove_reader(self._socket)
+
+    def resume_reading(self) -> None:
+        if self._socket.fileno() >= 0:
+            self._loop.add_reader(self._socket, self._read)
+
+    def close(self) -> None:
+        if self._socket.fileno() >= 0:
+            self.pause_reading()
+            self._socket.close()
+
+
+def open_udp(local: Address, peer: Address, *, role: Role, **settings) -> Connection:
+    """A connection over UDP between two addresses, with the settings of `Connection`. Then comes its `connect`."""
+    wire = UdpWire(local, peer)
+    connection = Connection(wire, role=role, **settings)
+    wire.start(connection.packet_received)
+    return connection

@@ -1,0 +1,277 @@
+# SPDX-License-Identifier: Apache-2.0
+"""aiortc with this library's SCTP and data channels in the place of its own, over its ICE and DTLS. An application changes one line:
+
+    shelfpigeon.use_for(aiortc)
+"""
+from __future__ import annotations
+
+import asyncio
+import logging
+from collections import deque
+from dataclasses import dataclass, field
+from types import ModuleType
+from typing import Optional, Union
+
+from aiortc.exceptions import InvalidStateError, OperationError  # type: ignore[import]
+from aiortc.rtcdatachannel import RTCDataChannel, RTCDataChannelParameters  # type: ignore[import]
+from aiortc.rtcsctptransport import RTCSctpCapabilities, RTCSctpTransport  # type: ignore[import]
+
+from . import events
+from .aio import Driver, webrtc_options
+from .channels import Channel, Channels
+from .names import MessageTooLarge, NoChannel, QueueFull, Role
+
+logger = logging.getLogger(__name__)
+
+
+@dataclass
+class Settings:
+    """`options` are fields of `Options` that are to have another value, `max_message_size` is the a=max-message-size that is announced, and
+    `max_buffered_amount` what a channel buffers before `send` raises OperationError."""
+
+    max_message_size: int = 262144
+    max_buffered_amount: int = 16777216
+    options: dict[str, int] = field(default_factory=dict)
+
+
+class SctpTransport(RTCSctpTransport):
+    """In the place of aiortc's RTCSctpTransport."""
+
+    settings = Settings()
+
+    def __init__(self, transport, port: int = 5000) -> None:
+        super().__init__(transport, port)
+        self._state_name = "new"
+        self._driver: Optional[Driver] = None  # from the start on
+        self._of: dict[Channel, RTCDataChannel] = {}
+        self._plain: dict[RTCDataChannel, Channel] = {}
+        self._waiting: list[RTCDataChannel] = []
+        self._buffering: set[RTCDataChannel] = set()
+        self._packets: deque[bytes] = deque()
+        self._flushing: Optional[asyncio.Task] = None
+
+    def _driven(self) -> Driver:
+        assert self._driver, "the transport hasn't started"
+        return self._driver
+
+    @property
+    def state(self) -> str:
+        return self._state_name
+
+    @property
+    def is_server(self) -> bool:
+        return self.transport._role == "server"
+
+    @property
+    def socket(self) -> Optional[Channels]:
+        """The socket, once the transport has started: its metrics, its state."""
+        return self._driver.channels if self._driver else None
+
+    @property
+    def maxChannels(self) -> Optional[int]:
+        metrics = self.socket.metrics() if self.socket else None
+        return min(metrics.negotiated_maximum_incoming_streams, metrics.negotiated_maximum_outgoing_streams) if metrics else None
+
+    @classmethod
+    def getCapabilities(cls) -> RTCSctpCapabilities:
+        return RTCSctpCapabilities(maxMessageSize=cls.settings.max_message_size)
+
+    async def start(self, remoteCaps: Optional[RTCSctpCapabilities], remotePort: int) -> None:
+        """Starts once DTLS is there: both ends may connect."""
+        if self._driver or self._state_name == "closed":
+            return
+        settings = self.settings
+        ports = {"local_port": self._local_port, "remote_port": remotePort or 5000}
+        own = {"max_message_size": max(settings.max_message_size, 262144), **ports, **settings.options}
+        channels = Channels(
+            Role.SERVER if self.is_server else Role.CLIENT,
+            webrtc_options(**own),
+            max_message_size=settings.max_message_size,
+            peer_max_message_size=remoteCaps.maxMessageSize if remoteCaps else 65536,
+            max_buffered_amount=settings.max_buffered_amount,
+        )
+        self._state_name = "connecting"
+        self._driver = Driver(channels, self._send_packet, self._handle, self._ended, self._count)
+        self._driver.advance()
+        for channel in self._waiting:
+            self._begin(channel)
+        self._waiting.clear()
+        self.transport._register_data_receiver(self)
+        self.transport.on("statechange", self._transport_changed)
+        channels.connect()
+        self._driver.turn()
+
+    async def stop(self) -> None:
+        """Ends the association by an ABORT, at which browsers close their channels."""
+        if self._driver and self._state_name != "closed":
+            self._driver.advance()
+            self._driver.channels.close()
+            self._driver.turn()
+            await self._flush()
+        self._ended()
+
+    async def shutdown(self) -> None:
+        """Ends the association once nothing is in flight. Browsers leave their channels open then."""
+        if self._driver and self._state_name == "connected":
+            self._driver.advance()
+            self._driver.channels.shutdown()
+            self._driver.turn()
+            await self._flush()
+
+    def _transport_changed(self) -> None:
+        if self.transport.state in ("closed", "failed"):
+            self._ended()
+
+    def _ended(self) -> None:
+        if self._state_name == "closed":
+            return
+        self._state_name = "closed"
+        if self._driver:
+            self._driver.stop()
+            self.transport._unregister_data_receiver(self)
+        for channel in [*self._waiting, *self._plain]:
+            channel._setReadyState("closed")
+        self._waiting.clear()
+        self._plain.clear()
+        self._of.clear()
+        self.emit("statechange")
+        self.remove_all_listeners()
+
+    # packets
+
+    async def _handle_data(self, data: bytes) -> None:
+        self._driven().receive(data)
+        await self._flush()
+
+    def _send_packet(self, packet: bytes) -> None:
+        self._packets.append(packet)
+        if self._flushing is None:
+            self._flushing = asyncio.ensure_future(self._flush())
+
+    async def _flush(self) -> None:
+        while self._packets:
+            try:
+                await self.transport._send_data(self._packets.popleft())
+            except ConnectionError:
+                self._packets.clear()
+        self._flushing = None
+
+    # events
+
+    def _handle(self, event: events.ChannelsEvent) -> None:
+        match event:
+            case events.ChannelMessage(channel, data):
+                self._of[channel].emit("message", data)
+            case events.ChannelOpened(channel) if channel in self._of:
+                self._of[channel]._setReadyState("open")
+            case events.ChannelOpened(channel):
+                self.emit("datachannel", self._taken(channel))
+            case events.ChannelClosed(channel):
+                mine = self._of.pop(channel)
+                del self._plain[mine]
+                mine._setReadyState("closed")
+            case events.Connected():
+                self._state_name = "connected"
+                self.emit("statechange")
+                for mine in list(self._plain):
+                    if mine.negotiated:
+                        mine._setReadyState("open")
+            case events.Closed() | events.Aborted():
+                logger.info("%s", event)
+                self._ended()
+            case events.Reported() | events.ChannelRefused() | events.Restarted():
+                logger.info("%s", event)
+
+    def _taken(self, channel: Channel) -> RTCDataChannel:
+        """A channel that the peer opened."""
+        parameters = RTCDataChannelParameters(
+            label=channel.label,
+            protocol=channel.protocol,
+            ordered=channel.ordered,
+            maxRetransmits=channel.max_retransmissions,
+            maxPacketLifeTime=channel.lifetime,
+            id=channel.id,
+        )
+        mine = RTCDataChannel(self, parameters, False)
+        self._join(mine, channel)
+        mine._setReadyState("open")
+        return mine
+
+    def _join(self, mine: RTCDataChannel, channel: Channel) -> None:
+        self._of[channel], self._plain[mine] = mine, channel
+        mine._setId(channel.id)
+
+    def _count(self) -> None:
+        """Has each bufferedAmount follow what waits, by which bufferedamountlow is emitted."""
+        for mine in list(self._buffering):
+            waits = self._plain[mine].buffered_amount if mine in self._plain else 0
+            if not waits:
+                self._buffering.discard(mine)
+            mine._addBufferedAmount(waits - mine.bufferedAmount)
+
+    # what RTCDataChannel calls
+
+    def _begin(self, mine: RTCDataChannel) -> None:
+        channels = self._driven().channels
+        kind = {"ordered": mine.ordered, "max_retransmissions": mine.maxRetransmits, "lifetime": mine.maxPacketLifeTime}
+        if mine.negotiated:
+            self._join(mine, channels.negotiate(mine.id, mine.label, mine.protocol, **kind))
+            if self._state_name == "connected":
+                mine._setReadyState("open")
+        else:
+            self._join(mine, channels.open(mine.label, mine.protocol, **kind))
+
+    def _data_channel_open(self, mine: RTCDataChannel) -> None:
+        if self._state_name == "closed":
+            raise InvalidStateError
+        if len(mine.label.encode()) > 65535 or len(mine.protocol.encode()) > 65535:
+            raise ValueError("a label or a protocol has at most 65,535 bytes")
+        if mine.negotiated and mine.id in [it.id for it in [*self._waiting, *self._plain]]:
+            raise ValueError(f"there is a channel {mine.id} already")
+        if self._driver is None:
+            self._waiting.append(mine)
+            return
+        self._driver.advance()
+        self._begin(mine)
+        self._driver.soon()
+
+    def _data_channel_add_negotiated(self, mine: RTCDataChannel) -> None:
+        self._data_channel_open(mine)
+
+    def _data_channel_send(self, mine: RTCDataChannel, data: Union[str, bytes]) -> None:
+        channel = self._plain.get(mine)
+        if channel is None:
+            raise InvalidStateError
+        driver = self._driven()
+        driver.advance()
+        try:
+            channel.send(data)
+        except NoChannel:
+            raise InvalidStateError from None
+        except MessageTooLarge as fault:
+            raise ValueError(str(fault)) from None
+        except QueueFull as fault:
+            raise OperationError(str(fault)) from None
+        mine._addBufferedAmount(len(data) if isinstance(data, bytes) else len(data.encode()))
+        self._buffering.add(mine)
+        driver.soon()
+
+    def _data_channel_close(self, mine: RTCDataChannel, transmit: bool = True) -> None:
+        if mine.readyState in ("closing", "closed"):
+            return
+        channel = self._plain.get(mine)
+        if channel is None:
+            self._waiting = [it for it in self._waiting if it is not mine]
+            mine._setReadyState("closed")
+            return
+        mine._setReadyState("closing")
+        self._driven().advance()
+        channel.close()
+        self._driven().soon()
+
+
+def use_for(aiortc: ModuleType, **settings) -> None:
+    """Has peer connections that are made from now on use this library, with these `Settings`."""
+    transport = type("SctpTransport", (SctpTransport,), {"settings": Settings(**settings)})
+    setattr(aiortc.rtcpeerconnection, "RTCSctpTransport", transport)
+    setattr(aiortc, "RTCSctpTransport", transport)

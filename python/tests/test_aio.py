@@ -1,0 +1,185 @@
+# SPDX-License-Identifier: Apache-2.0
+"""Connections by asyncio: over memory that loses, and over UDP of the loopback."""
+import asyncio
+import random
+
+import pytest
+
+from shelfpigeon import Role, State, aio
+
+
+class Memory:
+    """One end of a wire. It loses packets at a rate, and what comes while it is paused."""
+
+    def __init__(self, rate: float, seed: int):
+        self.rate, self.random = rate, random.Random(seed)
+        self.other: aio.Connection | None = None
+        self.paused, self.pauses, self.dropped = False, 0, 0
+
+    def send(self, packet: bytes) -> None:
+        if self.other._wire.paused or self.random.random() < self.rate:
+            self.dropped += 1
+        else:
+            asyncio.get_running_loop().call_soon(self.other.packet_received, packet)
+
+    def pause_reading(self) -> None:
+        self.paused = True
+        self.pauses += 1
+
+    def resume_reading(self) -> None:
+        self.paused = False
+
+    def close(self) -> None:
+        pass
+
+
+async def pair(rate: float = 0.0, **settings) -> tuple[aio.Connection, aio.Connection]:
+    wires = Memory(rate, 1), Memory(rate, 2)
+    a, b = aio.Connection(wires[0], role=Role.CLIENT, **settings), aio.Connection(wires[1], role=Role.SERVER, **settings)
+    wires[0].other, wires[1].other = b, a
+    await asyncio.wait_for(asyncio.gather(a.connect(), b.connect()), 10)
+    return a, b
+
+
+def run(test):
+    """A test that is a coroutine, with half a minute."""
+
+    def runs():
+        asyncio.run(asyncio.wait_for(test(), 30))
+
+    runs.__name__ = test.__name__
+    return runs
+
+
+@run
+async def test_messages_go_and_come():
+    a, b = await pair()
+    mine = a.open("chat", "proto", ordered=False)
+    await mine.send("hello")
+    theirs = await b.accept()
+    assert (theirs.label, theirs.protocol, theirs.ordered, theirs.id) == ("chat", "proto", False, mine.id)
+    await mine.opened()
+    assert await theirs.receive() == "hello"
+    await theirs.send(b"back")
+    assert await mine.receive() == b"back"
+    theirs.close()
+    await asyncio.gather(mine.wait_closed(), theirs.wait_closed())
+    with pytest.raises(aio.ChannelClosed):
+        await mine.receive()
+    with pytest.raises(aio.ChannelClosed):
+        await mine.send("late")
+    await a.close()
+    await b.wait_closed()
+    assert b.error.cause == 12 and b.socket.state == State.CLOSED
+    with pytest.raises(ConnectionError):
+        b.open("late")
+
+
+@run
+async def test_timers_run_where_packets_are_lost():
+    a, b = await pair(0.1)
+    channel = a.negotiate(5)
+    other = b.negotiate(5)
+    wanted = [str(number) * 100 for number in range(200)]
+    for message in wanted:
+        await channel.send(message)
+    assert [await other.receive() for _ in wanted] == wanted
+    await asyncio.gather(a.close(), b.close())
+
+
+@run
+async def test_who_sends_is_held_back():
+    a, b = await pair(high_water=100000)
+    channel = a.open("much")
+    sent = 0
+
+    async def send():
+        nonlocal sent
+        for _ in range(100):
+            await channel.send(bytes(20000))
+            assert channel.buffered_amount <= 120000
+            sent += 1
+
+    sending = asyncio.ensure_future(send())
+    await asyncio.sleep(0)
+    assert 0 < sent < 100
+    theirs = await b.accept()
+    for _ in range(100):
+        assert await theirs.receive() == bytes(20000)
+    await sending
+    await asyncio.gather(a.close(), b.close())
+
+
+@run
+async def test_who_does_not_read_has_the_wire_paused():
+    a, b = await pair(read_limit=200000)
+    channel = a.open("much")
+
+    async def send():
+        for number in range(60):
+            await channel.send(number.to_bytes(4, "big") * 5000)
+
+    sending = asyncio.ensure_future(send())
+    theirs = await b.accept()
+    await asyncio.sleep(0.5)
+    assert b._wire.paused and b._unread < 200000 + 2 * 524288
+    came = [await theirs.receive() for _ in range(60)]
+    assert came == [number.to_bytes(4, "big") * 5000 for number in range(60)] and b._wire.pauses >= 1
+    await sending
+    await asyncio.gather(a.close(), b.close())
+
+
+@run
+async def test_all_that_iterates_ends_with_the_connection():
+    a, b = await pair()
+    for label in ("one", "two"):
+        await a.open(label).send(label)
+    labels, texts = [], []
+    async for channel in b:
+        labels.append(channel.label)
+        texts.append(await channel.receive())
+        if len(labels) == 2:
+            a.abort()
+    async for message in channel:
+        texts.append(message)
+    assert labels == texts == ["one", "two"]
+
+
+@run
+async def test_an_owner_that_fails_is_told_of():
+    told = []
+    asyncio.get_running_loop().set_exception_handler(lambda loop, context: told.append(context["exception"]))
+    a, b = await pair()
+    b._handle_before, failing = b._driver._handle, RuntimeError("the owner's")
+
+    def fails(event):
+        b._driver._handle = b._handle_before
+        raise failing
+
+    b._driver._handle = fails
+    await a.open("x").send("1")
+    await asyncio.sleep(0.05)
+    assert told == [failing]
+    await asyncio.gather(a.close(), b.close())
+
+
+@run
+async def test_over_udp():
+    a = aio.open_udp(("127.0.0.1", 45801), ("127.0.0.1", 45802), role=Role.CLIENT)
+    b = aio.open_udp(("127.0.0.1", 45802), ("127.0.0.1", 45801), role=Role.SERVER)
+    async with a, b:
+        await asyncio.gather(a.connect(), b.connected())
+        channel = a.open("bulk")
+        theirs = await b.accept()
+        sending = asyncio.ensure_future(asyncio.gather(*[channel.send(bytes([number]) * 200000) for number in range(20)]))
+        for number in range(20):
+            assert await theirs.receive() == bytes([number]) * 200000
+        await sending
+
+
+@run
+async def test_nobody_is_there():
+    options = aio.webrtc_options(max_init_retransmits=1, t1_init_timeout=10_000_000)
+    a = aio.open_udp(("127.0.0.1", 45803), ("127.0.0.1", 45804), role=Role.CLIENT, options=options)
+    with pytest.raises(ConnectionError):
+        await a.connect()

@@ -1,0 +1,125 @@
+# SPDX-License-Identifier: Apache-2.0
+"""aiortc by this library's SCTP: with itself, and with aiortc's own at the other end."""
+import asyncio
+
+import pytest
+
+aiortc = pytest.importorskip("aiortc")
+import aioice.ice  # noqa: E402
+from aiortc.exceptions import InvalidStateError  # noqa: E402
+
+import shelfpigeon  # noqa: E402
+from shelfpigeon import aio  # noqa: E402
+
+OWN = aiortc.rtcpeerconnection.RTCSctpTransport
+
+
+@pytest.fixture(autouse=True)
+def over_the_loopback(monkeypatch):
+    monkeypatch.setattr(aioice.ice, "get_host_addresses", lambda use_ipv4, use_ipv6: ["127.0.0.1"])
+    yield
+    aiortc.rtcpeerconnection.RTCSctpTransport = aiortc.RTCSctpTransport = OWN
+
+
+def make(ours: bool, **settings):
+    if ours:
+        shelfpigeon.use_for(aiortc, **settings)
+    else:
+        aiortc.rtcpeerconnection.RTCSctpTransport = OWN
+    return aiortc.RTCPeerConnection(aiortc.RTCConfiguration(iceServers=[]))
+
+
+async def join(a, b) -> None:
+    await a.setLocalDescription(await a.createOffer())
+    await b.setRemoteDescription(a.localDescription)
+    await b.setLocalDescription(await b.createAnswer())
+    await a.setRemoteDescription(b.localDescription)
+
+
+async def until(check) -> None:
+    while not check():
+        await asyncio.sleep(0.005)
+
+
+@pytest.mark.parametrize("ours", [(True, True), (True, False), (False, True)])
+def test_a_chat(ours):
+    async def chat():
+        a, b = make(ours[0]), make(ours[1])
+        first, came, theirs = a.createDataChannel("first", ordered=False, maxRetransmits=5), [], []
+        agreed = [end.createDataChannel("agreed", negotiated=True, id=100) for end in (a, b)]
+        b.on("datachannel", theirs.append)
+        first.on("message", came.append)
+        await join(a, b)
+        await until(lambda: first.readyState == "open" and theirs and all(it.readyState == "open" for it in agreed))
+        taken = theirs[0]
+        assert (taken.label, taken.ordered, taken.maxRetransmits, taken.id) == ("first", False, 5, first.id)
+        sent = ["hello", b"\0\1", "", b"", "漢字", bytes(60000)]
+        taken.on("message", taken.send)
+        for message in sent:
+            first.send(message)
+        await until(lambda: len(came) == len(sent))
+        assert sorted(map(repr, came)) == sorted(map(repr, sent))
+        agreed[0].on("message", came.append)
+        agreed[1].send("agreed")
+        await until(lambda: came[-1] == "agreed")
+        if all(ours):
+            assert a.sctp.maxChannels == 65535 and a.sctp.state == "connected"
+            second = b.createDataChannel("second")
+            await until(lambda: second.readyState == "open")
+            assert second.id % 2 != first.id % 2
+            first.close()
+            await until(lambda: first.readyState == taken.readyState == "closed")
+            with pytest.raises(InvalidStateError):
+                first.send("late")
+        await a.close()
+        await until(lambda: agreed[1].readyState == "closed")
+        await b.close()
+
+    asyncio.run(asyncio.wait_for(chat(), 30))
+
+
+def test_buffering():
+    async def pours():
+        a, b = make(True), make(True, options={"max_receiver_window_buffer_size": 1 << 20})
+        channel, came, low = a.createDataChannel("much"), [], []
+        b.on("datachannel", lambda it: it.on("message", came.append))
+        await join(a, b)
+        await until(lambda: channel.readyState == "open")
+        channel.bufferedAmountLowThreshold = 100000
+        channel.on("bufferedamountlow", lambda: low.append(channel.bufferedAmount))
+        for number in range(30):
+            channel.send(bytes([number]) * 200000)
+        assert channel.bufferedAmount > 5000000
+        with pytest.raises(ValueError):
+            channel.send(bytes(262145))
+        with pytest.raises(aiortc.exceptions.OperationError):
+            for _ in range(100):
+                channel.send(bytes(200000))
+        await until(lambda: len(came) > 30 and channel.bufferedAmount == 0)
+        assert came[:30] == [bytes([number]) * 200000 for number in range(30)] and low and low[0] <= 100000
+        await asyncio.gather(a.close(), b.close())
+
+    asyncio.run(asyncio.wait_for(pours(), 60))
+
+
+def test_channels_that_cannot_be():
+    async def tries():
+        a = make(True)
+        with pytest.raises(ValueError):
+            a.createDataChannel("x" * 65536)
+        a.createDataChannel("x", negotiated=True, id=1)
+        with pytest.raises(ValueError):
+            a.createDataChannel("y", negotiated=True, id=1)
+        waiting = a.createDataChannel("z")
+        waiting.close()
+        assert waiting.readyState == "closed"
+        await a.close()
+        assert a.sctp.state == "closed"
+
+    asyncio.run(tries())
+
+
+def test_settings():
+    shelfpigeon.use_for(aiortc, max_message_size=1000)
+    assert aiortc.RTCSctpTransport.getCapabilities().maxMessageSize == 1000
+    assert aio.webrtc_options().per_stream_send_queue_limit == 2**24

@@ -1,0 +1,281 @@
+# SPDX-License-Identifier: Apache-2.0
+"""Sockets and channels over memory, in virtual time."""
+import pytest
+
+import shelfpigeon
+from shelfpigeon import events
+from shelfpigeon import (
+    Answer,
+    Channels,
+    InvalidArgument,
+    MessageTooLarge,
+    NoChannel,
+    Options,
+    PigeonError,
+    QueueFull,
+    Readiness,
+    Refusal,
+    Role,
+    Socket,
+    State,
+    Text,
+)
+
+SECOND = 10**9
+
+
+class World:
+    """Two ends, and the packets between them."""
+
+    def __init__(self, a, b):
+        self.ends = (a, b)
+        self.now = 0
+        self.told = {a: [], b: []}
+
+    def settle(self, span: int = SECOND) -> None:
+        """Turns of both, until nothing is to be done for so long."""
+        while True:
+            for end in self.ends:
+                end.advance_time(self.now)
+            while any([self.take(end) for end in self.ends]):
+                pass
+            due = [it for it in (end.poll_timeout() for end in self.ends) if it is not None]
+            if not due or min(due) > self.now + span:
+                return
+            self.now = min(due)
+
+    def take(self, end) -> int:
+        other, packets = self.ends[end is self.ends[0]], 0
+        for event in end.events():
+            if isinstance(event, events.Packet):
+                packets += 1
+                other.handle_input(event.data)
+            else:
+                self.told[end].append(event)
+        return packets
+
+    def kinds(self, end) -> list[type]:
+        return [type(it) for it in self.told[end]]
+
+    def came(self, end) -> list:
+        return [it.data for it in self.told[end] if isinstance(it, events.ChannelMessage)]
+
+
+@pytest.fixture
+def sockets():
+    with Socket() as a, Socket() as b:
+        yield World(a, b)
+
+
+@pytest.fixture
+def channels():
+    with Channels(Role.CLIENT, peer_max_message_size=262144) as a, Channels(Role.SERVER, peer_max_message_size=262144) as b:
+        world = World(a, b)
+        a.connect()
+        world.settle()
+        assert a.state == b.state == State.CONNECTED
+        yield world
+
+
+def test_texts():
+    assert shelfpigeon.text(Text.ANSWER, Answer.QUEUE_FULL)
+    assert all(shelfpigeon.text(Text.ANSWER, it) for it in Answer)
+    assert all(shelfpigeon.text(Text.REFUSAL, it) for it in Refusal)
+
+
+def test_options():
+    options = Options.for_webrtc(mtu=1200)
+    assert (options.mtu, options.announced_maximum_incoming_streams, options.invalid_field()) == (1200, 65535, None)
+    assert Options.default().max_message_size == 262144
+    assert Options.for_webrtc(mtu=1).invalid_field() == "mtu"
+    with pytest.raises(InvalidArgument, match="mtu"):
+        Socket(Options.for_webrtc(mtu=1))
+    with pytest.raises(TypeError):
+        Options.for_webrtc(mtus=1)
+    with pytest.raises(AttributeError):
+        options.mtus = 1
+    with pytest.raises(InvalidArgument):
+        Socket(seed=b"short")
+    with Socket(options) as socket:
+        assert socket.options.mtu == 1200
+
+
+def test_the_same_seed_makes_the_same_packets():
+    made = []
+    for _ in range(2):
+        with Socket(seed=bytes(32)) as socket:
+            socket.connect()
+            made.append([it.data for it in socket.events() if isinstance(it, events.Packet)])
+    assert made[0] == made[1] != []
+    assert "INIT" in shelfpigeon.describe_packet(made[0][0])
+    with pytest.raises(InvalidArgument):
+        shelfpigeon.describe_packet(b"no")
+
+
+def test_a_freed_socket():
+    socket = Socket()
+    socket.free()
+    socket.free()
+    with pytest.raises(PigeonError) as fault:
+        socket.connect()
+    assert fault.value.answer == Answer.NO_SOCKET
+
+
+def test_messages_by_streams(sockets):
+    a, b = sockets.ends
+    assert a.state == State.CLOSED and a.metrics() is None
+    a.connect()
+    sockets.settle()
+    assert events.Connected() in sockets.told[a] and events.Connected() in sockets.told[b]
+    a.send(1, 51, b"one")
+    a.send(1, 53, bytes(100000), lifecycle=7)
+    assert a.send_many([(2, 51, b"two"), (3, 51, b"three"), (3, 51, b"")]) == [Answer.OK, Answer.OK, Answer.EMPTY_PAYLOAD]
+    sockets.settle()
+    came = list(b.messages())
+    assert sorted(came) == sorted([(1, 51, b"one"), (1, 53, bytes(100000)), (2, 51, b"two"), (3, 51, b"three")])
+    assert b.messages_ready_count == 0 and b.next_message() is None
+    assert a.is_at_rest and a.buffered_amount(1) == 0
+    assert a.send_queue_room == a.options.max_send_buffer_size
+    assert any(isinstance(it, events.Lifecycle) and it.lifecycle == 7 for it in sockets.told[a])
+    metrics = a.metrics()
+    assert metrics.tx_messages_count == 4 and metrics.negotiated_maximum_outgoing_streams == 65535
+    assert a.clock == sockets.now
+    with pytest.raises(InvalidArgument):
+        a.send(65536, 51, b"x")
+    with pytest.raises(MessageTooLarge):
+        a.send(1, 51, bytes(262145))
+    a.reset_streams([1, 2])
+    sockets.settle()
+    reset = [it for it in sockets.told[b] if isinstance(it, events.StreamsReset)]
+    assert sorted(reset[0].streams) == [1, 2]
+    a.set_stream_priority(1, 512)
+    assert a.stream_priority(1) == 512
+    a.set_buffered_amount_low_threshold(1, 99)
+    assert a.buffered_amount_low_threshold(1) == 99
+    a.shutdown()
+    sockets.settle()
+    assert events.Closed in sockets.kinds(a) and a.state == State.CLOSED
+
+
+def test_what_is_given_up(sockets):
+    a, b = sockets.ends
+    a.connect()
+    sockets.settle()
+    a.send(1, 51, b"lost", max_retransmissions=0)
+    assert [type(it) for it in a.events()][0] is events.Packet  # and it is lost
+    sockets.settle(10 * SECOND)
+    given_up = a.next_given_up()
+    assert (given_up.number, given_up.cause) == (0, shelfpigeon.Cause.RETRANSMISSIONS) and a.next_given_up() is None
+    a.send(1, 51, b"there")
+    sockets.settle()
+    assert [it.data for it in b.messages()] == [b"there"]
+
+
+def test_a_handover(sockets):
+    a, b = sockets.ends
+    a.connect()
+    sockets.settle()
+    assert a.handover_readiness == Readiness.READY
+    record = a.handover()
+    with Socket() as c:
+        c.advance_time(sockets.now)
+        c.restore(record)
+        world = World(c, b)
+        world.now = sockets.now
+        c.send(4, 51, b"from the other one")
+        world.settle()
+        assert [it.data for it in b.messages()] == [b"from the other one"]
+        with pytest.raises(PigeonError):
+            c.restore(record)
+    with Socket() as d, pytest.raises(InvalidArgument):
+        d.restore(b"no record")
+
+
+def test_refusals_of_packets(sockets):
+    a, _ = sockets.ends
+    assert a.refuses(b"no packet")
+    a.handle_input(b"no packet")
+    assert any(isinstance(it, events.Reported) and it.text for it in a.events())
+    assert a.poll_event() is None
+
+
+def test_channels_of_both_ends(channels):
+    a, b = channels.ends
+    chat = a.open("Zürich 漢字 😀", "proto", ordered=False, max_retransmissions=3, priority=512)
+    chat.send("hello")
+    chat.send(b"\0\1")
+    chat.send("")
+    chat.send(b"")
+    game = b.open("", lifetime=500)
+    channels.settle()
+    (theirs,) = [it.channel for it in channels.told[b] if isinstance(it, events.ChannelOpened) and it.channel is not game]
+    assert (theirs.label, theirs.protocol, theirs.id, chat.id, game.id) == ("Zürich 漢字 😀", "proto", 0, 0, 1)
+    assert (theirs.ordered, theirs.max_retransmissions, theirs.lifetime, theirs.priority) == (False, 3, None, 512)
+    assert channels.came(b) == ["hello", b"\0\1", "", b""]
+    assert events.ChannelOpened(chat) in channels.told[a]
+    assert [it.lifetime for it in a if it.id == 1] == [500]
+    assert chat.statistics.messages_sent == 4 and theirs.statistics.bytes_received == 7
+    chat.buffered_amount_low_threshold = 100
+    assert chat.buffered_amount_low_threshold == 100 and chat.buffered_amount == 0
+    chat.close()
+    with pytest.raises(NoChannel):
+        chat.send("late")
+    channels.settle()
+    assert events.ChannelClosed(chat) in channels.told[a] and events.ChannelClosed(theirs) in channels.told[b]
+    assert chat.is_closed and theirs.is_closed
+    again = a.open("again")
+    assert again.id == chat.id
+    with pytest.raises(NoChannel):
+        chat.send("to the one of the same number")
+    with pytest.raises(NoChannel):
+        theirs.close()
+
+
+def test_channels_that_are_agreed_on(channels):
+    a, b = channels.ends
+    for end in (a, b):
+        end.negotiate(65534, "agreed")
+        with pytest.raises(InvalidArgument):
+            end.negotiate(65534)
+    next(it for it in a if it.id == 65534).send("by the last number")
+    channels.settle()
+    assert channels.came(b) == ["by the last number"]
+
+
+def test_what_channels_refuse(channels):
+    a, b = channels.ends
+    chat = a.open("chat")
+    channels.settle()
+    with pytest.raises(MessageTooLarge):
+        chat.send(bytes(262145))
+    with pytest.raises(InvalidArgument):
+        a.open("x" * 65536)
+    with pytest.raises(QueueFull):
+        for _ in range(100):
+            chat.send(bytes(262144))
+    channels.settle(10 * SECOND)
+    assert channels.came(b) and all(it == bytes(262144) for it in channels.came(b))
+    assert events.ChannelBufferedAmountLow(chat) in channels.told[a]
+
+
+def test_an_abort_closes_the_channels(channels):
+    a, b = channels.ends
+    chat = a.open("chat")
+    channels.settle()
+    a.close()
+    channels.settle()
+    (aborted,) = [it for it in channels.told[b] if isinstance(it, events.Aborted)]
+    assert aborted.cause == 12 and events.ChannelClosed in channels.kinds(b)
+    assert chat.is_closed and list(a) == list(b) == []
+
+
+def test_a_channel_that_ends_before_its_opening_is_taken(channels):
+    a, b = channels.ends
+    a.open("short")
+    opened = [it.data for it in a.events() if isinstance(it, events.Packet)]
+    a.close()
+    aborted = [it.data for it in a.events() if isinstance(it, events.Packet)]
+    for packet in opened + aborted:
+        b.handle_input(packet)
+    kinds = [type(it) for it in b.events()]
+    assert events.ChannelClosed in kinds and events.Aborted in kinds
