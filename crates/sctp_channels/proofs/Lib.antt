@@ -1,5 +1,7 @@
 pub mod AnswerLemmas
 pub mod DataLemmas
 pub mod MessageLemmas
+pub mod QuietLemmas
 pub mod RunLemmas
 pub mod StandsLemmas
+pub mod TwoEndsLemmas

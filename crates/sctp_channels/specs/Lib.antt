@@ -6,4 +6,6 @@ pub mod Lifecycle
 pub mod Message
 pub mod Payload
 pub mod Runs
+pub mod Steps
+pub mod TwoEnds
 pub mod Views
