@@ -7,6 +7,7 @@ import itertools
 import json
 import os
 import shutil
+import signal
 import tempfile
 
 FLAGS = [
@@ -78,7 +79,11 @@ class Chromium:
         reader = asyncio.StreamReader(limit=1 << 28)
         await asyncio.get_running_loop().connect_read_pipe(lambda: asyncio.StreamReaderProtocol(reader), os.fdopen(self._read, "rb", 0))
         self._listens = asyncio.ensure_future(self._listen(reader))
-        self.version = (await asyncio.wait_for(self.call("Browser.getVersion"), 30))["product"].split("/")[1]
+        try:
+            self.version = (await asyncio.wait_for(self.call("Browser.getVersion"), 120))["product"].split("/")[1]
+        except BaseException:
+            self._end()
+            raise
         return self
 
     async def __aexit__(self, *_) -> None:
@@ -86,7 +91,15 @@ class Chromium:
             await asyncio.wait_for(self.call("Browser.close"), 5)
             await asyncio.wait_for(self._process.wait(), 10)
         except (asyncio.TimeoutError, PageError, OSError):
-            self._process.kill()
+            pass
+        self._end()
+
+    def _end(self) -> None:
+        """Whatever is left of it ends: its processes are a session of their own."""
+        try:
+            os.killpg(self._process.pid, signal.SIGKILL)
+        except ProcessLookupError:
+            pass
         self._listens.cancel()
         os.close(self._write)
         shutil.rmtree(self._folder, ignore_errors=True)
