@@ -16,12 +16,8 @@ ghost use Rattle.proof_world.specs.Consistent.{WorldKeepsRules};
 ghost use Rattle.proof_world.specs.Delivered.{WorldDelivers};
 ghost use Rattle.proof_world.specs.Few.{LogUsesFew};
 ghost use Rattle.proof_world.specs.Reachable.{Origin, origin, initial_world, IsReachable, Continues};
-<<<<<<< ours
 ghost use Rattle.proof_awake.specs.Worlds.{EndsAreAwake, EndsHaveNoLine};
-=======
-ghost use Rattle.proof_awake.specs.Worlds.{EndsAreAwake};
 ghost use Rattle.sctp_network_side.specs.Interrupted.{StopsWithin, TakesBytesSo};
->>>>>>> theirs
 ghost use Rattle.sctp_network_side.specs.SideView.{action_of, end_tree, entry_tree, side_in};
 ghost use Rattle.sctp_network.specs.Interrupted.{IsMadeBy, RunsUpToFailure};
 ghost use Rattle.sctp_network.specs.WorldView.{world_of};
