@@ -1,12 +1,34 @@
--- Channels over a socket: what the owner's calls make of them, and how a message goes.
-use Rattle.std.specs.Prelude.{◌≡◌, ◌⊎◌, ℕ, ◌≤◌, min, ◌*◌, Bool, true, false, Option, Some, None}
+-- Channels over a socket: what the owner's calls make of them, how a message goes, and what the owner is told.
+use Rattle.std.specs.Prelude.{◌≡◌, ◌⊎◌, ℕ, ◌≤◌, min, ◌*◌, Bool, true, false, Option, Some, None, List, [], ◌∷◌, ◌++◌}
+use Rattle.std.specs.List.{flat_map}
+use Rattle.std.specs.Map.{keys_of}
+use Rattle.sctp_serial.specs.Messages.{Message}
+use Rattle.sctp_state.specs.Events as sockets
 use Rattle.sctp_channels.specs.Channel.{Channel}
-use Rattle.sctp_channels.specs.Lifecycle.{may_send}
-use Rattle.sctp_channels.specs.declared.lifecycle.Outgoing.{Outgoing}
-use Rattle.sctp_channels.specs.declared.lifecycle.Outgoing.TheVariants.{Draining}
+use Rattle.sctp_channels.specs.Channels as table
+use Rattle.sctp_channels.specs.Channels.{Channels, OnMessage, Output, acknowledge, reset, tell_closed, tell_message, tell_opened, tell_refused}
+use Rattle.sctp_channels.specs.Lifecycle.{is_draining, may_send}
+use Rattle.sctp_channels.specs.Payload.{protocol_of}
+use Rattle.sctp_channels.specs.declared.event.ChannelEvent as given
+use Rattle.sctp_channels.specs.declared.event.ChannelEvent.TheVariants as events
 use Rattle.sctp_channels.specs.declared.reliability.Reliability.{Reliability}
 use Rattle.sctp_channels.specs.declared.reliability.Reliability.TheVariants.{MaxRetransmissions, MaxLifetime}
-use Rattle.sctp_channels.specs.Channels.{Channels}
+
+-- what the owner is told
+pub data Event : Type 0 where
+  -- an output of the channels
+  of_channels : (o : Output) → Event
+  -- what waits on a channel fell to its threshold
+  is_low : (id : ℕ) → Event
+  of_socket : (e : sockets.Event (List ℕ)) → Event
+
+abbrev pub event_of : given.ChannelEvent → Event
+event_of (events.Opened id) = of_channels (tell_opened id.0)
+event_of (events.Message id kind bytes) = of_channels (tell_message id.0 kind bytes.items)
+event_of (events.BufferedAmountLow id) = is_low id.0
+event_of (events.Closed id) = of_channels (tell_closed id.0)
+event_of (events.Refused id why) = of_channels (tell_refused id.0 why)
+event_of (events.Socket event) = of_socket (sockets.event_of event)
 
 pub record DataChannels : Type 0 where
   pub channels : Channels
@@ -14,9 +36,15 @@ pub record DataChannels : Type 0 where
   pub peer_limit : ℕ
   -- the most bytes that may wait on a channel
   pub buffer_limit : ℕ
+  -- what the owner is to be told, in order
+  pub events : List Event
+  -- streams whose DATA_CHANNEL_OPEN is to be answered, in order
+  pub unanswered : List ℕ
 
 abbrev pub with_channels : Channels → DataChannels → DataChannels
 with_channels cs d = record d { channels = cs }
+
+-- ---- a message of the owner
 
 -- how often a message is sent again, at most
 abbrev pub retransmissions : Reliability → Option ℕ
@@ -33,10 +61,6 @@ abbrev pub IsOpenAt : Option Channel → Type 0
 IsOpenAt None = ⊥
 IsOpenAt (Some c) = may_send c.lifecycle ≡ true
 
-abbrev pub is_draining : Outgoing → Bool
-is_draining Draining = true
-is_draining _ = false
-
 -- a channel is closed there, and its reset is still to be asked for
 abbrev pub is_draining_at : Option Channel → Bool
 is_draining_at None = false
@@ -45,3 +69,133 @@ is_draining_at (Some c) = is_draining c.lifecycle.outgoing
 -- the peer takes a message of so many bytes
 abbrev pub IsShortEnough : ℕ → DataChannels → Type 0
 IsShortEnough size d = (d.peer_limit ≡ 0) ⊎ (size ≤ d.peer_limit)
+
+-- ---- what becomes of the channels through their socket
+
+abbrev pub tell : Event → DataChannels → DataChannels
+tell e d = record d { events = d.events ++ e ∷ [] }
+
+-- the owner is told the output
+abbrev pub told_by : Output → List Event
+told_by (acknowledge id) = []
+told_by (reset id) = []
+told_by o = of_channels o ∷ []
+
+-- an answer is to be sent
+abbrev pub acknowledged_by : Output → List ℕ
+acknowledged_by (acknowledge id) = id ∷ []
+acknowledged_by o = []
+
+-- the socket is to reset the stream
+abbrev pub reset_by : Output → List ℕ
+reset_by (reset id) = id ∷ []
+reset_by o = []
+
+-- an output goes where it belongs; so do all
+abbrev pub with_output : Output → DataChannels → DataChannels
+with_output o d = record d { events = d.events ++ told_by o; unanswered = d.unanswered ++ acknowledged_by o }
+
+abbrev pub with_outputs : DataChannels → DataChannels
+with_outputs d = record {
+  channels = record d.channels { outputs = [] };
+  peer_limit = d.peer_limit;
+  buffer_limit = d.buffer_limit;
+  events = d.events ++ flat_map told_by d.channels.outputs;
+  unanswered = d.unanswered ++ flat_map acknowledged_by d.channels.outputs;
+}
+
+-- a row of the table for each stream
+abbrev pub each : (ℕ → Channels → Channels) → List ℕ → Channels → Channels
+each row [] cs = cs
+each row (id ∷ ids) cs = each row ids (row id cs)
+
+-- where no stream is named all are meant
+abbrev pub named : List ℕ → Channels → List ℕ
+named [] cs = keys_of cs.entries
+named ids cs = ids
+
+abbrev pub ended : DataChannels → DataChannels
+ended d = record d { channels = table.end d.channels; unanswered = [] }
+
+-- the socket emitted an event
+abbrev pub heard : sockets.Event (List ℕ) → DataChannels → DataChannels
+heard (sockets.OnIncomingStreamReset ids) d = with_channels (each table.on_incoming_reset (named ids d.channels) d.channels) d
+heard (sockets.OnStreamsResetPerformed ids) d = with_channels (each table.on_reset_performed ids d.channels) d
+heard (sockets.OnStreamsResetFailed ids) d = with_channels (each table.on_reset_denied ids d.channels) d
+heard sockets.OnClosed d = ended d
+heard sockets.OnConnectionRestarted d = ended d
+heard (sockets.OnAborted kind text) d = ended d
+heard _ d = d
+
+-- what is left of it for the owner
+abbrev pub passed_on : sockets.Event (List ℕ) → Option Event
+passed_on (sockets.OnIncomingStreamReset ids) = None
+passed_on (sockets.OnStreamsResetPerformed ids) = None
+passed_on (sockets.OnStreamsResetFailed ids) = None
+passed_on (sockets.OnBufferedAmountLow id) = Some (is_low id)
+passed_on e = Some (of_socket e)
+
+-- ---- in any order
+
+-- one thing that the socket hands out, emits or answers, or that its owner asks for; and what is done of what is to be done
+pub data Step : Type 0 where
+  -- the socket handed out a message
+  gets : (m : Message) → Step
+  -- it emitted an event; and the owner is told what is left of one
+  hears : (e : sockets.Event (List ℕ)) → Step
+  passes_on : (e : sockets.Event (List ℕ)) → Step
+  -- it has so many streams
+  counts : (stream_count : ℕ) → Step
+  -- so many bytes of a stream wait in it
+  buffers : (id buffered : ℕ) → Step
+  -- it doesn't ask for these resets
+  refuses : (ids : List ℕ) → Step
+  -- the owner closes a channel
+  closes : (id : ℕ) → Step
+  -- what is to be done is done, or told
+  carries_out : Step
+  -- the socket has accepted the first answers
+  answers : Step
+
+-- a message is read by the table's row
+pub record Gets (m : Message) (d e : DataChannels) : Type 0 where
+  pub channels : Channels
+  pub row : OnMessage (protocol_of m.ppid) m.stream m.payload d.channels channels
+  pub done : e ≡ with_channels channels d
+
+-- some that waited in front wait no more
+pub record Answers (d e : DataChannels) : Type 0 where
+  pub answered : List ℕ
+  pub rest : List ℕ
+  pub waiting : d.unanswered ≡ answered ++ rest
+  pub done : e ≡ record d { unanswered = rest }
+
+pub record PassesOn (event : sockets.Event (List ℕ)) (d e : DataChannels) : Type 0 where
+  pub told : Event
+  pub left : passed_on event ≡ Some told
+  pub done : e ≡ tell told d
+
+abbrev pub Does : Step → DataChannels → DataChannels → Type 0
+Does (gets m) d e = Gets m d e
+Does (hears event) d e = e ≡ heard event d
+Does (passes_on event) d e = PassesOn event d e
+Does (counts stream_count) d e = e ≡ with_channels (record d.channels { stream_count = stream_count }) d
+Does (buffers id buffered) d e = e ≡ with_channels (table.drain id buffered d.channels) d
+Does (refuses ids) d e = e ≡ with_channels (each table.on_reset_denied ids d.channels) d
+Does (closes id) d e = e ≡ with_channels (table.close id d.channels) d
+Does carries_out d e = e ≡ with_outputs d
+Does answers d e = Answers d e
+
+abbrev pub Runs : List Step → DataChannels → DataChannels → Type 0
+Runs [] d e = d ≡ e
+Runs (s ∷ ss) d e = (c : DataChannels) × Does s d c × Runs ss c e
+
+-- the one has become the other by such steps, and by nothing else
+pub record Follows (d e : DataChannels) : Type 0 where
+  pub steps : List Step
+  pub runs : Runs steps d e
+
+-- what was to be told is still to be told, in front
+pub record StaysTold (d e : DataChannels) : Type 0 where
+  pub more : List Event
+  pub events : e.events ≡ d.events ++ more

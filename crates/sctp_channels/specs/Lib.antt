@@ -6,4 +6,5 @@ pub mod Lifecycle
 pub mod Message
 pub mod Payload
 pub mod Runs
+pub mod TwoEnds
 pub mod Views

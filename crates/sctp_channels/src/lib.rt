@@ -20,6 +20,7 @@ mod message_laws;
 mod output;
 mod payload;
 mod reliability;
+mod two_ends_laws;
 
 pub use channel::{Channel, Received, Statistics};
 pub use channel_laws::{
@@ -36,3 +37,4 @@ pub use message_laws::{one_answer, one_message, one_payload, read_back, written_
 pub use output::{Output, Refusal};
 pub use payload::{CONTROL_PPID, PayloadKind, PayloadProtocol, data_message};
 pub use reliability::Reliability;
+pub use two_ends_laws::what_is_told_was_accepted;

@@ -1,0 +1,181 @@
+-- Rows of the table that tell no message, and leave no message in parts.
+use Rattle.std.proofs.Common.{◌≡◌, ℕ, ◌==◌, nat_le, cond, Bool, true, false, Option, Some, None, List, [], ◌∷◌, ◌++◌, map, refl, sym, ap, subst, ◌∙◌}
+use Rattle.std.specs.Prelude.{All, IfSome}
+use Rattle.std.specs.BTreeMap.{is_at}
+use Rattle.std.specs.List.{flat_map}
+use Rattle.std.specs.Map.{values_of}
+use Rattle.std.specs.Ordering.{nat_cmp}
+use Rattle.std.proofs.lemmas.Grind.{flat_map-append}
+use Rattle.std.proofs.lemmas.List.{append-nil}
+use Rattle.std.proofs.lemmas.List.Elements.{All-nil}
+use Rattle.std.proofs.lemmas.Map.Views.{All-map-remove_entry, All-values-insert_entry, All-values-set_value, IfSome-lookup_from_All}
+use Rattle.sctp_channels.specs.Channel.{Channel, new_channel, reset_incoming, with_lifecycle}
+use Rattle.sctp_channels.specs.Channels.{Channels, Output, acknowledge, change, close, close_one, confirm_from, confirm_one, denied_from, deny_one, drain, drain_from, drain_one, emit, end, finish_one, is_denied, is_own, is_shown, no_description, on_ack, on_establishment, on_incoming_reset, on_open, on_reset_denied, on_reset_performed, open_from, reopen_if, reset, settle, settle_at, settle_from, shown_streams, take_open, tell_closed, tell_end, tell_message, tell_opened, tell_refused, turn_down, turn_down_from, with_entries}
+use Rattle.sctp_channels.specs.DataChannels.{each}
+use Rattle.sctp_channels.specs.Entries.{Entries, channel_at, changed, changed_from, forget, put}
+use Rattle.sctp_channels.specs.Lifecycle as life
+use Rattle.sctp_channels.specs.Message.{Establishment, Open, opens, acknowledges}
+use Rattle.sctp_channels.specs.TwoEnds.{AreWhole, Content, HasNoParts, message_in}
+use Rattle.sctp_channels.specs.declared.lifecycle.Lifecycle.{Lifecycle}
+use Rattle.sctp_channels.specs.declared.output.Refusal.{Refusal}
+use Rattle.sctp_channels.specs.declared.output.Refusal.TheVariants.{NoSuchStream, StreamInUse, WrongParity}
+
+pub record IsQuiet (old new : Channels) : Type 0 where
+  pub limit : new.limit ≡ old.limit
+  pub whole : AreWhole old → AreWhole new
+  pub told : flat_map message_in new.outputs ≡ flat_map message_in old.outputs
+
+same : (cs : Channels) → IsQuiet cs cs
+same cs = record { limit = refl; whole = λ w. w; told = refl }
+
+pub and_then : (a b c : Channels) → IsQuiet a b → IsQuiet b c → IsQuiet a c
+and_then a b c q r = record { limit = r.limit ∙ q.limit; whole = λ w. r.whole (q.whole w); told = r.told ∙ q.told }
+
+pub emits : (o : Output) (cs : Channels) → message_in o ≡ [] → IsQuiet cs (emit o cs)
+emits o cs none = record {
+  limit = refl;
+  whole = λ w. w;
+  told = flat_map-append message_in cs.outputs (o ∷ [])
+      ∙ ap (λ (m : List Content). flat_map message_in cs.outputs ++ (m ++ [])) none
+      ∙ append-nil (flat_map message_in cs.outputs);
+}
+
+either : (b : Bool) (old x y : Channels) → IsQuiet old x → IsQuiet old y → IsQuiet old (cond b x y)
+either true old x y q r = q
+either false old x y q r = r
+
+-- ---- entries
+
+pub at_place : (id : ℕ) (es : Entries) (o : Option Channel) → channel_at id es ≡ o → All HasNoParts (values_of es) → IfSome o HasNoParts
+at_place id es o is whole = subst (λ (p : Option Channel). IfSome p HasNoParts) is (IfSome-lookup_from_All HasNoParts (is_at (nat_cmp id)) es whole)
+
+whole_changed : (o : Option Channel) (f : Channel → Channel) (id : ℕ) (es : Entries) → ((c : Channel) → HasNoParts c → HasNoParts (f c)) → IfSome o HasNoParts
+    → All HasNoParts (values_of es) → All HasNoParts (values_of (changed_from o f id es))
+whole_changed None f id es keeps there whole = whole
+whole_changed (Some c) f id es keeps there whole = All-values-set_value (is_at (nat_cmp id)) HasNoParts es (f c) whole (keeps c there)
+
+pub changes : (f : Channel → Channel) (id : ℕ) (cs : Channels) → ((c : Channel) → HasNoParts c → HasNoParts (f c)) → IsQuiet cs (change f id cs)
+changes f id cs keeps = record {
+  limit = refl;
+  whole = λ w. whole_changed (channel_at id cs.entries) f id cs.entries keeps (at_place id cs.entries (channel_at id cs.entries) refl w) w;
+  told = refl;
+}
+
+puts : (l : Lifecycle) (description : Open) (id : ℕ) (cs : Channels) → IsQuiet cs (with_entries (put id (new_channel l description) cs.entries) cs)
+puts l description id cs = record {
+  limit = refl;
+  whole = λ w. All-values-insert_entry nat_cmp id (new_channel l description) HasNoParts cs.entries w (record { parts = refl; is_whole = refl });
+  told = refl;
+}
+
+forgets : (id : ℕ) (cs : Channels) → IsQuiet cs (with_entries (forget id cs.entries) cs)
+forgets id cs = record { limit = refl; whole = λ w. All-map-remove_entry (is_at (nat_cmp id)) (λ e. e.1) HasNoParts cs.entries w; told = refl }
+
+-- a lifecycle has no part in it
+keeps_parts : (l : Lifecycle) (c : Channel) → HasNoParts c → HasNoParts (with_lifecycle l c)
+keeps_parts l c h = record { parts = h.parts; is_whole = h.is_whole }
+
+-- ---- rows
+
+pub closes : (id : ℕ) (cs : Channels) → IsQuiet cs (close id cs)
+closes id cs = changes close_one id cs (λ c h. keeps_parts (life.close c.lifecycle) c h)
+
+turns_down_from : (o : Option Channel) (id : ℕ) (why : Refusal) (cs : Channels) → IsQuiet cs (turn_down_from o id why cs)
+turns_down_from None id why cs =
+    and_then cs (with_entries (put id (new_channel life.refused no_description) cs.entries) cs) (turn_down_from None id why cs) (puts life.refused no_description id cs)
+    (emits (tell_refused id why) (with_entries (put id (new_channel life.refused no_description) cs.entries) cs) refl)
+turns_down_from (Some c) id why cs = and_then cs (close id cs) (turn_down_from (Some c) id why cs) (closes id cs) (emits (tell_refused id why) (close id cs) refl)
+
+pub turns_down : (id : ℕ) (why : Refusal) (cs : Channels) → IsQuiet cs (turn_down id why cs)
+turns_down id why cs = turns_down_from (channel_at id cs.entries) id why cs
+
+takes_open : (id : ℕ) (description : Open) (l : Lifecycle) (cs : Channels) → IsQuiet cs (take_open id description l cs)
+takes_open id description l cs =
+    let there = with_entries (put id (new_channel l description) cs.entries) cs in
+    and_then cs there (take_open id description l cs) (puts l description id cs)
+    (and_then there (emit (acknowledge id) there) (take_open id description l cs) (emits (acknowledge id) there refl) (emits (tell_opened id) (emit (acknowledge id) there) refl))
+
+reopens_if : (b : Bool) (id : ℕ) (description : Open) (cs : Channels) → IsQuiet cs (reopen_if b id description cs)
+reopens_if true id description cs =
+    and_then cs (emit (tell_closed id) cs) (reopen_if true id description cs) (emits (tell_closed id) cs refl) (takes_open id description life.reopened (emit (tell_closed id) cs))
+reopens_if false id description cs = turns_down id StreamInUse cs
+
+opens_from : (o : Option Channel) (id : ℕ) (description : Open) (cs : Channels) → IsQuiet cs (open_from o id description cs)
+opens_from None id description cs = takes_open id description life.accepted cs
+opens_from (Some c) id description cs = reopens_if (life.may_reopen c.lifecycle) id description cs
+
+on_opening : (id : ℕ) (description : Open) (cs : Channels) → IsQuiet cs (on_open id description cs)
+on_opening id description cs =
+    either (nat_le cs.stream_count id) cs (emit (tell_refused id NoSuchStream) cs)
+    (cond (is_own cs.is_client id) (turn_down id WrongParity cs) (open_from (channel_at id cs.entries) id description cs)) (emits (tell_refused id NoSuchStream) cs refl)
+    (either (is_own cs.is_client id) cs (turn_down id WrongParity cs) (open_from (channel_at id cs.entries) id description cs) (turns_down id WrongParity cs)
+    (opens_from (channel_at id cs.entries) id description cs))
+
+confirms : (id : ℕ) (cs : Channels) → IsQuiet cs (emit (tell_opened id) (change confirm_one id cs))
+confirms id cs =
+    and_then cs (change confirm_one id cs) (emit (tell_opened id) (change confirm_one id cs)) (changes confirm_one id cs (λ c h. keeps_parts (life.confirm c.lifecycle) c h))
+    (emits (tell_opened id) (change confirm_one id cs) refl)
+
+confirms_from : (o : Option Channel) (id : ℕ) (cs : Channels) → IsQuiet cs (confirm_from o id cs)
+confirms_from None id cs = same cs
+confirms_from (Some c) id cs = either (life.is_connecting c.lifecycle) cs (emit (tell_opened id) (change confirm_one id cs)) cs (confirms id cs) (same cs)
+
+pub acknowledged : (id : ℕ) (cs : Channels) → IsQuiet cs (on_ack id cs)
+acknowledged id cs = confirms_from (channel_at id cs.entries) id cs
+
+pub establishes : (id : ℕ) (m : Establishment) (cs : Channels) → IsQuiet cs (on_establishment id m cs)
+establishes id (opens description) cs = on_opening id description cs
+establishes id acknowledges cs = acknowledged id cs
+
+tells_end : (l : Lifecycle) (id : ℕ) (cs : Channels) → IsQuiet cs (tell_end l id cs)
+tells_end l id cs = either (is_shown l) cs (emit (tell_closed id) cs) cs (emits (tell_closed id) cs refl) (same cs)
+
+settles_from : (o : Option Channel) (f : Channel → Channel) (id : ℕ) (cs : Channels) → ((c : Channel) → HasNoParts c → HasNoParts (f c)) → IsQuiet cs (settle_from o f id cs)
+settles_from None f id cs keeps = same cs
+settles_from (Some c) f id cs keeps =
+    let gone = with_entries (forget id cs.entries) cs in
+    either (life.is_over (f c).lifecycle) cs (tell_end (f c).lifecycle id gone) (change f id cs)
+    (and_then cs gone (tell_end (f c).lifecycle id gone) (forgets id cs) (tells_end (f c).lifecycle id gone)) (changes f id cs keeps)
+
+pub resets : (id : ℕ) (cs : Channels) → IsQuiet cs (on_incoming_reset id cs)
+resets id cs = settles_from (channel_at id cs.entries) reset_incoming id cs (λ c h. record { parts = refl; is_whole = refl })
+
+pub performs : (id : ℕ) (cs : Channels) → IsQuiet cs (on_reset_performed id cs)
+performs id cs = settles_from (channel_at id cs.entries) finish_one id cs (λ c h. keeps_parts (life.finish c.lifecycle) c h)
+
+denies_from : (o : Option Channel) (id : ℕ) (cs : Channels) → IsQuiet cs (denied_from o id cs)
+denies_from None id cs = same cs
+denies_from (Some c) id cs =
+    let less = change deny_one id cs in
+    let quiet = changes deny_one id cs (λ x h. keeps_parts (life.deny x.lifecycle) x h) in
+    either (is_denied (deny_one c).lifecycle.outgoing) cs (tell_end c.lifecycle id less) less (and_then cs less (tell_end c.lifecycle id less) quiet (tells_end c.lifecycle id less)) quiet
+
+pub denies : (id : ℕ) (cs : Channels) → IsQuiet cs (on_reset_denied id cs)
+denies id cs = denies_from (channel_at id cs.entries) id cs
+
+drains_from : (o : Option Channel) (id buffered : ℕ) (cs : Channels) → IsQuiet cs (drain_from o id buffered cs)
+drains_from None id buffered cs = same cs
+drains_from (Some c) id buffered cs =
+    let less = change (drain_one buffered) id cs in
+    either (life.asks_for_reset buffered c.lifecycle) cs (emit (reset id) less) cs
+    (and_then cs less (emit (reset id) less) (changes (drain_one buffered) id cs (λ x h. keeps_parts (life.drain buffered x.lifecycle) x h)) (emits (reset id) less refl)) (same cs)
+
+pub drains : (id buffered : ℕ) (cs : Channels) → IsQuiet cs (drain id buffered cs)
+drains id buffered cs = drains_from (channel_at id cs.entries) id buffered cs
+
+silent : (ids : List ℕ) → flat_map message_in (map tell_closed ids) ≡ []
+silent [] = refl
+silent (id ∷ ids) = silent ids
+
+pub all_end : (cs : Channels) → IsQuiet cs (end cs)
+all_end cs = record {
+  limit = refl;
+  whole = λ w. All-nil HasNoParts;
+  told = flat_map-append message_in cs.outputs (map tell_closed (shown_streams cs.entries))
+      ∙ ap (λ (m : List Content). flat_map message_in cs.outputs ++ m) (silent (shown_streams cs.entries))
+      ∙ append-nil (flat_map message_in cs.outputs);
+}
+
+pub each_row : (row : ℕ → Channels → Channels) → ((id : ℕ) (cs : Channels) → IsQuiet cs (row id cs)) → (ids : List ℕ) (cs : Channels) → IsQuiet cs (each row ids cs)
+each_row row quiet [] cs = same cs
+each_row row quiet (id ∷ ids) cs = and_then cs (row id cs) (each row ids (row id cs)) (quiet id cs) (each_row row quiet ids (row id cs))

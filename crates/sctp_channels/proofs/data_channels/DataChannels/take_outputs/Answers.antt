@@ -1,0 +1,20 @@
+use Rattle.std.proofs.Common.{◌++◌, ap, subst, sym, ◌∙◌}
+use Rattle.std.specs.List.{flat_map}
+use Rattle.sctp_state.specs.Events.{numbers_of}
+use Rattle.sctp_channels.specs.Channels.{output_of}
+use Rattle.sctp_channels.specs.DataChannels.{DataChannels, StaysTold, reset_by, with_outputs}
+use Rattle.sctp_channels.proofs.FollowsLemmas.{one_less, resets_more, told_of_outputs, told_then}
+use Rattle.sctp_channels.proofs.data_channels.DataChannels.take_outputs.Goals as goal
+
+pub loop-output-preserved : goal.loop-output-preserved
+loop-output-preserved c =
+    let o = output_of c.in-Some.output in
+    let taken = c.in-Some.ensures.taken in
+    let row = c.in_ok-take_output.ensures.row in
+    record {
+      row = ap with_outputs row ∙ one_less o c.loop-output.self c.next_output.new.self taken ∙ c.loop-output.invariant.row;
+      resets = ap (λ (x : DataChannels). numbers_of c.take_output.new.resets.items ++ flat_map reset_by x.channels.outputs) row
+          ∙ resets_more o c.loop-output.self c.next_output.new.self (numbers_of c.loop-output.resets.items) (numbers_of c.take_output.new.resets.items) taken c.in_ok-take_output.ensures.resets
+          ∙ c.loop-output.invariant.resets;
+      told = told_then c.loop-output.invariant.told (subst (StaysTold c.loop-output.self) (sym row) (told_of_outputs o c.loop-output.self c.next_output.new.self taken));
+    }
