@@ -13,7 +13,6 @@ mod wire;
 mod words;
 
 use output::Output;
-use std::alloc::Global;
 use std::io;
 use words::cut;
 

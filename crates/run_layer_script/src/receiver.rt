@@ -21,12 +21,13 @@ mod streams;
 mod tracker;
 
 use crate::output::Output;
-use crate::words::{cut, word};
+use crate::words::{Line, cut};
 
 /// Runs a script on what its first line names.
 pub fn run(script: &str, output: &mut Output) {
-    let (line, commands) = cut(script, '\n');
-    match word(line, 0) {
+    let (head, commands) = cut(script, '\n');
+    let line = Line(head);
+    match line.word(0) {
         "tracker" => tracker::run(line, commands, output),
         "queue" => queue::run(line, commands, output),
         "streams" => streams::run(line, commands, output),

@@ -10,27 +10,20 @@ mod data;
 mod fragment;
 mod handover;
 mod item;
-mod line;
 mod queue;
 mod transmission;
 
 use crate::output::Output;
-use answer::{Answer, finish};
+use crate::words::{Line, cut};
+use answer::finish;
 use bench::Bench;
-use line::Line;
-
-fn answer_of(bench: &mut Bench, text: &str, output: &mut Output) -> Answer {
-    match Line::read(text) {
-        Some(line) => bench.answer(&line, output),
-        None => Answer::Unknown,
-    }
-}
 
 /// Answers each command.
 pub fn run(script: &str, output: &mut Output) {
     let mut bench = Bench::new(output.alloc);
     for text in script.lines() {
-        let answer = answer_of(&mut bench, text, output);
+        let (part, rest) = cut(text, ' ');
+        let answer = bench.answer(part, Line(rest), output);
         finish(output, text, answer);
     }
     drop(bench);

@@ -15,14 +15,13 @@ mod scheduler;
 mod timers;
 
 use crate::output::Output;
-use crate::words::cut;
-use answer::line_of;
+use crate::words::{Line, cut};
 
 /// Makes the thing that the first line names, and lets it do the commands.
 pub fn run(script: &str, output: &mut Output) {
     let (head, commands) = cut(script, '\n');
-    let line = line_of(head);
-    match line.name {
+    let line = Line(head);
+    match line.word(0) {
         "scheduler" => scheduler::run(line, commands, output),
         "events" => events::run(commands, output),
         "watcher" => counting::run_watcher(line, commands, output),

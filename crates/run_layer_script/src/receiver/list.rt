@@ -3,13 +3,12 @@
 use crate::output::Output;
 use crate::receiver::pieces::piece;
 use crate::receiver::player::{Player, play_each};
-use crate::words::{number, word, yes_or_no};
+use crate::words::{Line, yes_or_no};
 use sctp_packet::Data;
 use sctp_rx::{
     InterleavedKey, Interval, IntervalList, ReassemblyKey, TraditionalKey, UnorderedInterleavedKey,
     is_before,
 };
-use std::alloc::Global;
 
 /// A key that is made of its parts.
 pub trait Key: ReassemblyKey {
@@ -49,8 +48,8 @@ impl Key for UnorderedInterleavedKey {
 }
 
 /// Takes the commands of a script on a list of intervals.
-pub fn run(line: &str, script: &str, output: &mut Output) {
-    match word(line, 1) {
+pub fn run(line: Line<'_>, script: &str, output: &mut Output) {
+    match line.word(1) {
         "tsn" => play_each(
             IntervalList::<TraditionalKey>::new(output.alloc),
             script,
@@ -72,9 +71,9 @@ pub fn run(line: &str, script: &str, output: &mut Output) {
 
 impl<K: Key> Player for IntervalList<K> {
     /// `add NUMBER INDEX ENDS HEX`; `turn PLACE NUMBER`; `take PLACE`; `next NUMBER`; `retain NUMBER INDEX`; `sums`.
-    fn play(&mut self, line: &str, output: &mut Output) {
-        let (first, second) = (number(line, 1), number(line, 2));
-        match word(line, 0) {
+    fn play(&mut self, line: Line<'_>, output: &mut Output) {
+        let (first, second) = (line.number(1), line.number(2));
+        match line.word(0) {
             "add" => {
                 let fragment = piece(line, output);
                 add(self, K::made(first, second), fragment, output);

@@ -1,7 +1,7 @@
 //! Fragments and messages, as words say them.
 
 use crate::output::Output;
-use crate::words::{bytes_of, half, rest, whole, word};
+use crate::words::{Line, bytes_of, half, whole};
 use sctp_packet::{Data, SkippedStream};
 use sctp_serial::{Fsn, Message, Mid, PpId, Ssn, StreamId, StreamKey};
 
@@ -24,18 +24,18 @@ pub fn entry(word: &str) -> SkippedStream {
 }
 
 /// The entries behind the first two words.
-pub fn entries(line: &str, output: &mut Output) -> Vec<SkippedStream> {
+pub fn entries(line: Line<'_>, output: &mut Output) -> Vec<SkippedStream> {
     let mut entries = Vec::new(output.alloc);
-    for word in rest(line, 2) {
+    for word in line.rest(2) {
         output.note(entries.push(entry(word)));
     }
     entries
 }
 
 /// The streams from the place on.
-pub fn stream_ids(line: &str, place: u8, output: &mut Output) -> Vec<StreamId> {
+pub fn stream_ids(line: Line<'_>, place: u8, output: &mut Output) -> Vec<StreamId> {
     let mut ids = Vec::new(output.alloc);
-    for word in rest(line, place) {
+    for word in line.rest(place) {
         output.note(ids.push(StreamId(half(word))));
     }
     ids
@@ -63,18 +63,18 @@ pub fn fragment(key: StreamKey, number: u16, fsn: u32, ends: &str, payload: Vec<
 }
 
 /// The fragment of a command `NAME TSN STREAM NUMBER FSN ENDS HEX`.
-pub fn fragment_of(line: &str, output: &mut Output) -> Data {
-    let key = stream_key(word(line, 2));
-    let (number, fsn) = (half(word(line, 3)), whole(word(line, 4)));
-    let payload = payload_of(word(line, 6), output);
-    fragment(key, number, fsn, word(line, 5), payload)
+pub fn fragment_of(line: Line<'_>, output: &mut Output) -> Data {
+    let key = stream_key(line.word(2));
+    let (number, fsn) = (line.half(3), line.whole(4));
+    let payload = payload_of(line.word(6), output);
+    fragment(key, number, fsn, line.word(5), payload)
 }
 
 /// The fragment of a command `NAME NUMBER INDEX ENDS HEX`.
-pub fn piece(line: &str, output: &mut Output) -> Data {
+pub fn piece(line: Line<'_>, output: &mut Output) -> Data {
     let key = StreamKey::Unordered(StreamId(1));
-    let payload = payload_of(word(line, 4), output);
-    fragment(key, 0, 0, word(line, 3), payload)
+    let payload = payload_of(line.word(4), output);
+    fragment(key, 0, 0, line.word(3), payload)
 }
 
 /// A message as `STREAM/PROTOCOL:HEX`.

@@ -8,7 +8,7 @@ use crate::output::Output;
 use crate::receiver::pieces::stream_ids;
 use crate::receiver::player::{Player, play_each};
 use crate::receiver::receiver::{Receiver, show_sums, take};
-use crate::words::{whole, word, yes_or_no};
+use crate::words::{Line, whole, yes_or_no};
 use sctp_packet::{Data, SkippedStream};
 use sctp_rx::ReassemblyQueue;
 use sctp_serial::{Message, Ssn, StreamId, Tsn};
@@ -28,10 +28,10 @@ struct Queue {
 }
 
 /// Takes the commands of a script on a queue.
-pub fn run(line: &str, script: &str, output: &mut Output) {
-    let is_interleaved = word(line, 1) == "interleaved";
-    let max_size = whole(word(line, 2));
-    let max_fragments = most_fragments(word(line, 3));
+pub fn run(line: Line<'_>, script: &str, output: &mut Output) {
+    let is_interleaved = line.word(1) == "interleaved";
+    let max_size = line.whole(2);
+    let max_fragments = most_fragments(line.word(3));
     let queue = Queue {
         queue: ReassemblyQueue::new(
             output.alloc,
@@ -118,8 +118,8 @@ impl Receiver for ReassemblyQueue {
 
 impl Player for Queue {
     /// `defer TSN STREAM ..`; `point TSN COUNT`; `sizes`; `fragments`; `readiness`; `write`; `restore`; and what streams take too.
-    fn play(&mut self, line: &str, output: &mut Output) {
-        match word(line, 0) {
+    fn play(&mut self, line: Line<'_>, output: &mut Output) {
+        match line.word(0) {
             "defer" => self.defer(line, output),
             "point" => self.point(line, output),
             "sizes" => show_sizes(&self.queue, output),
@@ -133,18 +133,18 @@ impl Player for Queue {
 }
 
 impl Queue {
-    fn defer(&mut self, line: &str, output: &mut Output) {
+    fn defer(&mut self, line: Line<'_>, output: &mut Output) {
         let ids = stream_ids(line, 2, output);
-        let last = Tsn(whole(word(line, 1)));
+        let last = line.tsn(1);
         output.note(self.queue.enter_deferred_reset(last, &ids));
         drop(ids);
         show_sums(&self.queue, output);
     }
 
     /// A forward point with so many entries.
-    fn point(&mut self, line: &str, output: &mut Output) {
-        let tsn = Tsn(whole(word(line, 1)));
-        let skipped = entries(whole(word(line, 2)), output);
+    fn point(&mut self, line: Line<'_>, output: &mut Output) {
+        let tsn = line.tsn(1);
+        let skipped = entries(line.whole(2), output);
         self.take_point(tsn, &skipped, output);
     }
 

@@ -2,7 +2,7 @@
 
 use crate::output::Output;
 use crate::receiver::pieces::{entries, fragment_of, show_message, stream_ids};
-use crate::words::{number, word};
+use crate::words::Line;
 use sctp_packet::{Data, SkippedStream};
 use sctp_serial::{Message, StreamId};
 use std::alloc::{AllocError, Global};
@@ -40,26 +40,26 @@ pub fn show_sums<R: Receiver>(receiver: &R, output: &mut Output) {
     write!(output, "ready {count}, bytes {bytes}");
 }
 
-fn forward<R: Receiver>(receiver: &mut R, line: &str, output: &mut Output) {
+fn forward<R: Receiver>(receiver: &mut R, line: Line<'_>, output: &mut Output) {
     let entries = entries(line, output);
-    output.note(receiver.forward(output.alloc, number(line, 1), &entries));
+    output.note(receiver.forward(output.alloc, line.number(1), &entries));
     drop(entries);
 }
 
-fn reset<R: Receiver>(receiver: &mut R, line: &str, output: &mut Output) {
+fn reset<R: Receiver>(receiver: &mut R, line: Line<'_>, output: &mut Output) {
     let ids = stream_ids(line, 1, output);
     output.note(receiver.reset(&ids));
     drop(ids);
 }
 
-fn add<R: Receiver>(receiver: &mut R, line: &str, output: &mut Output) {
+fn add<R: Receiver>(receiver: &mut R, line: Line<'_>, output: &mut Output) {
     let fragment = fragment_of(line, output);
-    output.note(receiver.add(number(line, 1), fragment));
+    output.note(receiver.add(line.number(1), fragment));
 }
 
 /// `add TSN STREAM NUMBER FSN ENDS HEX`, `forward TSN ENTRY ..`, `reset STREAM ..`.
-fn change<R: Receiver>(receiver: &mut R, line: &str, output: &mut Output) {
-    match word(line, 0) {
+fn change<R: Receiver>(receiver: &mut R, line: Line<'_>, output: &mut Output) {
+    match line.word(0) {
         "add" => add(receiver, line, output),
         "forward" => forward(receiver, line, output),
         "reset" => reset(receiver, line, output),
@@ -69,10 +69,10 @@ fn change<R: Receiver>(receiver: &mut R, line: &str, output: &mut Output) {
 
 /// Takes a command that a queue and streams have: `next`, `ready PLACE`, and changes, which are answered by how much there is then, as is
 /// `sums`.
-pub fn take<R: Receiver>(receiver: &mut R, line: &str, output: &mut Output) {
-    match word(line, 0) {
+pub fn take<R: Receiver>(receiver: &mut R, line: Line<'_>, output: &mut Output) {
+    match line.word(0) {
         "next" => show_next(receiver.next(), output),
-        "ready" => show_message(receiver.ready(number(line, 1) as usize), output),
+        "ready" => show_message(receiver.ready(line.size(1)), output),
         _ => {
             change(receiver, line, output);
             show_sums(receiver, output);

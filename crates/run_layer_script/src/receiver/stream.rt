@@ -8,13 +8,13 @@ use crate::receiver::list::Key;
 use crate::receiver::pieces::piece;
 use crate::receiver::player::{Player, play_each};
 use crate::receiver::receiver::show_next;
-use crate::words::{number, value, word, yes_or_no};
+use crate::words::{Line, value, yes_or_no};
 use sctp_packet::Data;
 use sctp_rx::{
     InterleavedKey, OrderedStream, ReadyMessages, ReassemblyKey, ReassemblyStream, TraditionalKey,
     UnorderedInterleavedKey, UnorderedStream,
 };
-use std::alloc::{AllocError, Global};
+use std::alloc::AllocError;
 
 /// The first number.
 const FIRST: u64 = 1 << 32;
@@ -87,8 +87,8 @@ struct Alone<S> {
 }
 
 /// Takes the commands of a script on an ordered stream.
-pub fn run_ordered(line: &str, script: &str, output: &mut Output) {
-    let begin = word(line, 2);
+pub fn run_ordered(line: Line<'_>, script: &str, output: &mut Output) {
+    let begin = line.word(2);
     let next = if begin.is_empty() {
         FIRST
     } else {
@@ -98,7 +98,7 @@ pub fn run_ordered(line: &str, script: &str, output: &mut Output) {
         output.push_str("refused\n");
         return;
     }
-    match (word(line, 1), begin.is_empty()) {
+    match (line.word(1), begin.is_empty()) {
         ("tsn", true) => run_on(
             OrderedStream::<TraditionalKey>::new(output.alloc),
             script,
@@ -123,8 +123,8 @@ pub fn run_ordered(line: &str, script: &str, output: &mut Output) {
 }
 
 /// Takes the commands of a script on an unordered stream.
-pub fn run_unordered(line: &str, script: &str, output: &mut Output) {
-    match word(line, 1) {
+pub fn run_unordered(line: Line<'_>, script: &str, output: &mut Output) {
+    match line.word(1) {
         "tsn" => run_on(
             UnorderedStream::<TraditionalKey>::new(output.alloc),
             script,
@@ -154,8 +154,8 @@ where
     S::Key: Key,
 {
     /// `next`; and changes, which are answered by the state, as is `state`.
-    fn play(&mut self, line: &str, output: &mut Output) {
-        if word(line, 0) == "next" {
+    fn play(&mut self, line: Line<'_>, output: &mut Output) {
+        if line.word(0) == "next" {
             show_next(self.ready.pop(), output);
         } else {
             self.change(line, output);
@@ -190,9 +190,9 @@ where
     }
 
     /// `add NUMBER INDEX ENDS HEX`, `forward NUMBER INDEX`, `drop NUMBER INDEX`.
-    fn change(&mut self, line: &str, output: &mut Output) {
-        let key = S::Key::made(number(line, 1), number(line, 2));
-        match word(line, 0) {
+    fn change(&mut self, line: Line<'_>, output: &mut Output) {
+        let key = S::Key::made(line.number(1), line.number(2));
+        match line.word(0) {
             "add" => {
                 let fragment = piece(line, output);
                 output.note(self.add(key, fragment));

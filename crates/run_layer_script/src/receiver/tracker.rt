@@ -2,7 +2,7 @@
 
 use crate::output::Output;
 use crate::receiver::player::{Player, play_each};
-use crate::words::{rest, value, whole, word, yes_or_no};
+use crate::words::{Line, value, whole, yes_or_no};
 use sctp_packet::{GapAckBlock, SackChunk};
 use sctp_rx::DataTracker;
 use sctp_serial::{SocketTime, Tsn};
@@ -20,8 +20,8 @@ struct Tracker {
 }
 
 /// Takes the commands of a script on a tracker.
-pub fn run(line: &str, script: &str, output: &mut Output) {
-    let first = Tsn(whole(word(line, 1)));
+pub fn run(line: Line<'_>, script: &str, output: &mut Output) {
+    let first = line.tsn(1);
     let tracker = Tracker {
         tracker: DataTracker::new(output.alloc, first, &Options::default()),
         state: SocketHandoverState::empty(output.alloc),
@@ -34,9 +34,9 @@ pub fn run(line: &str, script: &str, output: &mut Output) {
 impl Player for Tracker {
     /// `come TSN ..`, `twice TSN ..`, `urgent TSN ..`; `sack WINDOW`; `front`; `readiness`; `timer`; `write`; `restore TSN`; and
     /// tests and changes. A TSN `+N` is the first one and N.
-    fn play(&mut self, line: &str, output: &mut Output) {
-        let argument = word(line, 1);
-        match word(line, 0) {
+    fn play(&mut self, line: Line<'_>, output: &mut Output) {
+        let argument = line.word(1);
+        match line.word(0) {
             "come" => self.come(line, 1, false, output),
             "twice" => self.come(line, 2, false, output),
             "urgent" => self.come(line, 1, true, output),
@@ -50,8 +50,8 @@ impl Player for Tracker {
 
 impl Tracker {
     /// TSNs come, each so many times.
-    fn come(&mut self, line: &str, times: u8, is_immediate: bool, output: &mut Output) {
-        for word in rest(line, 1) {
+    fn come(&mut self, line: Line<'_>, times: u8, is_immediate: bool, output: &mut Output) {
+        for word in line.rest(1) {
             for _ in 0..times {
                 let tsn = tsn_of(self.first, word);
                 come_once(&mut self.tracker, self.now, tsn, is_immediate, output);

@@ -2,8 +2,8 @@
 
 use crate::output::Output;
 use crate::sender::answer::Answer;
-use crate::sender::line::Line;
 use crate::sender::{data, handover, item, queue, transmission};
+use crate::words::Line;
 use sctp_serial::Tsn;
 use sctp_state::{Events, Options};
 use sctp_tx::RetransmissionQueue;
@@ -37,15 +37,15 @@ impl Bench {
         }
     }
 
-    pub fn answer(&mut self, line: &Line<'_>, output: &mut Output) -> Answer {
+    pub fn answer(&mut self, part: &str, line: Line<'_>, output: &mut Output) -> Answer {
         let events = &mut self.events;
-        match line.part {
+        match part {
             "queue" => queue::answer(&mut self.queue, events, line, output),
             "sender" => {
                 transmission::answer(&mut self.sender, &mut self.queue, events, line, output)
             }
             "both" => handover::answer(output.alloc, &mut self.queue, &mut self.sender, line),
-            "event" => event(events, line.verb, output),
+            "event" => event(events, line.word(0), output),
             "data" => data::answer(&mut self.data, events, line, output),
             "item" => item::answer(&mut self.item, line, output),
             _ => Answer::Unknown,

@@ -3,18 +3,18 @@
 use crate::output::Output;
 use crate::sender::answer::{Answer, done};
 use crate::sender::fragment::{bytes, sack, show_chunks, show_skips};
-use crate::sender::line::Line;
+use crate::words::Line;
 use sctp_packet::{Data, SackChunk};
-use sctp_serial::{Fsn, Mid, PpId, SocketTime, Ssn, StreamKey};
+use sctp_serial::{Fsn, LifecycleId, Mid, OutgoingMessageId, PpId, SocketTime, Ssn, StreamKey};
 use sctp_state::{Events, SocketHandoverState};
 use sctp_tx_outstanding::{Discarded, OutstandingData};
-use std::alloc::{AllocError, Global};
+use std::alloc::Global;
 use std::collections::VecDeque;
 use std::mem;
 
-fn due(line: &Line<'_>) -> Option<SocketTime> {
-    if line.flag(7) {
-        Some(line.moment(7))
+fn due(line: Line<'_>) -> Option<SocketTime> {
+    if line.flag(8) {
+        Some(line.moment(8))
     } else {
         None
     }
@@ -22,35 +22,35 @@ fn due(line: &Line<'_>) -> Option<SocketTime> {
 
 /// `send STREAM SSN MESSAGE BYTES LIMIT END LIFECYCLE DUE`: an ordered fragment that is sent at moment 0, with its limit of
 /// retransmissions, and the moment from which it isn't worth sending, 0 if there is none.
-fn send(alloc: Global, data: &mut OutstandingData, line: &Line<'_>) -> Answer {
-    match bytes(alloc, usize::from(line.short(3))) {
+fn send(alloc: Global, data: &mut OutstandingData, line: Line<'_>) -> Answer {
+    match bytes(alloc, usize::from(line.half(4))) {
         Ok(payload) => insert(data, payload, line),
         Err(_) => Answer::NoMemory,
     }
 }
 
-fn insert(data: &mut OutstandingData, payload: Vec<u8>, line: &Line<'_>) -> Answer {
+fn insert(data: &mut OutstandingData, payload: Vec<u8>, line: Line<'_>) -> Answer {
     if payload.len() >= 100 {
         drop(payload);
         return Answer::Refused;
     }
     let fragment = Data {
-        stream_key: StreamKey::Ordered(line.stream(0)),
-        ssn: Ssn(line.short(1)),
+        stream_key: StreamKey::Ordered(line.stream(1)),
+        ssn: Ssn(line.half(2)),
         mid: Mid(0),
         fsn: Fsn(0),
         ppid: PpId(53),
         payload,
         is_beginning: true,
-        is_end: line.flag(5),
+        is_end: line.flag(6),
     };
     let sent = data.insert(
-        line.message(2),
+        OutgoingMessageId(line.whole(3)),
         fragment,
         SocketTime::zero(),
-        line.short(4),
+        line.half(5),
         due(line),
-        line.lifecycle(6),
+        LifecycleId::new(line.number(7)),
     );
     match sent {
         Ok(tsn) => Answer::Number(u64::from(tsn.0)),
@@ -62,10 +62,10 @@ fn insert(data: &mut OutstandingData, payload: Vec<u8>, line: &Line<'_>) -> Answ
 fn receive_sack(
     data: &mut OutstandingData,
     events: &mut Events,
-    line: &Line<'_>,
+    line: Line<'_>,
     output: &mut Output,
 ) -> Answer {
-    match sack(output.alloc, line.tsn(0), line.short(1), line.short(2)) {
+    match sack(output.alloc, line.tsn(1), line.half(2), line.half(3)) {
         Ok(chunk) => {
             let answer = handle(data, &chunk, events, output);
             drop(chunk);
@@ -201,8 +201,8 @@ fn record(data: &OutstandingData, now: SocketTime, output: &mut Output) -> Answe
 }
 
 /// `rtt MOMENT TSN`
-fn round_trip(data: &OutstandingData, line: &Line<'_>, output: &mut Output) -> Answer {
-    match data.measure_rtt(line.moment(0), line.tsn(1)) {
+fn round_trip(data: &OutstandingData, line: Line<'_>, output: &mut Output) -> Answer {
+    match data.measure_rtt(line.moment(1), line.tsn(2)) {
         Some(rtt) => {
             write!(output, "{}", rtt.as_millis());
             Answer::Text
@@ -234,38 +234,38 @@ fn count(data: &OutstandingData, verb: &str, output: &mut Output) -> Answer {
     Answer::Text
 }
 
-fn asked(data: &OutstandingData, line: &Line<'_>) -> Answer {
-    match line.verb {
+fn asked(data: &OutstandingData, line: Line<'_>) -> Answer {
+    match line.word(0) {
         "is-empty" => Answer::Is(data.is_empty()),
         "is-due" => Answer::Is(data.should_send_forward_tsn()),
         "is-interleaved" => Answer::Is(data.is_interleaved()),
         "has-lost" => Answer::Is(data.has_data_to_be_retransmitted()),
         "has-fast" => Answer::Is(data.has_data_to_be_fast_retransmitted()),
         "has-rests" => Answer::Is(data.has_unsent_messages_to_discard()),
-        "unwrapped" => Answer::Number(data.unwrapped(line.tsn(0))),
+        "unwrapped" => Answer::Number(data.unwrapped(line.tsn(1))),
         _ => Answer::Unknown,
     }
 }
 
 /// `new TSN INTERLEAVED`: with no fragments, the first of which takes this TSN.
-fn renew(alloc: Global, data: &mut OutstandingData, line: &Line<'_>) -> Answer {
-    let other = OutstandingData::new(alloc, line.tsn(0), true, line.flag(1));
+fn renew(alloc: Global, data: &mut OutstandingData, line: Line<'_>) -> Answer {
+    let other = OutstandingData::new(alloc, line.tsn(1), true, line.flag(2));
     drop(mem::replace(data, other));
     Answer::Done
 }
 
 /// `restored TSN LAST`: the same, and all was acknowledged to the last TSN.
-fn restore(alloc: Global, data: &mut OutstandingData, line: &Line<'_>) -> Answer {
-    let mut other = OutstandingData::new(alloc, line.tsn(0), true, false);
-    other.reset_sequence_numbers(line.tsn(1));
+fn restore(alloc: Global, data: &mut OutstandingData, line: Line<'_>) -> Answer {
+    let mut other = OutstandingData::new(alloc, line.tsn(1), true, false);
+    other.reset_sequence_numbers(line.tsn(2));
     drop(mem::replace(data, other));
     Answer::Done
 }
 
-fn change(data: &mut OutstandingData, events: &mut Events, line: &Line<'_>) -> Answer {
-    match line.verb {
+fn change(data: &mut OutstandingData, events: &mut Events, line: Line<'_>) -> Answer {
+    match line.word(0) {
         "time-out" => done(data.nack_all(events)),
-        "expire" => done(data.expire_outstanding_chunks(line.moment(0), events)),
+        "expire" => done(data.expire_outstanding_chunks(line.moment(1), events)),
         "begin-reset" => done(data.begin_reset_streams()),
         _ => asked(data, line),
     }
@@ -275,28 +275,28 @@ fn change(data: &mut OutstandingData, events: &mut Events, line: &Line<'_>) -> A
 pub fn answer(
     data: &mut OutstandingData,
     events: &mut Events,
-    line: &Line<'_>,
+    line: Line<'_>,
     output: &mut Output,
 ) -> Answer {
-    match line.verb {
+    match line.word(0) {
         "new" => renew(output.alloc, data, line),
         "restored" => restore(output.alloc, data, line),
         "send" => send(output.alloc, data, line),
         "sack" => receive_sack(data, events, line, output),
-        "point" => point(data, line.size(0), output),
+        "point" => point(data, line.size(1), output),
         "resend" => {
-            let chunks = data.get_chunks_to_be_retransmitted(line.size(0), line.size(1));
+            let chunks = data.get_chunks_to_be_retransmitted(line.size(1), line.size(2));
             show_chunks(output, chunks)
         }
         "resend-fast" => {
-            let chunks = data.get_chunks_to_be_fast_retransmitted(line.size(0));
+            let chunks = data.get_chunks_to_be_fast_retransmitted(line.size(1));
             show_chunks(output, chunks)
         }
         "rest" => rest(data, output),
         "rests" => rests(data, output),
-        "record" => record(data, line.fine_moment(0), output),
+        "record" => record(data, line.fine_moment(1), output),
         "rtt" => round_trip(data, line, output),
-        "counts" | "tsns" | "numbers" => count(data, line.verb, output),
+        "counts" | "tsns" | "numbers" => count(data, line.word(0), output),
         _ => change(data, events, line),
     }
 }

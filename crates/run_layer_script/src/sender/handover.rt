@@ -2,7 +2,7 @@
 
 use crate::sender::answer::{Answer, done};
 use crate::sender::bench::sender as fresh;
-use crate::sender::line::Line;
+use crate::words::Line;
 use sctp_serial::SocketTime;
 use sctp_state::api::handover::HandoverSocketState;
 use sctp_state::{Options, SocketHandoverState};
@@ -62,13 +62,13 @@ pub fn answer(
     alloc: Global,
     queue: &mut SendQueue,
     sender: &mut RetransmissionQueue,
-    line: &Line<'_>,
+    line: Line<'_>,
 ) -> Answer {
-    if line.verb != "hand-over" {
+    if line.word(0) != "hand-over" {
         return Answer::Unknown;
     }
     let mut state = SocketHandoverState::empty(alloc);
-    let answer = pass_on(alloc, queue, sender, line.moment(0), &mut state);
+    let answer = pass_on(alloc, queue, sender, line.moment(1), &mut state);
     drop(state);
     answer
 }

@@ -3,7 +3,7 @@
 use crate::output::Output;
 use crate::sender::answer::Answer;
 use crate::sender::fragment::{number_of, push_data};
-use crate::sender::line::Line;
+use crate::words::Line;
 use sctp_packet::Data;
 use sctp_serial::{
     Fsn, LifecycleId, Mid, OutgoingMessageId, PpId, SocketTime, Ssn, StreamId, StreamKey,
@@ -74,8 +74,8 @@ fn put(kept: &mut Option<Item>, item: Option<Item>) -> Answer {
 }
 
 /// `new LIMIT SHORT`
-fn renew(alloc: Global, kept: &mut Option<Item>, line: &Line<'_>) -> Answer {
-    match limited(alloc, line.short(0), line.flag(1)) {
+fn renew(alloc: Global, kept: &mut Option<Item>, line: Line<'_>) -> Answer {
+    match limited(alloc, line.half(1), line.flag(2)) {
         Ok(item) => put(kept, item),
         Err(_) => Answer::NoMemory,
     }
@@ -112,11 +112,11 @@ fn sizes(item: &Item, is_interleaved: bool, output: &mut Output) -> Answer {
     Answer::Text
 }
 
-fn asked(item: &Item, line: &Line<'_>, output: &mut Output) -> Answer {
-    match line.verb {
-        "is-lost" => Answer::Is(item.is_lost(line.flag(0))),
+fn asked(item: &Item, line: Line<'_>, output: &mut Output) -> Answer {
+    match line.word(0) {
+        "is-lost" => Answer::Is(item.is_lost(line.flag(1))),
         "is-used-up" => Answer::Is(item.is_used_up()),
-        "has-expired" => Answer::Is(item.has_expired(line.moment(0))),
+        "has-expired" => Answer::Is(item.has_expired(line.moment(1))),
         "was-resent" => Answer::Is(item.has_been_retransmitted()),
         "payload-size" => Answer::Number(item.payload_size() as u64),
         "names" => names(item),
@@ -125,9 +125,9 @@ fn asked(item: &Item, line: &Line<'_>, output: &mut Output) -> Answer {
             Answer::Text
         },
         "copy" => copied(item, output),
-        "sizes" => sizes(item, line.flag(0), output),
+        "sizes" => sizes(item, line.flag(1), output),
         "rtt" => {
-            let rtt = item.get_rtt_from(line.moment(0)).as_millis();
+            let rtt = item.get_rtt_from(line.moment(1)).as_millis();
             {
                 write!(output, "{rtt}");
                 Answer::Text
@@ -141,9 +141,9 @@ fn asked(item: &Item, line: &Line<'_>, output: &mut Output) -> Answer {
     }
 }
 
-fn change(item: &mut Item, line: &Line<'_>, output: &mut Output) -> Answer {
-    match line.verb {
-        "nack" => item.nack(line.flag(0), line.flag(1)),
+fn change(item: &mut Item, line: Line<'_>, output: &mut Output) -> Answer {
+    match line.word(0) {
+        "nack" => item.nack(line.flag(1), line.flag(2)),
         "ack" => item.ack(),
         "uncover" => item.uncover(),
         "resend" => item.mark_as_retransmitted(),
@@ -177,10 +177,10 @@ fn restore(
 }
 
 /// `hand-over MOMENT LATER`: the record of one moment, which is taken up at another.
-fn hand_over(item: &mut Item, line: &Line<'_>, output: &mut Output) -> Answer {
-    match item.handed_over(output.alloc, line.moment(0)) {
+fn hand_over(item: &mut Item, line: Line<'_>, output: &mut Output) -> Answer {
+    match item.handed_over(output.alloc, line.moment(1)) {
         Ok(record) => {
-            let answer = restore(item, line.moment(1), &record, output);
+            let answer = restore(item, line.moment(2), &record, output);
             drop(record);
             answer
         }
@@ -188,15 +188,15 @@ fn hand_over(item: &mut Item, line: &Line<'_>, output: &mut Output) -> Answer {
     }
 }
 
-fn answered(item: &mut Item, line: &Line<'_>, output: &mut Output) -> Answer {
-    match line.verb {
+fn answered(item: &mut Item, line: Line<'_>, output: &mut Output) -> Answer {
+    match line.word(0) {
         "hand-over" => hand_over(item, line, output),
         _ => change(item, line, output),
     }
 }
 
-pub fn answer(kept: &mut Option<Item>, line: &Line<'_>, output: &mut Output) -> Answer {
-    match line.verb {
+pub fn answer(kept: &mut Option<Item>, line: Line<'_>, output: &mut Output) -> Answer {
+    match line.word(0) {
         "new" => renew(output.alloc, kept, line),
         "placeholder" => put(
             kept,

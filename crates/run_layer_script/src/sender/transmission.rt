@@ -3,23 +3,23 @@
 use crate::output::Output;
 use crate::sender::answer::{Answer, done};
 use crate::sender::fragment::{millis_of, sack, show_chunks, show_skips};
-use crate::sender::line::Line;
+use crate::words::Line;
 use sctp_packet::Chunk;
 use sctp_state::Events;
 use sctp_tx::RetransmissionQueue;
 use sctp_tx_queue::SendQueue;
-use std::alloc::{AllocError, Global};
+use std::alloc::AllocError;
 
 /// `sack MOMENT TSN FIRST LAST`: a block from one offset to another, none where they are 0.
 fn receive_sack(
     sender: &mut RetransmissionQueue,
     events: &mut Events,
-    line: &Line<'_>,
+    line: Line<'_>,
     output: &mut Output,
 ) -> Answer {
-    match sack(output.alloc, line.tsn(1), line.short(2), line.short(3)) {
+    match sack(output.alloc, line.tsn(2), line.half(3), line.half(4)) {
         Ok(chunk) => {
-            let result = sender.handle_sack(line.moment(0), &chunk, events);
+            let result = sender.handle_sack(line.moment(1), &chunk, events);
             drop(chunk);
             match result {
                 Ok(result) => {
@@ -62,8 +62,8 @@ fn is(outcome: Result<bool, AllocError>) -> Answer {
     }
 }
 
-fn asked(sender: &RetransmissionQueue, line: &Line<'_>) -> Answer {
-    match line.verb {
+fn asked(sender: &RetransmissionQueue, line: Line<'_>) -> Answer {
+    match line.word(0) {
         "has-fast" => Answer::Is(sender.has_data_to_be_fast_retransmitted()),
         "can-send" => Answer::Is(sender.can_send_data()),
         "is-empty" => Answer::Is(sender.is_empty()),
@@ -77,7 +77,7 @@ fn asked(sender: &RetransmissionQueue, line: &Line<'_>) -> Answer {
             u64::from(sender.last_assigned_tsn().0),
             u64::from(sender.next_tsn().0),
         ),
-        "readiness" => Answer::Number(u64::from(sender.get_handover_readiness(line.flag(0)).0)),
+        "readiness" => Answer::Number(u64::from(sender.get_handover_readiness(line.flag(1)).0)),
         _ => Answer::Unknown,
     }
 }
@@ -91,10 +91,10 @@ fn expires(sender: &RetransmissionQueue, output: &mut Output) -> Answer {
     }
 }
 
-fn settle(sender: &mut RetransmissionQueue, line: &Line<'_>, output: &mut Output) -> Answer {
-    match line.verb {
-        "rto" => sender.update_rto(line.millis(0)),
-        "set-window" => sender.set_cwnd(line.size(0)),
+fn settle(sender: &mut RetransmissionQueue, line: Line<'_>, output: &mut Output) -> Answer {
+    match line.word(0) {
+        "rto" => sender.update_rto(line.millis(1)),
+        "set-window" => sender.set_cwnd(line.size(1)),
         "begin-reset" => return done(sender.begin_reset_streams()),
         "expires" => return expires(sender, output),
         "point" => return point(sender, output),
@@ -108,17 +108,17 @@ pub fn answer(
     sender: &mut RetransmissionQueue,
     queue: &mut SendQueue,
     events: &mut Events,
-    line: &Line<'_>,
+    line: Line<'_>,
     output: &mut Output,
 ) -> Answer {
-    let now = line.moment(0);
-    match line.verb {
+    let now = line.moment(1);
+    match line.word(0) {
         "send" => {
-            let room = usize::from(line.short(1));
+            let room = usize::from(line.half(2));
             show_chunks(output, sender.get_chunks_to_send(now, room, queue, events))
         }
         "fast" => {
-            let chunks = sender.get_chunks_for_fast_retransmit(now, line.size(1));
+            let chunks = sender.get_chunks_for_fast_retransmit(now, line.size(2));
             show_chunks(output, chunks)
         }
         "sack" => receive_sack(sender, events, line, output),

@@ -1,7 +1,7 @@
 //! What commands say and answer, and the loop over the commands of a section.
 
 use crate::output::Output;
-use crate::words::{self, cut};
+use crate::words::{self, Line};
 use std::alloc::AllocError;
 use std::fmt::Display;
 
@@ -29,59 +29,10 @@ pub fn done<T: Drop, E: Drop>(outcome: Result<T, E>) -> Answer {
     }
 }
 
-/// A name, and up to four numbers behind it.
-#[derive(Clone, Copy)]
-pub struct Line<'a> {
-    pub name: &'a str,
-    /// The last word behind the name, where there is one.
-    pub last: &'a str,
-    /// 1 for yes, 0 for no and for one that is left out; the greatest number for another word.
-    pub numbers: [u64; 4],
-}
-
 /// What is tried in a section.
 pub trait Subject {
     /// Does what the line says. What is printed goes behind the line.
     fn obey(&mut self, line: Line<'_>, output: &mut Output) -> Answer;
-}
-
-/// The line that the text is.
-pub fn line_of(text: &str) -> Line<'_> {
-    let (name, rest) = cut(text, ' ');
-    let last = match rest.rsplit_once(' ') {
-        Some((_, last)) => last,
-        None => rest,
-    };
-    let mut words = rest.split_whitespace();
-    let numbers = [
-        number(words.next()),
-        number(words.next()),
-        number(words.next()),
-        number(words.next()),
-    ];
-    Line {
-        name,
-        last,
-        numbers,
-    }
-}
-
-fn number(word: Option<&str>) -> u64 {
-    match word {
-        Some("yes") => 1,
-        Some("no") | None => 0,
-        Some(word) => word.parse::<u64>().unwrap_or(u64::MAX),
-    }
-}
-
-/// The number, or the greatest one of 32 bits.
-pub fn low_word(number: u64) -> u32 {
-    u32::try_from(number).unwrap_or(u32::MAX)
-}
-
-/// The number, or the greatest one of 16 bits.
-pub fn low_half(number: u64) -> u16 {
-    u16::try_from(number).unwrap_or(u16::MAX)
 }
 
 /// The bytes that hex digits say; what the command answers where the word has no such digits alone.
@@ -93,7 +44,7 @@ pub fn bytes_of(digits: &str, output: &mut Output) -> Result<Vec<u8>, Answer> {
 pub fn run_commands<S: Subject>(commands: &str, output: &mut Output, subject: &mut S) {
     for command in commands.lines() {
         output.push_str(command);
-        let answer = subject.obey(line_of(command), output);
+        let answer = subject.obey(Line(command), output);
         output.finish(answer);
     }
 }

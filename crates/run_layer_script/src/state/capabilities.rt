@@ -1,8 +1,9 @@
 //! `capabilities`: what two ends announce and negotiate.
 
 use crate::output::Output;
-use crate::state::answer::{Answer, Line, Subject, bytes_of, low_half, low_word, run_commands};
+use crate::state::answer::{Answer, Subject, bytes_of, run_commands};
 use crate::state::options::set_option;
+use crate::words::{Line, low_half, low_word};
 use sctp_capabilities::{Capabilities, announced_parameters};
 use sctp_parameter::{Parameter, parameters_from_bytes};
 use sctp_serial::ZeroChecksumAlternateErrorDetectionMethod;
@@ -29,8 +30,8 @@ impl Subject for End {
     /// `announce METHOD`: the parameters. `peer OUTGOING INCOMING HEX`: by an INIT with these stream counts and parameters; `nothing`:
     /// without parameters. `negotiate`. `default`. `end`: the other end, with the options of a new socket. Or an option.
     fn obey(&mut self, line: Line<'_>, output: &mut Output) -> Answer {
-        match line.name {
-            "announce" => announce(&self.options, line.numbers[0], output),
+        match line.word(0) {
+            "announce" => announce(&self.options, line.number(1), output),
             "peer" => read_peer(&mut self.peer, line, output),
             "nothing" => show(Capabilities::from_parameters(0, 0, &[]), output),
             "negotiate" => show(self.peer.negotiate(&self.options), output),
@@ -39,7 +40,7 @@ impl Subject for End {
                 self.options = Options::default();
                 Answer::Done
             }
-            name => set_option(&mut self.options, name, line.numbers[0]),
+            name => set_option(&mut self.options, name, line.number(1)),
         }
     }
 }
@@ -66,9 +67,9 @@ fn write_parameters(parameters: &[Parameter], output: &mut Output) -> Answer {
 }
 
 fn read_peer(peer: &mut Capabilities, line: Line<'_>, output: &mut Output) -> Answer {
-    let answer = match bytes_of(line.last, output) {
+    let answer = match bytes_of(line.last(), output) {
         Ok(bytes) => {
-            let answer = read(output.alloc, peer, line.numbers, &bytes);
+            let answer = read(output.alloc, peer, line.numbers(), &bytes);
             drop(bytes);
             answer
         }

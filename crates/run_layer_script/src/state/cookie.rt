@@ -1,7 +1,8 @@
 //! `cookie`: what an end keeps of an INIT by sending it to the peer.
 
 use crate::output::Output;
-use crate::state::answer::{Answer, Line, Subject, bytes_of, low_half, low_word, run_commands};
+use crate::state::answer::{Answer, Subject, bytes_of, run_commands};
+use crate::words::{Line, low_half, low_word};
 use sctp_capabilities::{Capabilities, StateCookie};
 use sctp_serial::{Tsn, ZeroChecksumAlternateErrorDetectionMethod};
 
@@ -22,12 +23,12 @@ impl Subject for StateCookie {
     /// `write`: the bytes. `read HEX`: takes the cookie of these bytes, or says why they are none. `show`, `capabilities`, and
     /// what can be set.
     fn obey(&mut self, line: Line<'_>, output: &mut Output) -> Answer {
-        match line.name {
+        match line.word(0) {
             "write" => output.show_made(self.serialize(output.alloc)),
-            "read" => read(self, line.last, output),
+            "read" => read(self, line.last(), output),
             "show" => show(self, output),
             "capabilities" => show_capabilities(&self.peer_capabilities, output),
-            name => set(self, name, line.numbers),
+            name => set(self, name, line.numbers()),
         }
     }
 }

@@ -1,7 +1,8 @@
 //! `errors`: why calls fail, in words and by number. A command is the name of a call and of an error.
 
 use crate::output::Output;
-use crate::state::answer::{Answer, Line, Subject, done, run_commands};
+use crate::state::answer::{Answer, Subject, run_commands};
+use crate::words::Line;
 use sctp_state::{
     BatchFault, BatchSendError, CallError, HandoverError, HandoverReadiness, ResetStreamsError,
     RestoreError, SendError,
@@ -16,14 +17,14 @@ pub fn run(commands: &str, output: &mut Output) {
 
 impl Subject for Errors {
     fn obey(&mut self, line: Line<'_>, output: &mut Output) -> Answer {
-        match line.name {
-            "too-large" => too_large(line.numbers, output),
-            "send" => send(line.last, output),
-            "batch" => batch(line.last, output),
-            "call" => call(line.last, output),
-            "reset" => reset(line.last, output),
-            "hand-over" => hand_over(line.last, output),
-            "restore" => restore(line.last, output),
+        match line.word(0) {
+            "too-large" => too_large(line.numbers(), output),
+            "send" => send(line.last(), output),
+            "batch" => batch(line.last(), output),
+            "call" => call(line.last(), output),
+            "reset" => reset(line.last(), output),
+            "hand-over" => hand_over(line.last(), output),
+            "restore" => restore(line.last(), output),
             _ => Answer::Unknown,
         }
     }

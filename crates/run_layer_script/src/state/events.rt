@@ -1,9 +1,8 @@
 //! `events`: what a socket emits, and the records of messages given up.
 
 use crate::output::Output;
-use crate::state::answer::{
-    Answer, Line, Subject, bytes_of, done, low_half, low_word, run_commands,
-};
+use crate::state::answer::{Answer, Subject, bytes_of, done, run_commands};
+use crate::words::{Line, low_half, low_word};
 use sctp_serial::{LifecycleId, OutgoingMessageId, StreamId};
 use sctp_state::{ErrorKind, EventMark, EventSink, Events, GivenUp, GivenUpCause, SocketEvent};
 use std::alloc::Global;
@@ -26,7 +25,7 @@ pub fn run(commands: &str, output: &mut Output) {
 impl Subject for Marked {
     /// `mark`; `roll-back`: to the mark; `waiting`; `next`; `next-given-up`; and what is emitted.
     fn obey(&mut self, line: Line<'_>, output: &mut Output) -> Answer {
-        match line.name {
+        match line.word(0) {
             "mark" => self.mark = self.events.mark(),
             "roll-back" => self.events.roll_back(self.mark),
             "waiting" => return waiting(&self.events, output),
@@ -80,8 +79,8 @@ fn waiting(events: &Events, output: &mut Output) -> Answer {
 /// `given-up MESSAGE`: its lifetime passed; `sent-again MESSAGE COUNT`; `dropped-by-reset MESSAGE`; `connected`; `low STREAM`;
 /// `end MESSAGE`; and what `happen_long` says.
 fn happen(events: &mut Events, line: Line<'_>, output: &mut Output) -> Answer {
-    let [first, second, _, _] = line.numbers;
-    match line.name {
+    let [first, second, _, _] = line.numbers();
+    match line.word(0) {
         "given-up" => give_up(events, first, GivenUpCause::Lifetime),
         "sent-again" => give_up(
             events,
@@ -113,10 +112,10 @@ fn end(events: &mut Events, number: u64) -> Answer {
 
 /// `packet HEX`, `aborted TEXT`, `reset-by-peer STREAM STREAM`.
 fn happen_long(events: &mut Events, line: Line<'_>, output: &mut Output) -> Answer {
-    match line.name {
-        "packet" => packet(events, line.last, output),
-        "aborted" => aborted(output.alloc, events, line.last),
-        "reset-by-peer" => reset_by_peer(output.alloc, events, line.numbers),
+    match line.word(0) {
+        "packet" => packet(events, line.last(), output),
+        "aborted" => aborted(output.alloc, events, line.last()),
+        "reset-by-peer" => reset_by_peer(output.alloc, events, line.numbers()),
         _ => Answer::Unknown,
     }
 }

@@ -2,9 +2,8 @@
 //! connected one that has sent nothing.
 
 use crate::output::Output;
-use crate::state::answer::{
-    Answer, Line, Subject, bytes_of, done, low_half, low_word, run_commands,
-};
+use crate::state::answer::{Answer, Subject, bytes_of, done, run_commands};
+use crate::words::{Line, low_half, low_word};
 use sctp_handover::{RecordFault, from_bytes, to_bytes};
 use sctp_state::SocketHandoverState;
 use sctp_state::api::handover::{
@@ -15,7 +14,7 @@ use std::alloc::Global;
 
 pub fn run(line: Line<'_>, commands: &str, output: &mut Output) {
     let mut state = SocketHandoverState::empty(output.alloc);
-    connect(&mut state, line.last);
+    connect(&mut state, line.last());
     run_commands(commands, output, &mut state);
     drop(state);
 }
@@ -34,14 +33,14 @@ impl Subject for SocketHandoverState {
     /// `valid`; `written`: its bytes, in hex; `read HEX`: the record that these bytes are, in place of it; `peer-tag TAG`;
     /// `interleaving FLAG`; `ordered STREAM NEXT`: a stream on which messages came; `ordered-count`; and what this end sends.
     fn obey(&mut self, line: Line<'_>, output: &mut Output) -> Answer {
-        let first = line.numbers[0];
-        match line.name {
+        let first = line.number(1);
+        match line.word(0) {
             "valid" => return Answer::Flag(self.is_valid()),
             "written" => return output.show_made(to_bytes(output.alloc, self)),
-            "read" => return read(self, line.last, output),
+            "read" => return read(self, line.last(), output),
             "peer-tag" => self.peer_verification_tag = low_word(first),
             "interleaving" => self.capabilities.message_interleaving = first == 1,
-            "ordered" => return add_ordered(&mut self.rx.ordered_streams, line.numbers),
+            "ordered" => return add_ordered(&mut self.rx.ordered_streams, line.numbers()),
             "ordered-count" => return Answer::Number(self.rx.ordered_streams.len() as u128),
             _ => return send(output.alloc, &mut self.tx, line),
         }
@@ -82,12 +81,12 @@ fn add_ordered(streams: &mut Vec<HandoverOrderedStream>, numbers: [u64; 4]) -> A
 /// `next-tsn N`; `next-message N`; `stream ID`; `message STREAM ID OFFSET`: a queued message of three bytes; `acked`: a fragment
 /// that a selective acknowledgement covers; `stream-count`; and a change of the last message or fragment.
 fn send(alloc: Global, tx: &mut HandoverTransmission, line: Line<'_>) -> Answer {
-    let first = line.numbers[0];
-    match line.name {
+    let first = line.number(1);
+    match line.word(0) {
         "next-tsn" => tx.next_tsn = low_word(first),
         "next-message" => tx.next_outgoing_message_id = first,
         "stream" => return add_stream(&mut tx.streams, first),
-        "message" => return add_message(alloc, &mut tx.queued_messages, line.numbers),
+        "message" => return add_message(alloc, &mut tx.queued_messages, line.numbers()),
         "acked" => return add_acked(alloc, &mut tx.outstanding_data),
         "stream-count" => return Answer::Number(tx.streams.len() as u128),
         name => return change_last(tx, name, first),

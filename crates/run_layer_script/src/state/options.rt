@@ -1,7 +1,8 @@
 //! `options`: what a socket is made with, and which of it is valid.
 
 use crate::output::Output;
-use crate::state::answer::{Answer, Line, Subject, done, low_half, low_word, run_commands};
+use crate::state::answer::{Answer, Subject, run_commands};
+use crate::words::{Line, low_half, low_word};
 use sctp_serial::{LifecycleId, ZeroChecksumAlternateErrorDetectionMethod};
 use sctp_state::Options;
 use sctp_state::api::laws;
@@ -15,7 +16,7 @@ pub fn run(commands: &str, output: &mut Output) {
 impl Subject for Options {
     /// `valid`; `copy`; `send ID`: the options of a message, with this lifecycle; what is shown below, and what can be set.
     fn obey(&mut self, line: Line<'_>, output: &mut Output) -> Answer {
-        match line.name {
+        match line.word(0) {
             "valid" => Answer::Flag(self.is_valid()),
             "sizes" => sizes(self, output),
             "limits" => limits(self, output),
@@ -24,9 +25,9 @@ impl Subject for Options {
             "intervals" => intervals(self, output),
             "switches" => switches(self, output),
             "fragments" => fragments(self, output),
-            "send" => send_options(line.numbers[0], output),
+            "send" => send_options(line.number(1), output),
             "copy" => copy(self),
-            name => set_option(self, name, line.numbers[0]),
+            name => set_option(self, name, line.number(1)),
         }
     }
 }

@@ -1,7 +1,8 @@
 //! `readiness`: what stands in the way of a handover. A readiness is the sum of its reasons' numbers.
 
 use crate::output::Output;
-use crate::state::answer::{Answer, Line, Subject, done, low_word, run_commands};
+use crate::state::answer::{Answer, Subject, run_commands};
+use crate::words::{Line, low_word};
 use sctp_state::HandoverReadiness;
 
 pub fn run(commands: &str, output: &mut Output) {
@@ -12,9 +13,9 @@ pub fn run(commands: &str, output: &mut Output) {
 impl Subject for HandoverReadiness {
     /// `is REASON`, `and REASON`, `has REASON`, `if FLAG`, `number`, `ready`, and its two texts, `show` and `debug`.
     fn obey(&mut self, line: Line<'_>, output: &mut Output) -> Answer {
-        let number = line.numbers[0];
-        let other = reason(line.last, number);
-        match line.name {
+        let number = line.number(1);
+        let other = reason(line.last(), number);
+        match line.word(0) {
             "is" => *self = other,
             "and" => *self = *self | other,
             "if" => *self = *self & (number == 1),

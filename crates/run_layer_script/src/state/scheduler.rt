@@ -1,12 +1,13 @@
 //! `scheduler BYTES`: which stream sends next, with fragments of so many bytes at most.
 
 use crate::output::Output;
-use crate::state::answer::{Answer, Line, Subject, done, low_half, run_commands};
+use crate::state::answer::{Answer, Subject, done, run_commands};
+use crate::words::{Line, low_half};
 use sctp_serial::StreamId;
 use sctp_stream_scheduler::StreamScheduler;
 
 pub fn run(line: Line<'_>, commands: &str, output: &mut Output) {
-    let mut scheduler = StreamScheduler::new(output.alloc, line.numbers[0] as usize);
+    let mut scheduler = StreamScheduler::new(output.alloc, line.size(1));
     run_commands(commands, output, &mut scheduler);
     drop(scheduler);
 }
@@ -14,9 +15,9 @@ pub fn run(line: Line<'_>, commands: &str, output: &mut Output) {
 impl Subject for StreamScheduler {
     /// `bytes STREAM BYTES PRIORITY`, `turn STREAM BYTES PRIORITY`, and what `change` and `ask` say.
     fn obey(&mut self, line: Line<'_>, _output: &mut Output) -> Answer {
-        let [stream, bytes, priority, _] = line.numbers;
+        let [stream, bytes, priority, _] = line.numbers();
         let id = StreamId(low_half(stream));
-        match line.name {
+        match line.word(0) {
             "bytes" => done(self.set_bytes_remaining(id, bytes as usize, low_half(priority))),
             "turn" => done(self.take_turn(id, bytes as usize, low_half(priority))),
             name => change(self, name, id),

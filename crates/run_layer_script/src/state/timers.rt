@@ -4,15 +4,16 @@
 //! `timeout`: the retransmission timeout, by the samples of a round trip time.
 
 use crate::output::Output;
-use crate::state::answer::{Answer, Line, Subject, run_commands};
+use crate::state::answer::{Answer, Subject, run_commands};
 use crate::state::options::set_option;
+use crate::words::Line;
 use sctp_serial::SocketTime;
 use sctp_state::{BackoffAlgorithm, Options, RetransmissionTimeout, Timer};
 use std::time::Duration;
 
 fn timer(line: Line<'_>) -> Timer {
-    let [duration, restarts, longest, _] = line.numbers;
-    let backoff = if line.last == "fixed" {
+    let [duration, restarts, longest, _] = line.numbers();
+    let backoff = if line.last() == "fixed" {
         BackoffAlgorithm::Fixed
     } else {
         BackoffAlgorithm::Exponential
@@ -34,8 +35,8 @@ pub fn run(line: Line<'_>, commands: &str, output: &mut Output) {
 impl Subject for Timer {
     /// `start MS`, `expire MS`, `duration MS`, `stop`, `running`, `next`, `lasts`.
     fn obey(&mut self, line: Line<'_>, _output: &mut Output) -> Answer {
-        let time = Duration::from_millis(line.numbers[0]);
-        match line.name {
+        let time = line.millis(1);
+        match line.word(0) {
             "start" => self.start(SocketTime::zero() + time),
             "expire" => return Answer::Flag(self.expire(SocketTime::zero() + time)),
             "duration" => self.set_duration(time),
@@ -81,16 +82,15 @@ pub fn run_timeout(commands: &str, output: &mut Output) {
 impl Subject for Estimate {
     /// `rto` and `srtt`, in whole milliseconds; `sample MS`; or an option, with which the timeout begins anew.
     fn obey(&mut self, line: Line<'_>, _output: &mut Output) -> Answer {
-        match line.name {
+        match line.word(0) {
             "rto" => Answer::Number(self.timeout.rto().as_millis()),
             "srtt" => Answer::Number(self.timeout.srtt().as_millis()),
             "sample" => {
-                self.timeout
-                    .observe_rto(Duration::from_millis(line.numbers[0]));
+                self.timeout.observe_rto(line.millis(1));
                 Answer::Done
             }
             name => {
-                let answer = set_option(&mut self.options, name, line.numbers[0]);
+                let answer = set_option(&mut self.options, name, line.number(1));
                 self.timeout = RetransmissionTimeout::new(&self.options);
                 answer
             }
