@@ -265,7 +265,7 @@ module _ {P : Type 0} where
   restart_lined (Open phase t) k s o l = restarts_lined phase t k s o l
 
   resolved_lined : (r : CookieResolution) (k : Cookie) (s : Endpoint P) → HasLimits s.endpoint_state.context.options → EndHolds s.endpoint_state → EndLined s.endpoint_state → EndLined (on_resolution r k s).endpoint_state
-  resolved_lined EstablishNew k s o h l = opens_lined false k _ s.endpoint_state.context o l.0
+  resolved_lined EstablishNew k s o h l = opens_lined s.endpoint_state.context.options.avoid_stalls k _ s.endpoint_state.context o l.0
   resolved_lined RestartDetected k s o h l = restart_lined s.endpoint_state.state k s o l
   resolved_lined SimultaneousInit k s o h l = opens_lined true k _ s.endpoint_state.context o l.0
   resolved_lined MaintainExisting k s o h l = maintains_in_lined k s.endpoint_state.state s.endpoint_state.context h l
