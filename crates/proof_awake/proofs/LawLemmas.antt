@@ -7,7 +7,7 @@ use Rattle.sctp_state.specs.Options.{Options, IsValid}
 use Rattle.sctp_state.specs.Timer.{Timer, next_expiry, moment_of}
 use Rattle.sctp_tracker.specs.declared.data_tracker.AckState.{AckState}
 use Rattle.sctp_tracker.specs.declared.data_tracker.AckState.TheVariants.{Idle, Becoming, Delayed, Immediate}
-use Rattle.spec_endpoint.specs.Association.{Tcb, CookieEchoed, Established, ShutdownPending, ShutdownSent, ShutdownReceived, ShutdownAckSent, State, Closed, CookieWait, Open, Heartbeats, Packing, EndpointState, fresh, Context}
+use Rattle.spec_endpoint.specs.Association.{Tcb, CookieEchoed, Established, ShutdownPending, ShutdownSent, ShutdownReceived, ShutdownAckSent, State, Closed, CookieWait, Open, Heartbeats, Packing, EndpointState, fresh, Context, Phase}
 use Rattle.spec_endpoint.specs.Timers.{running_expiry, timeout_in, sends_owed}
 use Rattle.spec_endpoint.specs.Sending.{is_before_cookie_ack}
 use Rattle.sctp_tx_outstanding.specs.Forward.{is_forward_due}
