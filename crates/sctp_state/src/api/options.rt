@@ -178,8 +178,14 @@ impl Options {
             return self.max_timer_backoff_duration;
         }
         match self.max_timer_backoff_duration {
-            Some(longest) if longest.as_nanos() < self.rto_max.as_nanos() => Some(longest),
-            _ => Some(self.rto_max),
+            Some(longest) => {
+                if longest.as_nanos() < self.rto_max.as_nanos() {
+                    Some(longest)
+                } else {
+                    Some(self.rto_max)
+                }
+            }
+            None => Some(self.rto_max),
         }
     }
 
