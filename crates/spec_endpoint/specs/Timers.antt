@@ -10,7 +10,7 @@ use Rattle.sctp_tx_outstanding.specs.Losses.{Step, nack_all}
 use Rattle.sctp_tx_outstanding.specs.Forward.{is_forward_due}
 use Rattle.sctp_rx.specs.DataTracker.{ack_timeout, is_ack_due}
 use Rattle.sctp_tx.specs.RetransmissionQueue.{timed_out_sender}
-use Rattle.spec_endpoint.specs.Association.{Tcb, Phase, CookieEchoed, Established, ShutdownPending, ShutdownSent, ShutdownReceived, ShutdownAckSent, State, Closed, CookieWait, Open, Heartbeats, Context, EndpointState, open_as}
+use Rattle.spec_endpoint.specs.Association.{Tcb, Phase, CookieEchoed, Established, ShutdownPending, ShutdownSent, ShutdownReceived, ShutdownAckSent, State, Closed, CookieWait, Open, Context, EndpointState, open_as}
 use Rattle.spec_endpoint.specs.Heartbeats.{send_heartbeat_if, heartbeat_timeout_if, expiry}
 use Rattle.spec_endpoint.specs.ResetRequests.{lasting, expire_reconfig_timer, clear_deferral, is_unanswered}
 use Rattle.spec_endpoint.specs.Sending.{AfterSending, add_request, send_buffered, send_cookie}
