@@ -1,11 +1,13 @@
 //! The calls that send and that set something.
 
-ghost use Rattle.std.specs.Prelude.{◌≡◌, ◌<◌, ◌^◌, false, None, length, map, IfOk, OnOk};
+ghost use Rattle.std.specs.Prelude.{◌≡◌, ◌<◌, ◌^◌, ◌⊎◌, false, None, length, map, IfOk, OnErr, OnOk};
 ghost use Rattle.sctp_serial.specs.Messages.{message_of};
 ghost use Rattle.sctp_tx_queue.specs.SendQueue.{total_of};
-ghost use Rattle.sctp_state.specs.Events.{emit_events};
+ghost use Rattle.sctp_state.specs.Events.{Grown, emit_events};
 ghost use Rattle.sctp_state.specs.Options.{send_options_of};
+ghost use Rattle.sctp_endpoint.specs.GoesOn.{GoesOn};
 ghost use Rattle.sctp_endpoint.specs.Views.{context_of, phase_of, endpoint_state_of, state_of};
+ghost use Rattle.spec_endpoint.specs.Calls.{ready_in};
 ghost use Rattle.spec_endpoint.specs.Calls as table;
 
 use sctp_endpoint::sending::send_waiting;
@@ -49,12 +51,15 @@ fn is_queue_full<C: Checksum>(context: &Context<C>, id: StreamId) -> bool
 }
 
 /// A message is refused: its lifecycle ends.
+#[tactic(auto, using(sctp_endpoint::proofs::GoesOnLemmas::goes_on_same, sctp_endpoint::proofs::GoesOnLemmas::goes_on_through))]
 fn refuse<C: Checksum>(
     context: &mut Context<C>,
     refusal: &SendError,
     lifecycle_id: Option<LifecycleId>,
 ) -> Result<(), AllocError>
-    ensures { OnOk result (context_of C.word_of context.new ≡ table.refuse refusal.now lifecycle_id (context_of C.word_of context.old)) }
+    ensures ok { OnOk result (context_of C.word_of context.new ≡ table.refuse refusal.now lifecycle_id (context_of C.word_of context.old)) }
+    ensures goes_on { GoesOn context.old context.new }
+    ensures kept { context.new.queue ≡ context.old.queue }
 {
     if let Some(id) = lifecycle_id {
         context.emit_event(SocketEvent::OnLifecycleEnd(id))?;
@@ -62,12 +67,15 @@ fn refuse<C: Checksum>(
     emit_refusal(context, refusal)
 }
 
+#[tactic(auto, using(sctp_endpoint::proofs::GoesOnLemmas::goes_on_same, sctp_endpoint::proofs::GoesOnLemmas::goes_on_through))]
 fn emit_refusal<C: Checksum>(
     context: &mut Context<C>,
     refusal: &SendError,
 ) -> Result<(), AllocError>
-    ensures { let c = context_of C.word_of context.old in
+    ensures ok { let c = context_of C.word_of context.old in
         OnOk result (context_of C.word_of context.new ≡ record c { emitted = emit_events (table.refusal_events refusal.now) c.emitted }) }
+    ensures goes_on { GoesOn context.old context.new }
+    ensures kept { context.new.queue ≡ context.old.queue }
 {
     match refusal {
         SendError::EmptyPayload => context.emit_error(
@@ -99,8 +107,10 @@ fn accept<C: Checksum>(
     requires some { 0 < length message.payload.items }
     requires small { length message.payload.items < 2 ^ 32 }
     requires room { total_of context.old.queue.streams.entries < 2 ^ 32 }
-    ensures { OnOk result (context_of C.word_of context.new
+    ensures ok { OnOk result (context_of C.word_of context.new
         ≡ table.accept (message_of message) (send_options_of options.now) (context_of C.word_of context.old)) }
+    ensures err { OnErr result (context.new ≡ context.old) }
+    ensures grown { context.new.emitted ≡ context.old.emitted }
 {
     context.send_queue.add(context.clock, message, options)?;
     context.tx_messages_count = context.tx_messages_count.saturating_add(1);
@@ -136,6 +146,7 @@ fn refusal<C: Checksum>(
 }
 
 /// A message is queued, or refused; then the answer says why.
+#[tactic(auto, using(sctp_endpoint::proofs::GoesOnLemmas::goes_on_same, sctp_endpoint::proofs::GoesOnLemmas::goes_on_through, sctp_state::proofs::EventLemmas::grown_same))]
 fn offer<C: Checksum>(
     context: &mut Context<C>,
     shown: SocketState,
@@ -145,6 +156,9 @@ fn offer<C: Checksum>(
     ensures answer { IfOk result (λ refusal. refusal ≡ table.send_refusal (message_of message) shown (context_of C.word_of context.old)) }
     ensures offered { OnOk result (context_of C.word_of context.new
         ≡ table.offer (message_of message) (send_options_of options.now) shown (context_of C.word_of context.old)) }
+    ensures grown { Grown context.old.emitted context.new.emitted }
+    ensures unsent { OnErr result (context.new.queue ≡ context.old.queue) }
+    ensures uncounted { OnErr result (context.new.counts.tx_messages ≡ context.old.counts.tx_messages) }
 {
     let Some(refusal) = refusal(context, shown, &message) else {
         accept(context, message, options)?;
@@ -155,12 +169,14 @@ fn offer<C: Checksum>(
 }
 
 /// Sets the amount in bytes at which a stream is low.
+#[tactic(auto, using(sctp_endpoint::proofs::GoesOnLemmas::goes_on_same, sctp_endpoint::proofs::GoesOnLemmas::goes_on_through, sctp_endpoint::proofs::GoesOnLemmas::goes_on_as, sctp_endpoint::proofs::GoesOnLemmas::goes_on_by))]
 pub fn set_buffered_amount_low_threshold<C: Checksum>(
     context: &mut Context<C>,
     id: StreamId,
     bytes: usize,
 ) -> Result<(), AllocError>
-    ensures { OnOk result (context_of C.word_of context.new ≡ table.set_low_threshold id.0 bytes (context_of C.word_of context.old)) }
+    ensures ok { OnOk result (context_of C.word_of context.new ≡ table.set_low_threshold id.0 bytes (context_of C.word_of context.old)) }
+    ensures goes_on { GoesOn context.old context.new }
 {
     context
         .send_queue
@@ -168,12 +184,14 @@ pub fn set_buffered_amount_low_threshold<C: Checksum>(
 }
 
 /// Sets the priority of a stream, by which it is weighed with interleaving.
+#[tactic(auto, using(sctp_endpoint::proofs::GoesOnLemmas::goes_on_same, sctp_endpoint::proofs::GoesOnLemmas::goes_on_through, sctp_endpoint::proofs::GoesOnLemmas::goes_on_as))]
 pub fn set_stream_priority<C: Checksum>(
     context: &mut Context<C>,
     id: StreamId,
     priority: u16,
 ) -> Result<(), AllocError>
-    ensures { OnOk result (context_of C.word_of context.new ≡ table.set_priority id.0 priority (context_of C.word_of context.old)) }
+    ensures ok { OnOk result (context_of C.word_of context.new ≡ table.set_priority id.0 priority (context_of C.word_of context.old)) }
+    ensures goes_on { GoesOn context.old context.new }
 {
     context.send_queue.set_priority(id, priority)
 }
@@ -187,6 +205,7 @@ pub fn set_max_message_size<C: Checksum>(context: &mut Context<C>, bytes: usize)
 }
 
 /// A message is queued and sent as far as it may be; or refused, then the answer says why.
+#[tactic(auto, using(sctp_endpoint::proofs::GoesOnLemmas::goes_on_same, sctp_endpoint::proofs::GoesOnLemmas::goes_on_through, sctp_state::proofs::EventLemmas::grown_through))]
 pub fn send<C: Checksum>(
     state: &mut State,
     context: &mut Context<C>,
@@ -196,6 +215,10 @@ pub fn send<C: Checksum>(
     ensures answer { IfOk result (λ refusal. refusal ≡ table.send_refusal_of (message_of message) (endpoint_state_of C.word_of state.old context.old)) }
     ensures sent { OnOk result (endpoint_state_of C.word_of state.new context.new
         ≡ table.send (message_of message) (send_options_of options.now) (endpoint_state_of C.word_of state.old context.old)) }
+    ensures grown { Grown context.old.emitted context.new.emitted }
+    ensures counted { let c = context_of C.word_of context.old in
+        OnErr result ((context.new.counts.tx_messages ≡ c.counts.tx_messages) ⊎ (context.new.counts.tx_messages ≡ (table.offer (message_of message) (send_options_of options.now) (table.shown_state (state_of state.old)) c).counts.tx_messages)) }
+    ensures ready { ready_in (state_of state.new) ≡ ready_in (state_of state.old) }
 {
     let shown = socket_state(state);
     let refusal = offer(context, shown, message, options)?;
@@ -206,6 +229,7 @@ pub fn send<C: Checksum>(
 }
 
 /// Messages are queued or refused, one after the other.
+#[tactic(auto, using(sctp_endpoint::proofs::GoesOnLemmas::goes_on_same, sctp_endpoint::proofs::GoesOnLemmas::goes_on_through, sctp_state::proofs::EventLemmas::grown_through))]
 fn offer_all<C: Checksum>(
     context: &mut Context<C>,
     shown: SocketState,
@@ -215,6 +239,7 @@ fn offer_all<C: Checksum>(
     ensures refusals { IfOk result (λ refusals. refusals.items ≡ table.refusals 0 (map message_of messages.items) (send_options_of options.now) shown (context_of C.word_of context.old)) }
     ensures offered { OnOk result (context_of C.word_of context.new
         ≡ table.offer_all (map message_of messages.items) (send_options_of options.now) shown (context_of C.word_of context.old)) }
+    ensures grown { Grown context.old.emitted context.new.emitted }
 {
     let mut refusals = Vec::new(context.alloc);
     for (place, message) in messages.into_iter().enumerate() {
@@ -226,6 +251,7 @@ fn offer_all<C: Checksum>(
 }
 
 /// Several messages are queued, and sent at the end. The answer names those that are refused by their places.
+#[tactic(auto, using(sctp_endpoint::proofs::GoesOnLemmas::goes_on_same, sctp_endpoint::proofs::GoesOnLemmas::goes_on_through, sctp_state::proofs::EventLemmas::grown_through))]
 pub fn send_many<C: Checksum>(
     state: &mut State,
     context: &mut Context<C>,
@@ -236,6 +262,8 @@ pub fn send_many<C: Checksum>(
         (table.shown_state (state_of state.old)) (context_of C.word_of context.old)) }
     ensures sent { OnOk result (endpoint_state_of C.word_of state.new context.new
         ≡ table.send_many (map message_of messages.items) (send_options_of options.now) (endpoint_state_of C.word_of state.old context.old)) }
+    ensures grown { Grown context.old.emitted context.new.emitted }
+    ensures ready { ready_in (state_of state.new) ≡ ready_in (state_of state.old) }
 {
     let shown = socket_state(state);
     let refusals = offer_all(context, shown, messages, options)?;

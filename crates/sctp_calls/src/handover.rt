@@ -1,17 +1,20 @@
 //! A socket is handed over: its record is written and it closes, and another socket takes the record up and goes on in its
 //! place.
 
-ghost use Rattle.std.specs.Prelude.{◌≡◌, IfOk, IsTrue, OnOk};
+ghost use Rattle.std.specs.Prelude.{◌≡◌, ◌⊎◌, None, IfOk, IsTrue, OnErr, OnOk};
 ghost use Rattle.sctp_capabilities.specs.Capabilities.{capabilities_of};
 ghost use Rattle.sctp_state.specs.Events.{OnClosed};
 ghost use Rattle.sctp_state.specs.Handover.{handover_state_of};
 ghost use Rattle.sctp_state.specs.Validity.{is_valid_state};
-ghost use Rattle.spec_endpoint.specs.Association.{Closed};
+ghost use Rattle.spec_endpoint.specs.Association.{Closed, Established, Open};
+ghost use Rattle.spec_endpoint.specs.Shown.{association_in};
 ghost use Rattle.spec_endpoint.specs.Packets.{emit_event_in};
+ghost use Rattle.sctp_endpoint.specs.GoesOn.{GoesOn};
 ghost use Rattle.sctp_endpoint.specs.Views.{context_of, phase_of, endpoint_state_of, state_of, tcb_of};
 ghost use Rattle.spec_endpoint.specs.Handover as table;
 
 use sctp_capabilities::Capabilities;
+use sctp_endpoint::sending::send_waiting;
 use sctp_endpoint::{Context, Identity, Phase, State, TransmissionControlBlock};
 use sctp_serial::{Tsn, ZeroChecksumAlternateErrorDetectionMethod};
 use sctp_state::api::handover::{HandoverCapabilities, HandoverSocketState};
@@ -131,8 +134,11 @@ fn tcb_from<C: Checksum>(
 }
 
 /// The association has left here; its heartbeat timers run on.
+#[tactic(auto, using(sctp_endpoint::proofs::GoesOnLemmas::goes_on_same, sctp_endpoint::proofs::GoesOnLemmas::goes_on_through))]
 fn leave<C: Checksum>(state: &mut State, context: &mut Context<C>) -> Result<(), AllocError>
-    ensures { OnOk result (endpoint_state_of C.word_of state.new context.new ≡ record { state = Closed; context = emit_event_in OnClosed (context_of C.word_of context.old) }) }
+    ensures ok { OnOk result (endpoint_state_of C.word_of state.new context.new ≡ record { state = Closed; context = emit_event_in OnClosed (context_of C.word_of context.old) }) }
+    ensures goes_on { GoesOn context.old context.new }
+    ensures err { OnErr result (state.new ≡ state.old) }
 {
     context.emit_event(SocketEvent::OnClosed())?;
     state.enter(State::Closed);
@@ -140,12 +146,15 @@ fn leave<C: Checksum>(state: &mut State, context: &mut Context<C>) -> Result<(),
 }
 
 /// The record is written, and the association has left here; its heartbeat timers run on.
+#[tactic(auto, using(sctp_endpoint::proofs::GoesOnLemmas::goes_on_same, sctp_endpoint::proofs::GoesOnLemmas::goes_on_through))]
 pub fn hand_over<C: Checksum>(
     state: &mut State,
     context: &mut Context<C>,
 ) -> Result<SocketHandoverState, AllocError>
     ensures written { IfOk result (λ h. handover_state_of h ≡ table.handed_over (endpoint_state_of C.word_of state.old context.old)) }
     ensures left { OnOk result (endpoint_state_of C.word_of state.new context.new ≡ table.leave (endpoint_state_of C.word_of state.old context.old)) }
+    ensures goes_on { GoesOn context.old context.new }
+    ensures err { OnErr result (state_of state.new ≡ state_of state.old) }
 {
     match state {
         State::Closed | State::CookieWait(_) => Ok(SocketHandoverState::empty(context.alloc)),
@@ -158,6 +167,7 @@ pub fn hand_over<C: Checksum>(
 }
 
 /// The association of a record goes on; it is new to the user of this socket.
+#[tactic(auto, using(sctp_endpoint::proofs::GoesOnLemmas::goes_on_same, sctp_endpoint::proofs::GoesOnLemmas::goes_on_through, sctp_endpoint::proofs::GoesOnLemmas::goes_on_as))]
 fn take_up<C: Checksum>(
     state: &mut State,
     context: &mut Context<C>,
@@ -165,30 +175,31 @@ fn take_up<C: Checksum>(
 ) -> Result<(), AllocError>
     requires connected { handed_over.now.socket_state ≡ HandoverSocketState.Connected }
     requires valid { IsTrue (is_valid_state (handover_state_of handed_over.now)) }
-    ensures { OnOk result (endpoint_state_of C.word_of state.new context.new ≡ table.take_up (handover_state_of handed_over.now) (context_of C.word_of context.old)) }
+    ensures ok { OnOk result (endpoint_state_of C.word_of state.new context.new ≡ table.take_up (handover_state_of handed_over.now) (context_of C.word_of context.old)) }
+    ensures goes_on { GoesOn context.old context.new }
+    ensures held { OnErr result ((context.new.emitted ≡ context.old.emitted)
+        ⊎ (association_in (state_of state.new) ≡ association_in (Open Established (table.tcb_from context.old.clock context.old.options (handover_state_of handed_over.now))))) }
 {
     context
         .send_queue
         .restore_from_state(context.clock, handed_over)?;
-    context.emit_event(SocketEvent::OnConnected())?;
-    let mut tcb = tcb_from(context, handed_over)?;
-    if let Err(fault) = context.send_buffered_packets(&mut tcb, false) {
-        tcb.let_go();
-        return Err(fault);
-    }
+    let tcb = tcb_from(context, handed_over)?;
     state.enter(State::Open(Phase::Established, tcb));
-    Ok(())
+    context.emit_event(SocketEvent::OnConnected())?;
+    send_waiting(state, context)
 }
 
 /// A valid record is taken up by a closed socket. Of a socket that was closed there is nothing to take up.
+#[tactic(auto, using(sctp_endpoint::proofs::GoesOnLemmas::goes_on_same, sctp_endpoint::proofs::GoesOnLemmas::goes_on_through))]
 fn restore_closed<C: Checksum>(
     state: &mut State,
     context: &mut Context<C>,
     handed_over: &SocketHandoverState,
 ) -> Result<(), AllocError>
     requires valid { IsTrue (is_valid_state (handover_state_of handed_over.now)) }
-    ensures { OnOk result (endpoint_state_of C.word_of state.new context.new
+    ensures ok { OnOk result (endpoint_state_of C.word_of state.new context.new
         ≡ table.restored_as handed_over.now.socket_state (handover_state_of handed_over.now) (endpoint_state_of C.word_of state.old context.old)) }
+    ensures goes_on { GoesOn context.old context.new }
 {
     match handed_over.socket_state {
         HandoverSocketState::Closed => Ok(()),
@@ -197,6 +208,7 @@ fn restore_closed<C: Checksum>(
 }
 
 /// A record is taken up, or refused; then the answer says why.
+#[tactic(auto, using(sctp_endpoint::proofs::GoesOnLemmas::goes_on_same, sctp_endpoint::proofs::GoesOnLemmas::goes_on_through))]
 pub fn restore<C: Checksum>(
     state: &mut State,
     context: &mut Context<C>,
@@ -205,6 +217,8 @@ pub fn restore<C: Checksum>(
     ensures answer { IfOk result (λ refusal. refusal ≡ table.restore_refusal_in (state_of state.old) (handover_state_of handed_over.now)) }
     ensures restored { OnOk result (endpoint_state_of C.word_of state.new context.new
         ≡ table.restore (handover_state_of handed_over.now) (endpoint_state_of C.word_of state.old context.old)) }
+    ensures goes_on { GoesOn context.old context.new }
+    ensures allowed { OnErr result (table.restore_refusal_in (state_of state.old) (handover_state_of handed_over.now) ≡ None) }
 {
     match state {
         State::Closed => {

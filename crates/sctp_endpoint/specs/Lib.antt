@@ -3,3 +3,4 @@ pub mod WrittenChunks
 pub mod WrittenView
 pub mod PacketView
 pub mod Views
+pub mod GoesOn

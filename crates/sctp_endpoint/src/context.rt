@@ -1,12 +1,13 @@
 //! What an end has in every state: its options, its clock, the messages that wait, and what it emits.
 
-ghost use Rattle.std.specs.Prelude.{◌≡◌, OnOk, Some};
+ghost use Rattle.std.specs.Prelude.{◌≡◌, OnErr, OnOk, Some};
 ghost use Rattle.sctp_packet.specs.ChunkView.{chunk_tree};
 ghost use Rattle.sctp_state.specs.Events.{OnError, OnAborted, event_of};
 ghost use Rattle.sctp_state.specs.Options.{IsValid, options_of};
 ghost use Rattle.spec_endpoint.specs.Association.{context};
 ghost use Rattle.spec_endpoint.specs.Packets.{add, emit_error, emit, emit_chunk, clear_chunks, new_packet, emit_event_in};
 ghost use Rattle.sctp_endpoint.specs.Views.{context_of, tcb_of};
+ghost use Rattle.sctp_endpoint.specs.GoesOn.{GoesOn};
 ghost use Rattle.spec_endpoint.specs.Wire.{writing};
 ghost use Rattle.spec_endpoint.specs.Shutdown as closing;
 ghost use Rattle.spec_endpoint.specs.Heartbeats as heartbeats;
@@ -127,9 +128,11 @@ impl<C: Checksum> Context<C> {
     }
 
     /// A packet goes out, where something was put into it; then it is empty again.
+    #[tactic(auto, using(crate::proofs::GoesOnLemmas::goes_on_same, crate::proofs::GoesOnLemmas::goes_on_as, crate::proofs::GoesOnLemmas::goes_on_by, crate::proofs::GoesOnLemmas::grown_by))]
     pub fn emit(&mut self, packet: &mut OutgoingPacket) -> Result<(), AllocError>
         ensures context { OnOk result (context_of C.word_of self.new ≡ emit packet.old (context_of C.word_of self.old)) }
         ensures packet { OnOk result (packet.new ≡ clear_chunks packet.old) }
+        ensures goes_on { GoesOn self.old self.new }
     {
         if packet.is_empty() {
             return Ok(());
@@ -145,74 +148,94 @@ impl<C: Checksum> Context<C> {
     }
 
     /// A chunk goes out in this packet, behind those that it holds. A crate that calls this is spared the proof of how a packet goes.
+    #[tactic(auto, using(crate::proofs::GoesOnLemmas::goes_on_same, crate::proofs::GoesOnLemmas::goes_on_through))]
     pub fn emit_in(&mut self, mut packet: OutgoingPacket, chunk: Chunk) -> Result<(), AllocError>
-        ensures { OnOk result (context_of C.word_of self.new ≡ emit (add (chunk_tree chunk) packet) (context_of C.word_of self.old)) }
+        ensures ok { OnOk result (context_of C.word_of self.new ≡ emit (add (chunk_tree chunk) packet) (context_of C.word_of self.old)) }
+        ensures goes_on { GoesOn self.old self.new }
     {
         packet.add(chunk)?;
         self.emit(&mut packet)
     }
 
     /// A packet of one chunk goes out to the peer.
+    #[tactic(auto, using(crate::proofs::GoesOnLemmas::goes_on_same, crate::proofs::GoesOnLemmas::goes_on_through))]
     pub fn emit_chunk(
         &mut self,
         tcb: &TransmissionControlBlock,
         chunk: Chunk,
     ) -> Result<(), AllocError>
-        ensures { OnOk result (context_of C.word_of self.new ≡ emit_chunk (chunk_tree chunk) (tcb_of tcb.now) (context_of C.word_of self.old)) }
+        ensures ok { OnOk result (context_of C.word_of self.new ≡ emit_chunk (chunk_tree chunk) (tcb_of tcb.now) (context_of C.word_of self.old)) }
+        ensures goes_on { GoesOn self.old self.new }
     {
         let packet = tcb.new_packet(self.alloc, &self.options);
         self.emit_in(packet, chunk)
     }
 
     /// Emits an error.
+    #[tactic(auto, using(crate::proofs::GoesOnLemmas::goes_on_same, crate::proofs::GoesOnLemmas::goes_on_as, crate::proofs::GoesOnLemmas::goes_on_by, crate::proofs::GoesOnLemmas::grown_by))]
     pub fn emit_error(&mut self, kind: ErrorKind, text: &str) -> Result<(), AllocError>
-        ensures { OnOk result (context_of C.word_of self.new ≡ emit_error kind text.now (context_of C.word_of self.old)) }
+        ensures ok { OnOk result (context_of C.word_of self.new ≡ emit_error kind text.now (context_of C.word_of self.old)) }
+        ensures goes_on { GoesOn self.old self.new }
+        ensures err { OnErr result (self.new ≡ self.old) }
     {
         let text = String::from_str(self.alloc, text)?;
         self.events.add(SocketEvent::OnError(kind, text))
     }
 
+    #[tactic(auto, using(crate::proofs::GoesOnLemmas::goes_on_same, crate::proofs::GoesOnLemmas::goes_on_as, crate::proofs::GoesOnLemmas::goes_on_by, crate::proofs::GoesOnLemmas::grown_by))]
     pub fn emit_event(&mut self, event: SocketEvent) -> Result<(), AllocError>
-        ensures { OnOk result (context_of C.word_of self.new ≡ emit_event_in (event_of event) (context_of C.word_of self.old)) }
+        ensures ok { OnOk result (context_of C.word_of self.new ≡ emit_event_in (event_of event) (context_of C.word_of self.old)) }
+        ensures goes_on { GoesOn self.old self.new }
+        ensures err { OnErr result (self.new ≡ self.old) }
     {
         self.events.add(event)
     }
 
     /// The event that says that the association is over; no heartbeats are sent any more.
+    #[tactic(auto, using(crate::proofs::GoesOnLemmas::goes_on_same, crate::proofs::GoesOnLemmas::goes_on_through))]
     pub fn internal_close(&mut self, event: SocketEvent) -> Result<(), AllocError>
-        ensures { OnOk result (context_of C.word_of self.new ≡ closing.over (event_of event) (context_of C.word_of self.old)) }
+        ensures ok { OnOk result (context_of C.word_of self.new ≡ closing.over (event_of event) (context_of C.word_of self.old)) }
+        ensures goes_on { GoesOn self.old self.new }
     {
         self.stop_heartbeats();
         self.emit_event(event)
     }
 
     /// The association is over, as aborted.
+    #[tactic(auto, using(crate::proofs::GoesOnLemmas::goes_on_same, crate::proofs::GoesOnLemmas::goes_on_through))]
     pub fn emit_aborted(&mut self, kind: ErrorKind, text: &str) -> Result<(), AllocError>
-        ensures { OnOk result (context_of C.word_of self.new ≡ closing.over (OnAborted kind text.now) (context_of C.word_of self.old)) }
+        ensures ok { OnOk result (context_of C.word_of self.new ≡ closing.over (OnAborted kind text.now) (context_of C.word_of self.old)) }
+        ensures goes_on { GoesOn self.old self.new }
     {
         let text = String::from_str(self.alloc, text)?;
         self.internal_close(SocketEvent::OnAborted(kind, text))
     }
 
     /// The same, since the peer doesn't answer.
+    #[tactic(auto, using(crate::proofs::GoesOnLemmas::goes_on_same, crate::proofs::GoesOnLemmas::goes_on_through))]
     pub fn emit_no_answer(&mut self, text: &str) -> Result<(), AllocError>
-        ensures { OnOk result (context_of C.word_of self.new ≡ closing.over (OnAborted ErrorKind.TooManyRetries text.now) (context_of C.word_of self.old)) }
+        ensures ok { OnOk result (context_of C.word_of self.new ≡ closing.over (OnAborted ErrorKind.TooManyRetries text.now) (context_of C.word_of self.old)) }
+        ensures goes_on { GoesOn self.old self.new }
     {
         self.emit_aborted(ErrorKind::TooManyRetries, text)
     }
 
     /// The next heartbeat is an interval away.
+    #[tactic(auto, using(crate::proofs::GoesOnLemmas::goes_on_same, crate::proofs::GoesOnLemmas::goes_on_as))]
     pub fn restart_heartbeat_interval(&mut self)
-        ensures { let c = context_of C.word_of self.old in
+        ensures ok { let c = context_of C.word_of self.old in
             context_of C.word_of self.new ≡ record c { heartbeats = heartbeats.restart_interval c.now c.heartbeats } }
+        ensures goes_on { GoesOn self.old self.new }
     {
         self.heartbeat_interval.start(self.clock);
     }
 
     /// No heartbeat is sent any more, and no answer waited for.
+    #[tactic(auto, using(crate::proofs::GoesOnLemmas::goes_on_same, crate::proofs::GoesOnLemmas::goes_on_as))]
     pub fn stop_heartbeats(&mut self)
-        ensures { let c = context_of C.word_of self.old in
+        ensures ok { let c = context_of C.word_of self.old in
             context_of C.word_of self.new ≡ record c { heartbeats = heartbeats.stop_heartbeats c.heartbeats } }
+        ensures goes_on { GoesOn self.old self.new }
     {
         self.heartbeat_interval.stop();
         self.heartbeat_timeout.stop();

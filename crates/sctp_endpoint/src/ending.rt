@@ -6,6 +6,7 @@ ghost use Rattle.sctp_error_cause.specs.CauseViews.{cause_tree};
 ghost use Rattle.sctp_packet.specs.Chunk.{abort_chunk};
 ghost use Rattle.spec_endpoint.specs.Packets.{emit_chunk};
 ghost use Rattle.sctp_state.specs.Events.{OnAborted, OnClosed};
+ghost use Rattle.sctp_endpoint.specs.GoesOn.{GoesOn};
 ghost use Rattle.sctp_endpoint.specs.Views.{context_of, phase_step_of, phase_of, tcb_of};
 ghost use Rattle.spec_endpoint.specs.Shutdown as table;
 
@@ -20,12 +21,14 @@ use std::alloc::AllocError;
 
 impl<C: Checksum> Context<C> {
     /// An ABORT with one cause goes out.
+    #[tactic(auto, using(crate::proofs::GoesOnLemmas::goes_on_same, crate::proofs::GoesOnLemmas::goes_on_through))]
     pub fn send_abort(
         &mut self,
         tcb: &TransmissionControlBlock,
         cause: ErrorCause,
     ) -> Result<(), AllocError>
-        ensures { OnOk result (context_of C.word_of self.new ≡ emit_chunk (abort_chunk false (cause_tree cause ∷ [])) (tcb_of tcb.now) (context_of C.word_of self.old)) }
+        ensures ok { OnOk result (context_of C.word_of self.new ≡ emit_chunk (abort_chunk false (cause_tree cause ∷ [])) (tcb_of tcb.now) (context_of C.word_of self.old)) }
+        ensures goes_on { GoesOn self.old self.new }
     {
         let mut error_causes = Vec::new(self.alloc);
         error_causes.push(cause)?;
@@ -46,22 +49,26 @@ impl<C: Checksum> Context<C> {
         Ok(ErrorCause::UserInitiatedAbort(UserInitiatedAbortErrorCause { reason }))
     }
 
+    #[tactic(auto, using(crate::proofs::GoesOnLemmas::goes_on_same, crate::proofs::GoesOnLemmas::goes_on_through))]
     pub fn abort_by_user(&mut self, tcb: &TransmissionControlBlock) -> Result<(), AllocError>
-        ensures { OnOk result (context_of C.word_of self.new
+        ensures ok { OnOk result (context_of C.word_of self.new
             ≡ table.over OnClosed (emit_chunk (abort_chunk false (user_initiated_abort (codes "Close called") ∷ [])) (tcb_of tcb.now) (context_of C.word_of self.old))) }
+        ensures goes_on { GoesOn self.old self.new }
     {
         let cause = self.user_abort("Close called")?;
         self.send_abort(tcb, cause)?;
         self.internal_close(SocketEvent::OnClosed())
     }
 
+    #[tactic(auto, using(crate::proofs::GoesOnLemmas::goes_on_same, crate::proofs::GoesOnLemmas::goes_on_through))]
     pub fn abort_by_retransmissions(
         &mut self,
         tcb: &TransmissionControlBlock,
     ) -> Result<(), AllocError>
-        ensures { OnOk result (context_of C.word_of self.new
+        ensures ok { OnOk result (context_of C.word_of self.new
             ≡ table.over (OnAborted ErrorKind.TooManyRetries (codes "Too many retransmissions"))
             (emit_chunk (abort_chunk false (user_initiated_abort (codes "Too many retransmissions") ∷ [])) (tcb_of tcb.now) (context_of C.word_of self.old))) }
+        ensures goes_on { GoesOn self.old self.new }
     {
         let cause = self.user_abort("Too many retransmissions")?;
         self.send_abort(tcb, cause)?;
@@ -81,26 +88,32 @@ impl<C: Checksum> Context<C> {
         timer
     }
 
+    #[tactic(auto, using(crate::proofs::GoesOnLemmas::goes_on_same, crate::proofs::GoesOnLemmas::goes_on_through))]
     pub fn send_shutdown(&mut self, tcb: &TransmissionControlBlock) -> Result<(), AllocError>
-        ensures { OnOk result (context_of C.word_of self.new ≡ table.send_shutdown (tcb_of tcb.now) (context_of C.word_of self.old)) }
+        ensures ok { OnOk result (context_of C.word_of self.new ≡ table.send_shutdown (tcb_of tcb.now) (context_of C.word_of self.old)) }
+        ensures goes_on { GoesOn self.old self.new }
     {
         let cumulative_tsn_ack = tcb.data_tracker.last_cumulative_acked_tsn();
         self.emit_chunk(tcb, Chunk::Shutdown(ShutdownChunk { cumulative_tsn_ack }))
     }
 
+    #[tactic(auto, using(crate::proofs::GoesOnLemmas::goes_on_same, crate::proofs::GoesOnLemmas::goes_on_through))]
     pub fn send_shutdown_ack(&mut self, tcb: &TransmissionControlBlock) -> Result<(), AllocError>
-        ensures { OnOk result (context_of C.word_of self.new ≡ table.send_shutdown_ack (tcb_of tcb.now) (context_of C.word_of self.old)) }
+        ensures ok { OnOk result (context_of C.word_of self.new ≡ table.send_shutdown_ack (tcb_of tcb.now) (context_of C.word_of self.old)) }
+        ensures goes_on { GoesOn self.old self.new }
     {
         self.emit_chunk(tcb, Chunk::ShutdownAck(ShutdownAckChunk {}))
     }
 
     /// Where nothing is unacknowledged, a shutdown that waited for that goes on.
+    #[tactic(auto, using(crate::proofs::GoesOnLemmas::goes_on_same, crate::proofs::GoesOnLemmas::goes_on_through))]
     pub fn maybe_send_shutdown_or_ack(
         &mut self,
         phase: &mut Phase,
         tcb: &TransmissionControlBlock,
     ) -> Result<(), AllocError>
-        ensures { OnOk result (phase_step_of C.word_of phase.new self.new ≡ table.maybe_send_shutdown_or_ack (phase_of phase.old) (tcb_of tcb.now) (context_of C.word_of self.old)) }
+        ensures ok { OnOk result (phase_step_of C.word_of phase.new self.new ≡ table.maybe_send_shutdown_or_ack (phase_of phase.old) (tcb_of tcb.now) (context_of C.word_of self.old)) }
+        ensures goes_on { GoesOn self.old self.new }
     {
         if tcb.retransmission_queue.unacked_items() != 0 {
             return Ok(());

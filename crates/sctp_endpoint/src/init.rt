@@ -6,6 +6,7 @@ ghost use Rattle.sctp_packet.specs.ChunkView.{chunk_tree};
 ghost use Rattle.sctp_capabilities.specs.Capabilities.{announced_parameters};
 ghost use Rattle.sctp_state.specs.Options.{IsValid, options_of};
 ghost use Rattle.spec_endpoint.specs.Opening.{init_of, send_init};
+ghost use Rattle.sctp_endpoint.specs.GoesOn.{GoesOn};
 ghost use Rattle.sctp_endpoint.specs.Views.{context_of};
 
 use crate::context::Context;
@@ -43,8 +44,10 @@ fn make_init(
 
 impl<C: Checksum> Context<C> {
     /// An INIT goes out under tag 0.
+    #[tactic(auto, using(crate::proofs::GoesOnLemmas::goes_on_same, crate::proofs::GoesOnLemmas::goes_on_through))]
     pub fn send_init(&mut self, tag: u32, initial_tsn: Tsn) -> Result<(), AllocError>
-        ensures { OnOk result (context_of C.word_of self.new ≡ send_init tag initial_tsn.0 (context_of C.word_of self.old)) }
+        ensures ok { OnOk result (context_of C.word_of self.new ≡ send_init tag initial_tsn.0 (context_of C.word_of self.old)) }
+        ensures goes_on { GoesOn self.old self.new }
     {
         let chunk = make_init(self.alloc, &self.options, tag, initial_tsn)?;
         let packet = OutgoingPacket::new(self.alloc, 0, self.options.mtu);

@@ -5,8 +5,11 @@ ghost use Rattle.sctp_tx_outstanding.specs.Views.{chunk_of};
 ghost use Rattle.sctp_state.specs.Events.{numbers_of};
 ghost use Rattle.spec_endpoint.specs.Packets.{add_all};
 ghost use Rattle.spec_endpoint.specs.Sending.{burst_with, carrying, data_chunks, filled_as, forward_if, most_streams, request_of, request_started, send_buffered, send_cookie, send_lost, send_with, next_packet, with_ack, with_data, with_forward, with_request, send_in};
-ghost use Rattle.sctp_endpoint.specs.Views.{context_of, filling_of, after_sending_of, tcb_of, endpoint_state_of};
+ghost use Rattle.spec_endpoint.specs.Calls.{ready_in};
+ghost use Rattle.sctp_endpoint.specs.GoesOn.{GoesOn};
+ghost use Rattle.sctp_endpoint.specs.Views.{context_of, filling_of, after_sending_of, tcb_of, endpoint_state_of, state_of};
 ghost use Rattle.spec_endpoint.specs.Association.{where_open};
+ghost use Rattle.spec_endpoint.specs.Shown.{association_in};
 
 use crate::context::Context;
 use crate::outgoing_packet::OutgoingPacket;
@@ -26,7 +29,9 @@ impl<C: Checksum> Context<C> {
         packet: &mut OutgoingPacket,
         tcb: &mut TransmissionControlBlock,
     ) -> Result<(), AllocError>
-        ensures { OnOk result (filling_of C.word_of packet.new tcb.new self.now ≡ with_ack (filling_of C.word_of packet.old tcb.old self.now)) }
+        ensures ok { OnOk result (filling_of C.word_of packet.new tcb.new self.now ≡ with_ack (filling_of C.word_of packet.old tcb.old self.now)) }
+        ensures received { tcb.new.reassembly_queue ≡ tcb.old.reassembly_queue }
+        ensures identity { tcb.new.identity ≡ tcb.old.identity }
     {
         let also_if_delayed = self.send_queue.has_data_to_send()
             || tcb.retransmission_queue.can_send_data();
@@ -42,12 +47,16 @@ impl<C: Checksum> Context<C> {
     }
 
     /// A forward point that is due goes along, where it fits. A test for it first gives up what has expired.
+    #[tactic(auto, using(crate::proofs::GoesOnLemmas::goes_on_same))]
     fn add_forward_tsn(
         &mut self,
         packet: &mut OutgoingPacket,
         tcb: &mut TransmissionControlBlock,
     ) -> Result<(), AllocError>
-        ensures { OnOk result (filling_of C.word_of packet.new tcb.new self.new ≡ with_forward (filling_of C.word_of packet.old tcb.old self.old)) }
+        ensures ok { OnOk result (filling_of C.word_of packet.new tcb.new self.new ≡ with_forward (filling_of C.word_of packet.old tcb.old self.old)) }
+        ensures goes_on { GoesOn self.old self.new }
+        ensures received { tcb.new.reassembly_queue ≡ tcb.old.reassembly_queue }
+        ensures identity { tcb.new.identity ≡ tcb.old.identity }
     {
         if self.clock < self.limit_forward_tsn_until {
             return Ok(());
@@ -63,12 +72,14 @@ impl<C: Checksum> Context<C> {
 
     /// The forward point goes along, where it fits; not sooner again than after a round trip, of which at most 200 ms count
     /// (RFC 3758 section 3.5).
+    #[tactic(auto, using(crate::proofs::GoesOnLemmas::goes_on_same, crate::proofs::GoesOnLemmas::goes_on_as))]
     fn push_forward_tsn(
         &mut self,
         packet: &mut OutgoingPacket,
         tcb: &TransmissionControlBlock,
     ) -> Result<(), AllocError>
-        ensures { OnOk result (filling_of C.word_of packet.new tcb.now self.new ≡ forward_if true (filling_of C.word_of packet.old tcb.now self.old)) }
+        ensures ok { OnOk result (filling_of C.word_of packet.new tcb.now self.new ≡ forward_if true (filling_of C.word_of packet.old tcb.now self.old)) }
+        ensures goes_on { GoesOn self.old self.new }
     {
         let chunk = tcb.retransmission_queue.create_forward_tsn()?;
         if !packet.add_if_it_fits(chunk)? {
@@ -85,8 +96,10 @@ impl<C: Checksum> Context<C> {
         tcb: &mut TransmissionControlBlock,
         streams: Vec<StreamId>,
     ) -> Result<(), AllocError>
-        ensures { let x = filling_of C.word_of packet.old tcb.old self.now in
+        ensures ok { let x = filling_of C.word_of packet.old tcb.old self.now in
             OnOk result (filling_of C.word_of packet.new tcb.new self.now ≡ carrying (request_started x.context.now (numbers_of streams.items) x.tcb) x) }
+        ensures received { tcb.new.reassembly_queue ≡ tcb.old.reassembly_queue }
+        ensures identity { tcb.new.identity ≡ tcb.old.identity }
     {
         tcb.start_ssn_reset_request(self.clock, streams, packet)
     }
@@ -98,8 +111,10 @@ impl<C: Checksum> Context<C> {
         tcb: &mut TransmissionControlBlock,
         streams: Vec<StreamId>,
     ) -> Result<(), AllocError>
-        ensures { OnOk result (filling_of C.word_of packet.new tcb.new self.now
+        ensures ok { OnOk result (filling_of C.word_of packet.new tcb.new self.now
             ≡ request_of (numbers_of streams.items) (filling_of C.word_of packet.old tcb.old self.now)) }
+        ensures received { tcb.new.reassembly_queue ≡ tcb.old.reassembly_queue }
+        ensures identity { tcb.new.identity ≡ tcb.old.identity }
     {
         if streams.is_empty() {
             return Ok(());
@@ -109,12 +124,16 @@ impl<C: Checksum> Context<C> {
 
     /// A request to reset the streams that are ready goes along, as many as there is room for, where none waits for its
     /// answer (RFC 6525 section 5.1.2). The others wait for another request.
+    #[tactic(auto, using(crate::proofs::GoesOnLemmas::goes_on_same, crate::proofs::GoesOnLemmas::goes_on_as))]
     fn add_reset_request(
         &mut self,
         packet: &mut OutgoingPacket,
         tcb: &mut TransmissionControlBlock,
     ) -> Result<(), AllocError>
-        ensures { OnOk result (filling_of C.word_of packet.new tcb.new self.new ≡ with_request (filling_of C.word_of packet.old tcb.old self.old)) }
+        ensures ok { OnOk result (filling_of C.word_of packet.new tcb.new self.new ≡ with_request (filling_of C.word_of packet.old tcb.old self.old)) }
+        ensures goes_on { GoesOn self.old self.new }
+        ensures received { tcb.new.reassembly_queue ≡ tcb.old.reassembly_queue }
+        ensures identity { tcb.new.identity ≡ tcb.old.identity }
     {
         if tcb.reset_requests.has_current() {
             return Ok(());
@@ -130,7 +149,10 @@ impl<C: Checksum> Context<C> {
         packet: &mut OutgoingPacket,
         tcb: &mut TransmissionControlBlock,
     ) -> Result<(), AllocError>
-        ensures { OnOk result (filling_of C.word_of packet.new tcb.new self.new ≡ with_data (filling_of C.word_of packet.old tcb.old self.old)) }
+        ensures ok { OnOk result (filling_of C.word_of packet.new tcb.new self.new ≡ with_data (filling_of C.word_of packet.old tcb.old self.old)) }
+        ensures goes_on { GoesOn self.old self.new }
+        ensures received { tcb.new.reassembly_queue ≡ tcb.old.reassembly_queue }
+        ensures identity { tcb.new.identity ≡ tcb.old.identity }
     {
         let form = ChunkForm {
             is_interleaved: tcb.capabilities.message_interleaving,
@@ -160,13 +182,17 @@ impl<C: Checksum> Context<C> {
     }
 
     /// What goes into the first packet of a burst beside data.
+    #[tactic(auto, using(crate::proofs::GoesOnLemmas::goes_on_same, crate::proofs::GoesOnLemmas::goes_on_through))]
     fn add_controls(
         &mut self,
         packet: &mut OutgoingPacket,
         tcb: &mut TransmissionControlBlock,
     ) -> Result<(), AllocError>
-        ensures { OnOk result (filling_of C.word_of packet.new tcb.new self.new
+        ensures ok { OnOk result (filling_of C.word_of packet.new tcb.new self.new
             ≡ with_request (with_forward (with_ack (filling_of C.word_of packet.old tcb.old self.old)))) }
+        ensures goes_on { GoesOn self.old self.new }
+        ensures received { tcb.new.reassembly_queue ≡ tcb.old.reassembly_queue }
+        ensures identity { tcb.new.identity ≡ tcb.old.identity }
     {
         self.add_ack(packet, tcb)?;
         self.add_forward_tsn(packet, tcb)?;
@@ -174,13 +200,17 @@ impl<C: Checksum> Context<C> {
     }
 
     /// What goes into a packet of a burst.
+    #[tactic(auto, using(crate::proofs::GoesOnLemmas::goes_on_same, crate::proofs::GoesOnLemmas::goes_on_through))]
     fn fill(
         &mut self,
         packet: &mut OutgoingPacket,
         tcb: &mut TransmissionControlBlock,
         is_first: bool,
     ) -> Result<(), AllocError>
-        ensures { OnOk result (filling_of C.word_of packet.new tcb.new self.new ≡ filled_as is_first (filling_of C.word_of packet.old tcb.old self.old)) }
+        ensures ok { OnOk result (filling_of C.word_of packet.new tcb.new self.new ≡ filled_as is_first (filling_of C.word_of packet.old tcb.old self.old)) }
+        ensures goes_on { GoesOn self.old self.new }
+        ensures received { tcb.new.reassembly_queue ≡ tcb.old.reassembly_queue }
+        ensures identity { tcb.new.identity ≡ tcb.old.identity }
     {
         if !is_first {
             return self.add_data(packet, tcb);
@@ -190,6 +220,7 @@ impl<C: Checksum> Context<C> {
     }
 
     /// One packet of a burst. The answer is whether another one may follow.
+    #[tactic(auto, using(crate::proofs::GoesOnLemmas::goes_on_same, crate::proofs::GoesOnLemmas::goes_on_through))]
     fn send_packet(
         &mut self,
         packet: &mut OutgoingPacket,
@@ -200,6 +231,9 @@ impl<C: Checksum> Context<C> {
         ensures filling { OnOk result (filling_of C.word_of packet.new tcb.new self.new
             ≡ (next_packet is_first is_alone (filling_of C.word_of packet.old tcb.old self.old)).filling) }
         ensures more { IfOk result (λ more. more ≡ (next_packet is_first is_alone (filling_of C.word_of packet.old tcb.old self.old)).is_more) }
+        ensures goes_on { GoesOn self.old self.new }
+        ensures received { tcb.new.reassembly_queue ≡ tcb.old.reassembly_queue }
+        ensures identity { tcb.new.identity ≡ tcb.old.identity }
     {
         self.fill(packet, tcb, is_first)?;
         if packet.is_empty() {
@@ -218,13 +252,17 @@ impl<C: Checksum> Context<C> {
 
     /// What may be sent goes out, in at most `max_burst` packets, the first of which may hold chunks already; in one
     /// packet before the COOKIE ACK (RFC 9260 section 5.1).
+    #[tactic(auto, using(crate::proofs::GoesOnLemmas::goes_on_same, crate::proofs::GoesOnLemmas::goes_on_through))]
     pub fn send_burst(
         &mut self,
         packet: &mut OutgoingPacket,
         tcb: &mut TransmissionControlBlock,
         is_alone: bool,
     ) -> Result<(), AllocError>
-        ensures { OnOk result (filling_of C.word_of packet.new tcb.new self.new ≡ burst_with is_alone packet.old (tcb_of tcb.old) (context_of C.word_of self.old)) }
+        ensures ok { OnOk result (filling_of C.word_of packet.new tcb.new self.new ≡ burst_with is_alone packet.old (tcb_of tcb.old) (context_of C.word_of self.old)) }
+        ensures goes_on { GoesOn self.old self.new }
+        ensures received { tcb.new.reassembly_queue ≡ tcb.old.reassembly_queue }
+        ensures identity { tcb.new.identity ≡ tcb.old.identity }
     {
         for index in 0..self.max_burst() {
             if !self.send_packet(packet, tcb, index == 0, is_alone)? {
@@ -235,13 +273,17 @@ impl<C: Checksum> Context<C> {
     }
 
     /// What may be sent goes out, behind the chunks of this packet.
+    #[tactic(auto, using(crate::proofs::GoesOnLemmas::goes_on_same, crate::proofs::GoesOnLemmas::goes_on_through))]
     pub fn send_buffered_packets_with(
         &mut self,
         tcb: &mut TransmissionControlBlock,
         is_alone: bool,
         mut packet: OutgoingPacket,
     ) -> Result<(), AllocError>
-        ensures { OnOk result (after_sending_of C.word_of tcb.new self.new ≡ send_with is_alone packet (tcb_of tcb.old) (context_of C.word_of self.old)) }
+        ensures ok { OnOk result (after_sending_of C.word_of tcb.new self.new ≡ send_with is_alone packet (tcb_of tcb.old) (context_of C.word_of self.old)) }
+        ensures goes_on { GoesOn self.old self.new }
+        ensures received { tcb.new.reassembly_queue ≡ tcb.old.reassembly_queue }
+        ensures identity { tcb.new.identity ≡ tcb.old.identity }
     {
         self.send_burst(&mut packet, tcb, is_alone)?;
         packet.swap_memory(&mut self.spare_chunks);
@@ -249,24 +291,32 @@ impl<C: Checksum> Context<C> {
     }
 
     /// What may be sent goes out.
+    #[tactic(auto, using(crate::proofs::GoesOnLemmas::goes_on_same, crate::proofs::GoesOnLemmas::goes_on_through))]
     pub fn send_buffered_packets(
         &mut self,
         tcb: &mut TransmissionControlBlock,
         is_alone: bool,
     ) -> Result<(), AllocError>
-        ensures { OnOk result (after_sending_of C.word_of tcb.new self.new ≡ send_buffered is_alone (tcb_of tcb.old) (context_of C.word_of self.old)) }
+        ensures ok { OnOk result (after_sending_of C.word_of tcb.new self.new ≡ send_buffered is_alone (tcb_of tcb.old) (context_of C.word_of self.old)) }
+        ensures goes_on { GoesOn self.old self.new }
+        ensures received { tcb.new.reassembly_queue ≡ tcb.old.reassembly_queue }
+        ensures identity { tcb.new.identity ≡ tcb.old.identity }
     {
         let packet = self.new_packet(tcb);
         self.send_buffered_packets_with(tcb, is_alone, packet)
     }
 
     /// The cookie goes out, with data where both fit (RFC 9260 section 5.1).
+    #[tactic(auto, using(crate::proofs::GoesOnLemmas::goes_on_same, crate::proofs::GoesOnLemmas::goes_on_through))]
     pub fn send_cookie_echo(
         &mut self,
         tcb: &mut TransmissionControlBlock,
         cookie: &[u8],
     ) -> Result<(), AllocError>
-        ensures { OnOk result (after_sending_of C.word_of tcb.new self.new ≡ send_cookie cookie.now (tcb_of tcb.old) (context_of C.word_of self.old)) }
+        ensures ok { OnOk result (after_sending_of C.word_of tcb.new self.new ≡ send_cookie cookie.now (tcb_of tcb.old) (context_of C.word_of self.old)) }
+        ensures goes_on { GoesOn self.old self.new }
+        ensures received { tcb.new.reassembly_queue ≡ tcb.old.reassembly_queue }
+        ensures identity { tcb.new.identity ≡ tcb.old.identity }
     {
         let mut packet = OutgoingPacket::new(
             self.alloc,
@@ -282,11 +332,15 @@ impl<C: Checksum> Context<C> {
     }
 
     /// What a third missing report showed to be lost goes out, whatever the window says (RFC 9260 section 7.2.4).
+    #[tactic(auto, using(crate::proofs::GoesOnLemmas::goes_on_same, crate::proofs::GoesOnLemmas::goes_on_through))]
     pub fn send_fast_retransmit(
         &mut self,
         tcb: &mut TransmissionControlBlock,
     ) -> Result<(), AllocError>
-        ensures { OnOk result (after_sending_of C.word_of tcb.new self.new ≡ send_lost (tcb_of tcb.old) (context_of C.word_of self.old)) }
+        ensures ok { OnOk result (after_sending_of C.word_of tcb.new self.new ≡ send_lost (tcb_of tcb.old) (context_of C.word_of self.old)) }
+        ensures goes_on { GoesOn self.old self.new }
+        ensures received { tcb.new.reassembly_queue ≡ tcb.old.reassembly_queue }
+        ensures identity { tcb.new.identity ≡ tcb.old.identity }
     {
         if !tcb.retransmission_queue.has_data_to_be_fast_retransmitted() {
             return Ok(());
@@ -325,11 +379,15 @@ fn add_fragments(
 }
 
 /// What waits goes out, as far as it may, where there is a control block.
+#[tactic(auto, using(crate::proofs::GoesOnLemmas::goes_on_same, crate::proofs::GoesOnLemmas::goes_on_through))]
 pub fn send_waiting<C: Checksum>(
     state: &mut State,
     context: &mut Context<C>,
 ) -> Result<(), AllocError>
-    ensures { OnOk result (endpoint_state_of C.word_of state.new context.new ≡ where_open send_in (endpoint_state_of C.word_of state.old context.old)) }
+    ensures ok { OnOk result (endpoint_state_of C.word_of state.new context.new ≡ where_open send_in (endpoint_state_of C.word_of state.old context.old)) }
+    ensures goes_on { GoesOn context.old context.new }
+    ensures received { ready_in (state_of state.new) ≡ ready_in (state_of state.old) }
+    ensures association { association_in (state_of state.new) ≡ association_in (state_of state.old) }
 {
     match state {
         State::Closed | State::CookieWait(_) => Ok(()),

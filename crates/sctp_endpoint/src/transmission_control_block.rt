@@ -165,6 +165,8 @@ impl TransmissionControlBlock {
     ) -> Result<(), AllocError>
         ensures tcb { OnOk result (tcb_of self.new ≡ request_started now (numbers_of streams.items) (tcb_of self.old)) }
         ensures packet { OnOk result (packet.new ≡ add_request (request_started now (numbers_of streams.items) (tcb_of self.old)).requests.current packet.old) }
+        ensures received { self.new.reassembly_queue ≡ self.old.reassembly_queue }
+        ensures identity { self.new.identity ≡ self.old.identity }
     {
         self.retransmission_queue.begin_reset_streams()?;
         let last_tsn = self.retransmission_queue.last_assigned_tsn();

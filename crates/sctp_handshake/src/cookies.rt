@@ -3,6 +3,7 @@
 ghost use Rattle.std.specs.Prelude.{◌≡◌, ◌==◌, OnOk};
 ghost use Rattle.sctp_capabilities.specs.Capabilities.{capabilities_of, negotiate};
 ghost use Rattle.sctp_capabilities.specs.StateCookie.{cookie_of};
+ghost use Rattle.sctp_endpoint.specs.GoesOn.{GoesOn};
 ghost use Rattle.sctp_endpoint.specs.Views.{context_of, identity_of, state_of, tcb_of};
 ghost use Rattle.sctp_handshake.specs.ResolutionView.{resolution_of};
 ghost use Rattle.spec_endpoint.specs.Opening as table;
@@ -109,12 +110,14 @@ pub fn agreed<C: Checksum>(context: &Context<C>, cookie: &StateCookie) -> Capabi
 }
 
 /// The queue begins anew, for an association with or without interleaving.
+#[tactic(auto, using(sctp_endpoint::proofs::GoesOnLemmas::goes_on_same, sctp_endpoint::proofs::GoesOnLemmas::goes_on_through, sctp_endpoint::proofs::GoesOnLemmas::goes_on_as))]
 pub fn reset_queue<C: Checksum>(
     context: &mut Context<C>,
     is_interleaved: bool,
 ) -> Result<(), AllocError>
-    ensures { let c = context_of C.word_of context.old in
+    ensures ok { let c = context_of C.word_of context.old in
         OnOk result (context_of C.word_of context.new ≡ record c { queue = table.queue_anew is_interleaved c.queue }) }
+    ensures goes_on { GoesOn context.old context.new }
 {
     context.send_queue.reset()?;
     context

@@ -11,6 +11,7 @@ ghost use Rattle.sctp_capabilities.specs.Capabilities.{announced_by, announced_p
 ghost use Rattle.sctp_capabilities.specs.StateCookie.{cookie_bytes, cookie_of};
 ghost use Rattle.sctp_state.specs.Options.{IsValid, options_of};
 ghost use Rattle.spec_endpoint.specs.Opening.{answer, cookie_for, cookie_in, init_of, maker};
+ghost use Rattle.sctp_endpoint.specs.GoesOn.{GoesOn};
 ghost use Rattle.sctp_endpoint.specs.Views.{context_of};
 
 use crate::cookies::agreed;
@@ -112,6 +113,7 @@ pub fn determine_sctp_implementation(cookie: &[u8]) -> SctpImplementation
 }
 
 /// An INIT is answered; all that has to be kept of it goes along in the cookie.
+#[tactic(auto, using(sctp_endpoint::proofs::GoesOnLemmas::goes_on_same, sctp_endpoint::proofs::GoesOnLemmas::goes_on_through))]
 pub fn send_init_ack<C: Checksum>(
     context: &mut Context<C>,
     init: &InitChunk,
@@ -119,7 +121,8 @@ pub fn send_init_ack<C: Checksum>(
     initial_tsn: Tsn,
     tie_tag: u64,
 ) -> Result<(), AllocError>
-    ensures { OnOk result (context_of C.word_of context.new ≡ answer (init_tree init.now) tag initial_tsn.0 tie_tag (context_of C.word_of context.old)) }
+    ensures ok { OnOk result (context_of C.word_of context.new ≡ answer (init_tree init.now) tag initial_tsn.0 tie_tag (context_of C.word_of context.old)) }
+    ensures goes_on { GoesOn context.old context.new }
 {
     let cookie = cookie_for(init, tag, initial_tsn, tie_tag);
     let agreed = agreed(context, &cookie);

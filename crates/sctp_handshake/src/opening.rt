@@ -1,6 +1,6 @@
 //! How an association is opened (RFC 9260 section 5.1): INIT and INIT ACK.
 
-ghost use Rattle.std.specs.Prelude.{◌≡◌, false, [], ◌∷◌, None, map, OnOk};
+ghost use Rattle.std.specs.Prelude.{◌≡◌, false, [], ◌∷◌, None, map, OnErr, OnOk};
 ghost use Rattle.std.specs.Duration.{as_nanos};
 ghost use Rattle.sctp_state.specs.Timer.{start, timer};
 ghost use Rattle.rand_core.specs.Stream.{next_u32};
@@ -9,6 +9,7 @@ ghost use Rattle.sctp_parameter.specs.ParameterViews.{parameter_tree};
 ghost use Rattle.sctp_packet.specs.Chunk.{abort_chunk};
 ghost use Rattle.sctp_control_chunk.specs.Views.{init_ack_tree, init_tree};
 ghost use Rattle.spec_endpoint.specs.Packets.{add, emit, packet_to, round_down_to_4};
+ghost use Rattle.sctp_endpoint.specs.GoesOn.{GoesOn};
 ghost use Rattle.sctp_endpoint.specs.Views.{context_of, endpoint_of, identity_of, opened_endpoint_of, phase_of, endpoint_state_of, tcb_of};
 ghost use Rattle.spec_endpoint.specs.Opening as table;
 
@@ -58,12 +59,15 @@ fn t1_cookie<C: Checksum>(context: &Context<C>) -> Timer
 }
 
 /// A closed end draws its first TSN and its tag, and an INIT goes out.
+#[tactic(auto, using(sctp_endpoint::proofs::GoesOnLemmas::goes_on_same, sctp_endpoint::proofs::GoesOnLemmas::goes_on_through))]
 pub fn do_connect<R: Rng, C: Checksum>(
     state: &mut State,
     context: &mut Context<C>,
     rng: &mut R,
 ) -> Result<(), AllocError>
-    ensures { OnOk result (endpoint_of R.stream C.word_of state.new context.new rng.new ≡ table.connect (endpoint_of R.stream C.word_of state.old context.old rng.old)) }
+    ensures ok { OnOk result (endpoint_of R.stream C.word_of state.new context.new rng.new ≡ table.connect (endpoint_of R.stream C.word_of state.old context.old rng.old)) }
+    ensures goes_on { GoesOn context.old context.new }
+    ensures err { OnErr result (state.new ≡ state.old) }
 {
     match state {
         State::Closed => {
@@ -76,13 +80,16 @@ pub fn do_connect<R: Rng, C: Checksum>(
 }
 
 /// An INIT goes out, and its answer is waited for.
+#[tactic(auto, using(sctp_endpoint::proofs::GoesOnLemmas::goes_on_same, sctp_endpoint::proofs::GoesOnLemmas::goes_on_through))]
 fn wait<C: Checksum>(
     state: &mut State,
     context: &mut Context<C>,
     tag: u32,
     initial_tsn: Tsn,
 ) -> Result<(), AllocError>
-    ensures { OnOk result (endpoint_state_of C.word_of state.new context.new ≡ table.waiting tag initial_tsn.0 (context_of C.word_of context.old)) }
+    ensures ok { OnOk result (endpoint_state_of C.word_of state.new context.new ≡ table.waiting tag initial_tsn.0 (context_of C.word_of context.old)) }
+    ensures goes_on { GoesOn context.old context.new }
+    ensures err { OnErr result (state.new ≡ state.old) }
 {
     let t1_init = t1_init(context);
     context.send_init(tag, initial_tsn)?;
@@ -95,14 +102,16 @@ fn wait<C: Checksum>(
 }
 
 /// INIT. It is answered by what it announces and by what the end is, and nothing of it is kept.
+#[tactic(auto, using(sctp_endpoint::proofs::GoesOnLemmas::goes_on_same, sctp_endpoint::proofs::GoesOnLemmas::goes_on_through))]
 pub fn handle_init<R: Rng, C: Checksum>(
     state: &State,
     context: &mut Context<C>,
     rng: &mut R,
     init: &InitChunk,
 ) -> Result<(), AllocError>
-    ensures { OnOk result (endpoint_of R.stream C.word_of state.now context.new rng.new
+    ensures ok { OnOk result (endpoint_of R.stream C.word_of state.now context.new rng.new
         ≡ table.on_init (init_tree init.now) (endpoint_of R.stream C.word_of state.now context.old rng.old)) }
+    ensures goes_on { GoesOn context.old context.new }
 {
     match state {
         State::Closed => {
@@ -124,6 +133,7 @@ pub fn handle_init<R: Rng, C: Checksum>(
 }
 
 /// The answer of an end that has a control block (RFC 9260 sections 5.2.1, 5.2.2, 9.2).
+#[tactic(auto, using(sctp_endpoint::proofs::GoesOnLemmas::goes_on_same, sctp_endpoint::proofs::GoesOnLemmas::goes_on_through))]
 fn answer_open<R: Rng, C: Checksum>(
     phase: &Phase,
     tcb: &TransmissionControlBlock,
@@ -131,8 +141,9 @@ fn answer_open<R: Rng, C: Checksum>(
     rng: &mut R,
     init: &InitChunk,
 ) -> Result<(), AllocError>
-    ensures { OnOk result (opened_endpoint_of R.stream C.word_of phase.now tcb.now context.new rng.new
+    ensures ok { OnOk result (opened_endpoint_of R.stream C.word_of phase.now tcb.now context.new rng.new
         ≡ table.on_init_open (phase_of phase.now) (init_tree init.now) (tcb_of tcb.now) (opened_endpoint_of R.stream C.word_of phase.now tcb.now context.old rng.old)) }
+    ensures goes_on { GoesOn context.old context.new }
 {
     match phase {
         Phase::CookieEchoed(_) => {
@@ -154,6 +165,7 @@ fn answer_open<R: Rng, C: Checksum>(
 }
 
 /// The answer to a peer that may have restarted: under a new tag, with the tie of the association that there is.
+#[tactic(auto, using(sctp_endpoint::proofs::GoesOnLemmas::goes_on_same, sctp_endpoint::proofs::GoesOnLemmas::goes_on_through))]
 fn answer_restart<R: Rng, C: Checksum>(
     tcb: &TransmissionControlBlock,
     context: &mut Context<C>,
@@ -163,6 +175,7 @@ fn answer_restart<R: Rng, C: Checksum>(
     ensures context { OnOk result (context_of C.word_of context.new
         ≡ table.answer (init_tree init.now) (table.tag_from (next_u32 (R.stream rng.old)).0) (table.next_first (tcb_of tcb.now)) tcb.now.identity.tie_tag (context_of C.word_of context.old)) }
     ensures words { OnOk result (R.stream rng.new ≡ (next_u32 (R.stream rng.old)).1) }
+    ensures goes_on { GoesOn context.old context.new }
 {
     let tag = tag_from(rng.next_u32());
     let initial_tsn = tcb.retransmission_queue.next_tsn() + 1_000_000;
@@ -170,14 +183,17 @@ fn answer_restart<R: Rng, C: Checksum>(
 }
 
 /// INIT ACK, for which an end waits that has sent an INIT.
+#[tactic(auto, using(sctp_endpoint::proofs::GoesOnLemmas::goes_on_same, sctp_endpoint::proofs::GoesOnLemmas::goes_on_through))]
 pub fn handle_init_ack<R: Rng, C: Checksum>(
     state: &mut State,
     context: &mut Context<C>,
     rng: &mut R,
     init_ack: &InitAckChunk,
 ) -> Result<(), AllocError>
-    ensures { OnOk result (endpoint_of R.stream C.word_of state.new context.new rng.new
+    ensures ok { OnOk result (endpoint_of R.stream C.word_of state.new context.new rng.new
         ≡ table.on_init_ack (init_ack_tree init_ack.now) (endpoint_of R.stream C.word_of state.old context.old rng.old)) }
+    ensures goes_on { GoesOn context.old context.new }
+    ensures err { OnErr result (state.new ≡ state.old) }
 {
     match state {
         State::Closed => Ok(()),
@@ -191,6 +207,7 @@ pub fn handle_init_ack<R: Rng, C: Checksum>(
 }
 
 /// The cookie of an INIT ACK is echoed; without one the association ends.
+#[tactic(auto, using(sctp_endpoint::proofs::GoesOnLemmas::goes_on_same, sctp_endpoint::proofs::GoesOnLemmas::goes_on_through))]
 fn take_init_ack<R: Rng, C: Checksum>(
     state: &mut State,
     context: &mut Context<C>,
@@ -198,9 +215,11 @@ fn take_init_ack<R: Rng, C: Checksum>(
     own: (u32, Tsn),
     init_ack: &InitAckChunk,
 ) -> Result<(), AllocError>
-    ensures { OnOk result (endpoint_of R.stream C.word_of state.new context.new rng.new
+    ensures ok { OnOk result (endpoint_of R.stream C.word_of state.new context.new rng.new
         ≡ table.echo_or_abort (init_ack_tree init_ack.now) (table.cookie_in (map parameter_tree init_ack.now.parameters.items)) own.0 own.1.0
         (endpoint_of R.stream C.word_of state.old context.old rng.old)) }
+    ensures goes_on { GoesOn context.old context.new }
+    ensures err { OnErr result (state.new ≡ state.old) }
 {
     let Some(cookie) = cookie_in(&init_ack.parameters) else {
         return end_without_cookie(state, context, init_ack.initiate_tag);
@@ -216,12 +235,15 @@ fn take_init_ack<R: Rng, C: Checksum>(
 }
 
 /// The association ends with an ABORT, since an INIT ACK came without a cookie (RFC 9260 section 3.3.3).
+#[tactic(auto, using(sctp_endpoint::proofs::GoesOnLemmas::goes_on_same, sctp_endpoint::proofs::GoesOnLemmas::goes_on_through))]
 fn end_without_cookie<C: Checksum>(
     state: &mut State,
     context: &mut Context<C>,
     peer_tag: u32,
 ) -> Result<(), AllocError>
-    ensures { OnOk result (endpoint_state_of C.word_of state.new context.new ≡ table.without_cookie peer_tag (context_of C.word_of context.old)) }
+    ensures ok { OnOk result (endpoint_state_of C.word_of state.new context.new ≡ table.without_cookie peer_tag (context_of C.word_of context.old)) }
+    ensures goes_on { GoesOn context.old context.new }
+    ensures err { OnErr result (state.new ≡ state.old) }
 {
     send_missing_cookie(context, peer_tag)?;
     context.emit_aborted(
@@ -233,6 +255,7 @@ fn end_without_cookie<C: Checksum>(
 }
 
 /// The cookie of the peer goes out, with data where both fit.
+#[tactic(auto, using(sctp_endpoint::proofs::GoesOnLemmas::goes_on_same, sctp_endpoint::proofs::GoesOnLemmas::goes_on_through, sctp_endpoint::proofs::GoesOnLemmas::goes_on_as))]
 fn echo<C: Checksum>(
     state: &mut State,
     context: &mut Context<C>,
@@ -240,8 +263,10 @@ fn echo<C: Checksum>(
     init_ack: &InitAckChunk,
     cookie: &[u8],
 ) -> Result<(), AllocError>
-    ensures { OnOk result (endpoint_state_of C.word_of state.new context.new
+    ensures ok { OnOk result (endpoint_state_of C.word_of state.new context.new
         ≡ table.echo (init_ack_tree init_ack.now) cookie.now (identity_of identity) (context_of C.word_of context.old)) }
+    ensures goes_on { GoesOn context.old context.new }
+    ensures err { OnErr result (state.new ≡ state.old) }
 {
     let capabilities = agreed_by(
         &context.options,
@@ -271,12 +296,14 @@ fn echo<C: Checksum>(
 }
 
 /// An ABORT that the cookie is missing.
+#[tactic(auto, using(sctp_endpoint::proofs::GoesOnLemmas::goes_on_same, sctp_endpoint::proofs::GoesOnLemmas::goes_on_through))]
 fn send_missing_cookie<C: Checksum>(
     context: &mut Context<C>,
     peer_tag: u32,
 ) -> Result<(), AllocError>
-    ensures { OnOk result (context_of C.word_of context.new
+    ensures ok { OnOk result (context_of C.word_of context.new
         ≡ emit (add (abort_chunk false (missing_mandatory_parameter (7 ∷ []) ∷ [])) (packet_to peer_tag (round_down_to_4 context.old.options.mtu))) (context_of C.word_of context.old)) }
+    ensures goes_on { GoesOn context.old context.new }
 {
     let mut missing_parameter_types = Vec::new(context.alloc);
     missing_parameter_types.push(STATE_COOKIE)?;

@@ -1,14 +1,14 @@
 use Rattle.std.proofs.Common.{rules}
 use Rattle.sctp_handshake.proofs.cookie_echo.on_resolution.Goals as goal
 
-pub returns-in-EstablishNew : goal.returns-in-EstablishNew
-returns-in-EstablishNew g c = search rules
+pub returns-in-EstablishNew-clause-ok : goal.returns-in-EstablishNew-clause-ok
+returns-in-EstablishNew-clause-ok g c = search rules
 
-pub returns-in-RestartDetected : goal.returns-in-RestartDetected
-returns-in-RestartDetected g c = search rules
+pub returns-in-RestartDetected-clause-ok : goal.returns-in-RestartDetected-clause-ok
+returns-in-RestartDetected-clause-ok g c = search rules
 
-pub returns-in-SimultaneousInit : goal.returns-in-SimultaneousInit
-returns-in-SimultaneousInit g c = search rules
+pub returns-in-SimultaneousInit-clause-ok : goal.returns-in-SimultaneousInit-clause-ok
+returns-in-SimultaneousInit-clause-ok g c = search rules
 
-pub returns-in-MaintainExisting : goal.returns-in-MaintainExisting
-returns-in-MaintainExisting g c = search rules
+pub returns-in-MaintainExisting-clause-ok : goal.returns-in-MaintainExisting-clause-ok
+returns-in-MaintainExisting-clause-ok g c = search rules

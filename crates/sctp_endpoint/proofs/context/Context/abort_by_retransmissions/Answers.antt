@@ -9,10 +9,10 @@ use Rattle.spec_endpoint.specs.Packets.{emit_chunk}
 use Rattle.sctp_endpoint.specs.Views.{context_of, tcb_of}
 use Rattle.sctp_endpoint.proofs.context.Context.abort_by_retransmissions.Goals as goal
 
-pub returns : goal.returns
-returns g c =
+pub returns-clause-ok : goal.returns-clause-ok
+returns-clause-ok g c =
     let word_of = g.C.Checksum.word_of in
-    let sent = c.in_ok-send_abort.ensures
+    let sent = c.in_ok-send_abort.ensures.ok
     ∙ ap (λ (cause : CauseTree). emit_chunk (abort_chunk false (cause ∷ [])) (tcb_of c.args.tcb.now) (context_of word_of c.args.self.now)) c.in_ok-cause.ensures in
     subst (λ (x : Context (List ℕ)). OnOk c.emit_no_answer.result (context_of word_of c.emit_no_answer.new.self ≡ over (OnAborted TooManyRetries (codes "Too many retransmissions")) x))
-    sent c.emit_no_answer.ensures
+    sent c.emit_no_answer.ensures.ok

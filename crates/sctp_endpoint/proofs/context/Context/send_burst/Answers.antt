@@ -1,6 +1,7 @@
 use Rattle.std.proofs.Common.{◌==◌, true, sym, ap, ◌∙◌, arith, ℕ}
 use Rattle.spec_endpoint.specs.Sending.{burst}
 use Rattle.sctp_endpoint.specs.Views.{filling_of}
+use Rattle.sctp_endpoint.proofs.GoesOnLemmas.{goes_on_through}
 use Rattle.sctp_endpoint.proofs.BurstLemmas.{burst_on, burst_off, not_first}
 use Rattle.sctp_endpoint.proofs.context.Context.send_burst.Goals as goal
 
@@ -13,10 +14,13 @@ loop-index-preserved g c =
       most = omega (arith, c.loop-index-test.true);
       rest = rw (not_first here.index) (sym (burst_on c.max_burst-index-end.result here.index (here.index == 0) c.args.is_alone c.in_ok-send_packet.field-0
           (filling_of g.C.Checksum.word_of here.packet here.tcb here.self) _ c.loop-index-test.true said.filling said.more c.if-not-branch.false) ∙ here.invariant.rest);
+      goes_on = goes_on_through c.args.self.now here.self _ here.invariant.goes_on said.goes_on;
+      received = said.received ∙ here.invariant.received;
+      identity = said.identity ∙ here.invariant.identity;
     }
 
-pub returns-then-not-branch : goal.returns-then-not-branch
-returns-then-not-branch g c =
+pub returns-then-not-branch-clause-ok : goal.returns-then-not-branch-clause-ok
+returns-then-not-branch-clause-ok g c =
     let here = c.loop-index in
     let said = c.in_ok-send_packet.ensures in
     burst_off c.max_burst-index-end.result here.index (here.index == 0) c.args.is_alone c.in_ok-send_packet.field-0
