@@ -8,6 +8,7 @@ ghost use Rattle.sctp_state.specs.Options.{send_options_of};
 ghost use Rattle.sctp_endpoint.specs.GoesOn.{GoesOn};
 ghost use Rattle.sctp_endpoint.specs.Views.{context_of, phase_of, endpoint_state_of, state_of};
 ghost use Rattle.spec_endpoint.specs.Calls.{ready_in};
+ghost use Rattle.spec_endpoint.specs.Shown.{association_in};
 ghost use Rattle.spec_endpoint.specs.Calls as table;
 
 use sctp_endpoint::sending::send_waiting;
@@ -219,6 +220,7 @@ pub fn send<C: Checksum>(
     ensures counted { let c = context_of C.word_of context.old in
         OnErr result ((context.new.counts.tx_messages ≡ c.counts.tx_messages) ⊎ (context.new.counts.tx_messages ≡ (table.offer (message_of message) (send_options_of options.now) (table.shown_state (state_of state.old)) c).counts.tx_messages)) }
     ensures ready { ready_in (state_of state.new) ≡ ready_in (state_of state.old) }
+    ensures association { association_in (state_of state.new) ≡ association_in (state_of state.old) }
 {
     let shown = socket_state(state);
     let refusal = offer(context, shown, message, options)?;
@@ -264,6 +266,7 @@ pub fn send_many<C: Checksum>(
         ≡ table.send_many (map message_of messages.items) (send_options_of options.now) (endpoint_state_of C.word_of state.old context.old)) }
     ensures grown { Grown context.old.emitted context.new.emitted }
     ensures ready { ready_in (state_of state.new) ≡ ready_in (state_of state.old) }
+    ensures association { association_in (state_of state.new) ≡ association_in (state_of state.old) }
 {
     let shown = socket_state(state);
     let refusals = offer_all(context, shown, messages, options)?;

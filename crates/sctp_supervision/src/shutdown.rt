@@ -4,7 +4,9 @@ ghost use Rattle.std.specs.Prelude.{◌≡◌, false, OnErr, OnOk};
 ghost use Rattle.spec_endpoint.specs.Association.{where_open};
 ghost use Rattle.sctp_state.specs.Events.{OnClosed};
 ghost use Rattle.sctp_endpoint.specs.GoesOn.{GoesOn};
-ghost use Rattle.sctp_endpoint.specs.Views.{context_of, phase_step_of, phase_of, endpoint_state_of, tcb_of};
+ghost use Rattle.sctp_endpoint.specs.Views.{context_of, phase_step_of, phase_of, endpoint_state_of, state_of, tcb_of};
+ghost use Rattle.spec_endpoint.specs.Calls.{ready_in};
+ghost use Rattle.spec_endpoint.specs.Shown.{association_in};
 ghost use Rattle.spec_endpoint.specs.Shutdown as table;
 
 use sctp_endpoint::{Context, OutgoingPacket, Phase, State, TransmissionControlBlock};
@@ -130,6 +132,8 @@ pub fn do_shutdown<C: Checksum>(
 ) -> Result<(), AllocError>
     ensures ok { OnOk result (endpoint_state_of C.word_of state.new context.new ≡ table.shutdown (endpoint_state_of C.word_of state.old context.old)) }
     ensures goes_on { GoesOn context.old context.new }
+    ensures ready { OnErr result (ready_in (state_of state.new) ≡ ready_in (state_of state.old)) }
+    ensures association { OnErr result (association_in (state_of state.new) ≡ association_in (state_of state.old)) }
 {
     match state {
         State::Closed => Ok(()),

@@ -1,9 +1,11 @@
 //! Time: which timers a state looks at, and what their expiries lead to.
 
-ghost use Rattle.std.specs.Prelude.{◌≡◌, cond, IfOk, OnOk};
+ghost use Rattle.std.specs.Prelude.{◌≡◌, cond, IfOk, OnErr, OnOk};
 ghost use Rattle.sctp_endpoint.specs.GoesOn.{GoesOn};
 ghost use Rattle.sctp_endpoint.specs.Views.{context_of, timer_outcome_of, phase_of, endpoint_state_after, endpoint_state_of, state_of, tcb_of, ticking_of, init_outcome_of};
 ghost use Rattle.sctp_state.specs.Timer.{expire};
+ghost use Rattle.spec_endpoint.specs.Calls.{ready_in};
+ghost use Rattle.spec_endpoint.specs.Shown.{association_in};
 ghost use Rattle.spec_endpoint.specs.Shutdown.{send_shutdown, send_shutdown_ack};
 ghost use Rattle.spec_endpoint.specs.Timers as table;
 
@@ -275,6 +277,8 @@ fn handle_timeouts<C: Checksum>(
 ) -> Result<(), AllocError>
     ensures ok { OnOk result (endpoint_state_of C.word_of state.new context.new ≡ table.tick_in (state_of state.old) (context_of C.word_of context.old)) }
     ensures goes_on { GoesOn context.old context.new }
+    ensures ready { OnErr result (ready_in (state_of state.new) ≡ ready_in (state_of state.old)) }
+    ensures association { OnErr result (association_in (state_of state.new) ≡ association_in (state_of state.old)) }
 {
     match state {
         State::Closed => Ok(()),
@@ -302,6 +306,8 @@ pub fn advance_time<C: Checksum>(
 ) -> Result<(), AllocError>
     ensures ok { OnOk result (endpoint_state_of C.word_of state.new context.new ≡ table.advance now (endpoint_state_of C.word_of state.old context.old)) }
     ensures goes_on { GoesOn context.old context.new }
+    ensures ready { OnErr result (ready_in (state_of state.new) ≡ ready_in (state_of state.old)) }
+    ensures association { OnErr result (association_in (state_of state.new) ≡ association_in (state_of state.old)) }
 {
     if now < context.clock {
         return Ok(());
