@@ -1,6 +1,6 @@
 //! The socket.
 
-ghost use Rattle.std.specs.Prelude.{◌≡◌, ◌<◌, ◌^◌, ◌↔◌, ◌||◌, false, true, Err, is_err, length, map, option_map, drop, slice_get, IfOk, IfErr, OnOk};
+ghost use Rattle.std.specs.Prelude.{◌≡◌, ◌<◌, ◌^◌, ◌↔◌, ◌||◌, false, true, Err, None, is_err, length, map, option_map, drop, slice_get, IfOk, IfErr, OnErr, OnOk};
 ghost use Rattle.sctp_serial.specs.Messages.{message_of};
 ghost use Rattle.sctp_tx_queue.specs.SendQueue.{amount_of, stream, total_of};
 ghost use Rattle.sctp_state.specs.Events.{Grown, event_of, first_of, given_up_of, numbers_of};
@@ -9,7 +9,7 @@ ghost use Rattle.sctp_state.specs.Options.{IsValid, options_of, send_options_of}
 ghost use Rattle.spec_endpoint.specs.Association.{fresh, in_context};
 ghost use Rattle.spec_endpoint.specs.Input.{my_tag, in_endpoint_state};
 ghost use Rattle.sctp_calls.specs.Metrics.{metrics_in, metrics_of};
-ghost use Rattle.sctp_association.specs.Socket.{Ends, Worked, association_of, batch_ending, ending_of, endpoint, handover_ending, readiness_in, refusal_in, refusals_in, reset_refusal_in, resetting_ending, restore_ending, restore_refusal_in, sending_ending};
+ghost use Rattle.sctp_association.specs.Socket.{Ends, LeavesAtMemory, RanOut, Worked, association_of, batch_ending, ending_of, endpoint, handover_ending, readiness_in, refusal_in, refusals_in, reset_refusal_in, resetting_ending, restore_ending, restore_refusal_in, sending_ending};
 ghost use Rattle.spec_endpoint.specs.Receiving.{Receives, Judges};
 ghost use Rattle.spec_endpoint.specs.Shown.{association_in, is_at_rest};
 ghost use Rattle.spec_endpoint.specs.Wire.{writing};
@@ -218,6 +218,7 @@ impl<R: Rng, C: Checksum> DcSctpSocket for Socket<R, C> {
         ensures ends { Ends (ending_of result) self.old self.new }
         ensures ok { OnOk result (endpoint R.stream C.word_of self.new ≡ in_endpoint_state (time.advance now) (endpoint R.stream C.word_of self.old)) }
         ensures stands { Grown self.old.context.emitted self.new.context.emitted }
+        ensures at_memory { OnErr result (LeavesAtMemory self.old self.new) }
     {
         if self.has_failed {
             return Err(CallError::Failed);
@@ -237,6 +238,7 @@ impl<R: Rng, C: Checksum> DcSctpSocket for Socket<R, C> {
         ensures ends { Ends (ending_of result) self.old self.new }
         ensures ok { OnOk result (endpoint R.stream C.word_of self.new ≡ opening.connect (endpoint R.stream C.word_of self.old)) }
         ensures stands { Grown self.old.context.emitted self.new.context.emitted }
+        ensures at_memory { OnErr result (LeavesAtMemory self.old self.new) }
     {
         if self.has_failed {
             return Err(CallError::Failed);
@@ -250,6 +252,7 @@ impl<R: Rng, C: Checksum> DcSctpSocket for Socket<R, C> {
         ensures ends { Ends (ending_of result) self.old self.new }
         ensures ok { OnOk result (endpoint R.stream C.word_of self.new ≡ in_endpoint_state closing.close (endpoint R.stream C.word_of self.old)) }
         ensures stands { Grown self.old.context.emitted self.new.context.emitted }
+        ensures at_memory { OnErr result (LeavesAtMemory self.old self.new) }
     {
         if self.has_failed {
             return Err(CallError::Failed);
@@ -263,6 +266,7 @@ impl<R: Rng, C: Checksum> DcSctpSocket for Socket<R, C> {
         ensures ends { Ends (ending_of result) self.old self.new }
         ensures ok { OnOk result (endpoint R.stream C.word_of self.new ≡ in_endpoint_state closing.shutdown (endpoint R.stream C.word_of self.old)) }
         ensures stands { Grown self.old.context.emitted self.new.context.emitted }
+        ensures at_memory { OnErr result (LeavesAtMemory self.old self.new) }
     {
         if self.has_failed {
             return Err(CallError::Failed);
@@ -278,6 +282,7 @@ impl<R: Rng, C: Checksum> DcSctpSocket for Socket<R, C> {
         ensures sent { sending_ending result ≡ Worked
             → endpoint R.stream C.word_of self.new ≡ in_endpoint_state (calls.send (message_of message) (send_options_of options.now)) (endpoint R.stream C.word_of self.old) }
         ensures stands { Grown self.old.context.emitted self.new.context.emitted }
+        ensures at_memory { OnErr result (LeavesAtMemory self.old self.new) }
     {
         if self.has_failed {
             return Err(SendError::Failed);
@@ -298,6 +303,7 @@ impl<R: Rng, C: Checksum> DcSctpSocket for Socket<R, C> {
         ensures sent { batch_ending result ≡ Worked → endpoint R.stream C.word_of self.new
             ≡ in_endpoint_state (calls.send_many (map message_of messages.items) (send_options_of options.now)) (endpoint R.stream C.word_of self.old) }
         ensures stands { Grown self.old.context.emitted self.new.context.emitted }
+        ensures at_memory { OnErr result (LeavesAtMemory self.old self.new) }
     {
         if self.has_failed {
             return Err(BatchFault::Failed);
@@ -316,7 +322,9 @@ impl<R: Rng, C: Checksum> DcSctpSocket for Socket<R, C> {
         ensures answer { resetting_ending result ≡ Worked → reset_refusal_in result ≡ resets.reset_refusal self.old.state }
         ensures reset { resetting_ending result ≡ Worked
             → endpoint R.stream C.word_of self.new ≡ in_endpoint_state (resets.reset_streams (numbers_of streams.now)) (endpoint R.stream C.word_of self.old) }
+        ensures allowed { resetting_ending result ≡ RanOut → resets.reset_refusal self.old.state ≡ None }
         ensures stands { Grown self.old.context.emitted self.new.context.emitted }
+        ensures at_memory { OnErr result (LeavesAtMemory self.old self.new) }
     {
         if self.has_failed {
             return Err(ResetStreamsError::Failed);
@@ -333,6 +341,7 @@ impl<R: Rng, C: Checksum> DcSctpSocket for Socket<R, C> {
         ensures ends { Ends (ending_of result) self.old self.new }
         ensures ok { OnOk result (endpoint R.stream C.word_of self.new ≡ in_endpoint_state (in_context (calls.set_priority id.0 priority)) (endpoint R.stream C.word_of self.old)) }
         ensures stands { Grown self.old.context.emitted self.new.context.emitted }
+        ensures at_memory { OnErr result (LeavesAtMemory self.old self.new) }
     {
         if self.has_failed {
             return Err(CallError::Failed);
@@ -356,6 +365,7 @@ impl<R: Rng, C: Checksum> DcSctpSocket for Socket<R, C> {
         ensures ends { Ends (ending_of result) self.old self.new }
         ensures ok { OnOk result (endpoint R.stream C.word_of self.new ≡ in_endpoint_state (in_context (calls.set_low_threshold id.0 bytes)) (endpoint R.stream C.word_of self.old)) }
         ensures stands { Grown self.old.context.emitted self.new.context.emitted }
+        ensures at_memory { OnErr result (LeavesAtMemory self.old self.new) }
     {
         if self.has_failed {
             return Err(CallError::Failed);
@@ -421,7 +431,9 @@ impl<R: Rng, C: Checksum> DcSctpSocket for Socket<R, C> {
         ensures refused { (r : HandoverReadiness) → result ≡ Err (HandoverError.NotReady r) → 0 < r.0 }
         ensures record { IfOk result (λ h. handover_state_of h ≡ handover.handed_over (endpoint R.stream C.word_of self.old).endpoint_state) }
         ensures left { handover_ending result ≡ Worked → endpoint R.stream C.word_of self.new ≡ in_endpoint_state handover.hand_over (endpoint R.stream C.word_of self.old) }
+        ensures allowed { handover_ending result ≡ RanOut → handover.readiness (endpoint R.stream C.word_of self.old).endpoint_state ≡ 0 }
         ensures stands { Grown self.old.context.emitted self.new.context.emitted }
+        ensures at_memory { OnErr result (LeavesAtMemory self.old self.new) }
     {
         if self.has_failed {
             return Err(HandoverError::Failed);
@@ -440,6 +452,7 @@ impl<R: Rng, C: Checksum> DcSctpSocket for Socket<R, C> {
         ensures answer { restore_ending result ≡ Worked → restore_refusal_in result ≡ handover.restore_refusal_in self.old.state (handover_state_of state.now) }
         ensures restored { restore_ending result ≡ Worked
             → endpoint R.stream C.word_of self.new ≡ in_endpoint_state (handover.restore (handover_state_of state.now)) (endpoint R.stream C.word_of self.old) }
+        ensures allowed { restore_ending result ≡ RanOut → handover.restore_refusal_in self.old.state (handover_state_of state.now) ≡ None }
         ensures stands { Grown self.old.context.emitted self.new.context.emitted }
     {
         if self.has_failed {
