@@ -19,3 +19,5 @@ returns-in-B-clause-ok g c =
     (record { a = c.self.inside.a; b = c.self.inside.b; log = map entry_tree c.self.inside.log.items; has_failed = c.self.inside.has_failed }) c.args.self.now
     (record { a = c.self.inside.a; b = c.inject-in-B.new.self; log = map entry_tree c.inject-in-B.new.log.items; has_failed = c.self.inside.has_failed }) c.self.view_is
     (end_tree c.args.end) c.args.bytes.now (ap end_tree c.in-B.is) comes refl) c.inject-in-B.ensures.met
+
+-- open: returns-in-A-clause-cut, returns-in-B-clause-cut, by on_err_weaker, foreign_cut_a and foreign_cut_b (InterruptedLemmas), along c.self.view_is and c.in-A.is
