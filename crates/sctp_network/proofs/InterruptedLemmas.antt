@@ -1,12 +1,14 @@
 -- What the log of a world has, where memory ran out.
-use Rattle.std.proofs.Common.{◌≡◌, ℕ, Some, List, ◌∷◌, ◌++◌, refl, ap, subst, ◌∙◌}
+use Rattle.std.proofs.Common.{◌≡◌, ℕ, Some, List, ◌∷◌, ◌++◌, refl, sym, ap, subst, ◌∙◌}
 use Rattle.std.specs.Prelude.{slice_get}
+use Rattle.rand_core.specs.Stream.{Stream}
 use Rattle.spec_world.specs.Observations.{End, A, B, Call, Entry, Given}
 use Rattle.spec_world.specs.World.{Side, World, Action, CallOf, Give, GiveForeign, AdvanceTime, Runs, IsDisabled, call_entry, after_call, time_entry, after_time, news_of, call_socket, advance_time, clock, with_side}
 use Rattle.sctp_network_side.specs.Interrupted.{IsCut, StopsWithin, TakesBytesSo, MeetsForeignSo}
 use Rattle.sctp_network_side.specs.Interrupted as stops
 use Rattle.sctp_network_side.proofs.CutLemmas.{stops_as}
 use Rattle.sctp_network.specs.Interrupted.{IsMadeBy, RunsUpToFailure}
+use Rattle.sctp_network.specs.WorldView.{WorldValue, world_of}
 
 -- ---- a call, a moment
 
@@ -69,6 +71,11 @@ failing all rest more action w u log done next there cut = record {
   stops = cut;
 }
 
--- an event that is this action, in this world
-pub this_event : (action event : Action) (w : World) (log : List Entry) → action ≡ event → StopsWithin (IsMadeBy action w) w.log log → StopsWithin (IsMadeBy event w) w.log log
-this_event action event w log e cut = subst (λ (a : Action). StopsWithin (IsMadeBy a w) w.log log) e cut
+-- ---- the program's values
+
+-- the event is this action, and the world is seen as this value
+pub as_event : {R C : Type 0} (stream : R → Stream) (word_of : C → List ℕ → ℕ) (v now : WorldValue R C) → v ≡ now → (event action : Action) (log : List Entry) → event ≡ action
+    → StopsWithin (IsMadeBy action (world_of stream word_of v)) v.log log → StopsWithin (IsMadeBy event (world_of stream word_of now)) now.log log
+as_event stream word_of v now is event action log e cut =
+    subst (λ (w : WorldValue _ _). StopsWithin (IsMadeBy event (world_of stream word_of w)) w.log log) is
+    (subst (λ (a : Action). StopsWithin (IsMadeBy a (world_of stream word_of v)) v.log log) (sym e) cut)
