@@ -16,7 +16,7 @@ ghost use Rattle.proof_world.specs.Consistent.{WorldKeepsRules};
 ghost use Rattle.proof_world.specs.Delivered.{WorldDelivers};
 ghost use Rattle.proof_world.specs.Few.{RunNumbersFew};
 ghost use Rattle.proof_world.specs.Reachable.{Origin, origin, IsReachable, Continues};
-ghost use Rattle.proof_awake.specs.Worlds.{EndsAreAwake};
+ghost use Rattle.proof_awake.specs.Worlds.{EndsAreAwake, EndsHaveNoLine};
 ghost use Rattle.sctp_network_side.specs.SideView.{action_of, end_tree, entry_tree, side_in};
 ghost use Rattle.sctp_network.specs.WorldView.{world_of};
 
@@ -133,6 +133,8 @@ impl<R: Rng + Drop, C: Checksum + Drop> World<R, C> {
         ensures agrees { IfOk result (λ w. EachEndDrawsDistinctTags
             (origin (options_of options_a.now) (options_of options_b.now) (R.stream rng_a) (R.stream rng_b) (C.word_of checksum_a) (C.word_of checksum_b)) (map action_of events.now)
             → WorldAgrees (world_of R.stream C.word_of w).log) }
+        ensures awake { IfOk result (λ w. EndsAreAwake (world_of R.stream C.word_of w)) }
+        ensures no_line { IfOk result (λ w. EndsHaveNoLine (options_of options_a.now).max_burst (options_of options_b.now).max_burst (world_of R.stream C.word_of w)) }
         ensures works { IfOk result (λ w. w.has_failed ≡ false) }
         ensures stopped { IfErr result (λ e. e ≡ WorldError.NoSuchPacket → (v : table.World) × RunsUpToDisabled (map action_of events.now)
             (fresh_world (options_of options_a.now) (options_of options_b.now) (R.stream rng_a) (R.stream rng_b) (C.word_of checksum_a) (C.word_of checksum_b)) v) }
@@ -367,6 +369,8 @@ pub fn step<R: Rng, C: Checksum>(world: &mut World<R, C>, event: &Event) -> Resu
     ensures agrees { (o : Origin) (actions : List Action) → IsReachable o actions (world_of R.stream C.word_of world.new) → EachEndDrawsDistinctTags o actions
         → WorldAgrees (world_of R.stream C.word_of world.new).log }
     ensures awake { (o : Origin) (actions : List Action) → IsReachable o actions (world_of R.stream C.word_of world.new) → EndsAreAwake (world_of R.stream C.word_of world.new) }
+    ensures no_line { (o : Origin) (actions : List Action) → IsReachable o actions (world_of R.stream C.word_of world.new)
+        → EndsHaveNoLine o.a.max_burst o.b.max_burst (world_of R.stream C.word_of world.new) }
 {
     let a = world.sent(End::A);
     let b = world.sent(End::B);
@@ -398,6 +402,8 @@ pub fn run<R: Rng, C: Checksum>(world: &mut World<R, C>, events: &[Event]) -> Re
     ensures agrees { (o : Origin) (actions : List Action) → IsReachable o actions (world_of R.stream C.word_of world.new) → EachEndDrawsDistinctTags o actions
         → WorldAgrees (world_of R.stream C.word_of world.new).log }
     ensures awake { (o : Origin) (actions : List Action) → IsReachable o actions (world_of R.stream C.word_of world.new) → EndsAreAwake (world_of R.stream C.word_of world.new) }
+    ensures no_line { (o : Origin) (actions : List Action) → IsReachable o actions (world_of R.stream C.word_of world.new)
+        → EndsHaveNoLine o.a.max_burst o.b.max_burst (world_of R.stream C.word_of world.new) }
 {
     let a = world.sent(End::A);
     let b = world.sent(End::B);
