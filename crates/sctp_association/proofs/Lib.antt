@@ -2,3 +2,4 @@ pub mod ReceiveLemmas
 pub mod PlaceLemmas
 pub mod OutlineLemmas
 pub mod JudgeLemmas
+pub mod StandsLemmas

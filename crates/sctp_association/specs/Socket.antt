@@ -14,10 +14,13 @@ use Rattle.sctp_state.specs.declared.api.errors.HandoverError.TheVariants as han
 use Rattle.sctp_state.specs.declared.api.errors.RestoreError.{RestoreError}
 use Rattle.sctp_state.specs.declared.api.errors.RestoreError.TheVariants as restores
 use Rattle.sctp_state.specs.declared.api.handover.SocketHandoverState.{SocketHandoverState}
+use Rattle.sctp_state.specs.Events.{Grown}
+use Rattle.sctp_rx.specs.Delivery.{Extends}
 use Rattle.spec_endpoint.specs.Association.{State, Endpoint}
 use Rattle.sctp_endpoint.specs.declared.transmission_control_block.Association as given_association
 use Rattle.sctp_endpoint.specs.Views.{ContextValue, context_of}
-use Rattle.spec_endpoint.specs.Shown.{Association}
+use Rattle.spec_endpoint.specs.Calls.{ready_in}
+use Rattle.spec_endpoint.specs.Shown.{Association, association_in}
 
 pub record SocketValue (R C : Type 0) : Type 0 where
   pub has_failed : Bool
@@ -102,6 +105,13 @@ abbrev pub Ends : {R C : Type 0} → Ending → (before after : SocketValue R C)
 Ends Worked before after = (before.has_failed ≡ false) × (after.has_failed ≡ false)
 Ends RanOut before after = (before.has_failed ≡ false) × (after.has_failed ≡ true)
 Ends HadFailed before after = (before.has_failed ≡ true) × (after ≡ before)
+
+-- What a call leaves where memory ran out in it: what was emitted before, with more behind it, and the association, with the messages
+-- that were ready, and more behind them.
+pub record LeavesAtMemory {R C : Type 0} (before after : SocketValue R C) : Type 0 where
+  pub emitted : Grown before.context.emitted after.context.emitted
+  pub association : association_in after.state ≡ association_in before.state
+  pub ready : Extends (ready_in before.state) (ready_in after.state)
 
 abbrev pub refusal_in : Result (Unit {0}) SendError → Option SendError
 refusal_in (Ok done) = None

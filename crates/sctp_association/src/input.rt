@@ -15,6 +15,7 @@ ghost use Rattle.spec_endpoint.specs.Association.{where_open};
 ghost use Rattle.spec_endpoint.specs.Opening.{on_cookie_ack};
 ghost use Rattle.spec_endpoint.specs.Packets.{emit_error};
 ghost use Rattle.spec_endpoint.specs.Receiving.{Receives};
+ghost use Rattle.sctp_endpoint.specs.GoesOn.{GoesOn};
 ghost use Rattle.sctp_endpoint.specs.Views.{context_of, endpoint_of, after_chunk_of, opened_of, phase_of, endpoint_state_of, state_of, tcb_of};
 ghost use Rattle.spec_endpoint.specs.Input as table;
 
@@ -38,20 +39,26 @@ use sctp_wire::Checksum;
 use std::alloc::{AllocError, Global};
 
 /// A packet came.
+#[tactic(auto, using(sctp_endpoint::proofs::GoesOnLemmas::goes_on_same, sctp_endpoint::proofs::GoesOnLemmas::goes_on_as))]
 pub(crate) fn count_packet<C: Checksum>(context: &mut Context<C>)
-    ensures { context_of C.word_of context.new ≡ table.count_packet (context_of C.word_of context.old) }
+    ensures ok { context_of C.word_of context.new ≡ table.count_packet (context_of C.word_of context.old) }
+    ensures goes_on { GoesOn context.old context.new }
 {
     context.rx_packets_count = context.rx_packets_count.saturating_add(1);
 }
 
 /// At the end of a packet an acknowledgement goes out, where one is due, and what else may be sent: one SACK for all DATA of a packet
 /// (RFC 9260 section 6.2).
+#[tactic(auto, using(sctp_endpoint::proofs::GoesOnLemmas::goes_on_same, sctp_endpoint::proofs::GoesOnLemmas::goes_on_through, sctp_endpoint::proofs::GoesOnLemmas::goes_on_as))]
 fn maybe_send_sack<C: Checksum>(
     context: &mut Context<C>,
     phase: &Phase,
     tcb: &mut TransmissionControlBlock,
 ) -> Result<(), AllocError>
-    ensures { OnOk result (opened_of C.word_of phase.now tcb.new context.new ≡ table.on_packet_end (phase_of phase.now) (tcb_of tcb.old) (context_of C.word_of context.old)) }
+    ensures ok { OnOk result (opened_of C.word_of phase.now tcb.new context.new ≡ table.on_packet_end (phase_of phase.now) (tcb_of tcb.old) (context_of C.word_of context.old)) }
+    ensures goes_on { GoesOn context.old context.new }
+    ensures received { tcb.new.reassembly_queue ≡ tcb.old.reassembly_queue }
+    ensures identity { tcb.new.identity ≡ tcb.old.identity }
 {
     tcb.data_tracker.observe_packet_end(context.clock);
     if !tcb.data_tracker.should_send_ack(context.clock, false) {
@@ -65,12 +72,14 @@ fn maybe_send_sack<C: Checksum>(
 }
 
 /// After the own SHUTDOWN: it goes out again, and its timer starts anew (RFC 9260 section 9.2).
+#[tactic(auto, using(sctp_endpoint::proofs::GoesOnLemmas::goes_on_same, sctp_endpoint::proofs::GoesOnLemmas::goes_on_through))]
 fn repeat_shutdown<C: Checksum>(
     context: &mut Context<C>,
     phase: &mut Phase,
     tcb: &TransmissionControlBlock,
 ) -> Result<(), AllocError>
-    ensures { OnOk result (opened_of C.word_of phase.new tcb.now context.new ≡ table.repeats (phase_of phase.old) (tcb_of tcb.now) (context_of C.word_of context.old)) }
+    ensures ok { OnOk result (opened_of C.word_of phase.new tcb.now context.new ≡ table.repeats (phase_of phase.old) (tcb_of tcb.now) (context_of C.word_of context.old)) }
+    ensures goes_on { GoesOn context.old context.new }
 {
     match phase {
         Phase::ShutdownSent(t2_shutdown) => {
@@ -87,13 +96,15 @@ fn repeat_shutdown<C: Checksum>(
 }
 
 /// HEARTBEAT is answered with its own parameters, where they fit (RFC 9260 section 8.3).
+#[tactic(auto, using(sctp_endpoint::proofs::GoesOnLemmas::goes_on_same, sctp_endpoint::proofs::GoesOnLemmas::goes_on_through))]
 fn handle_heartbeat<C: Checksum>(
     state: &State,
     context: &mut Context<C>,
     parameters: Vec<Parameter>,
 ) -> Result<(), AllocError>
-    ensures { OnOk result (endpoint_state_of C.word_of state.now context.new
+    ensures ok { OnOk result (endpoint_state_of C.word_of state.now context.new
         ≡ where_open (table.on_heartbeat (map parameter_tree parameters.items)) (endpoint_state_of C.word_of state.now context.old)) }
+    ensures goes_on { GoesOn context.old context.new }
 {
     match state {
         State::Closed | State::CookieWait(_) => Ok(()),
@@ -104,11 +115,13 @@ fn handle_heartbeat<C: Checksum>(
     }
 }
 
+#[tactic(auto, using(sctp_endpoint::proofs::GoesOnLemmas::goes_on_same, sctp_endpoint::proofs::GoesOnLemmas::goes_on_through))]
 fn handle_acked_cookie<C: Checksum>(
     state: &mut State,
     context: &mut Context<C>,
 ) -> Result<(), AllocError>
-    ensures { OnOk result (endpoint_state_of C.word_of state.new context.new ≡ where_open on_cookie_ack (endpoint_state_of C.word_of state.old context.old)) }
+    ensures ok { OnOk result (endpoint_state_of C.word_of state.new context.new ≡ where_open on_cookie_ack (endpoint_state_of C.word_of state.old context.old)) }
+    ensures goes_on { GoesOn context.old context.new }
 {
     match state {
         State::Closed | State::CookieWait(_) => Ok(()),
@@ -117,6 +130,7 @@ fn handle_acked_cookie<C: Checksum>(
 }
 
 /// What a chunk does, of a packet under this tag. DATA and I-DATA are received where they lie.
+#[tactic(auto, using(sctp_endpoint::proofs::GoesOnLemmas::goes_on_same, sctp_endpoint::proofs::GoesOnLemmas::goes_on_through))]
 fn dispatch<R: Rng, C: Checksum>(
     state: &mut State,
     context: &mut Context<C>,
@@ -125,8 +139,9 @@ fn dispatch<R: Rng, C: Checksum>(
     chunk: Chunk,
 ) -> Result<(), AllocError>
     requires { carries_data (chunk_tree chunk) ≡ false }
-    ensures { OnOk result (endpoint_of R.stream C.word_of state.new context.new rng.new
+    ensures ok { OnOk result (endpoint_of R.stream C.word_of state.new context.new rng.new
         ≡ table.on_chunk tag (chunk_tree chunk) (endpoint_of R.stream C.word_of state.old context.old rng.old)) }
+    ensures goes_on { GoesOn context.old context.new }
 {
     match chunk {
         Chunk::Data(_) | Chunk::IData(_) => unreachable!(),
@@ -170,6 +185,7 @@ fn allows_next(chunk: &Chunk) -> bool
 }
 
 /// One chunk. The answer is whether the next one is looked at.
+#[tactic(auto, using(sctp_endpoint::proofs::GoesOnLemmas::goes_on_same, sctp_endpoint::proofs::GoesOnLemmas::goes_on_through))]
 fn receive<R: Rng, C: Checksum>(
     state: &mut State,
     context: &mut Context<C>,
@@ -178,8 +194,9 @@ fn receive<R: Rng, C: Checksum>(
     chunk: Chunk,
 ) -> Result<bool, AllocError>
     requires { carries_data (chunk_tree chunk) ≡ false }
-    ensures { IfOk result (λ goes_on. after_chunk_of R.stream C.word_of state.new context.new rng.new goes_on
+    ensures ok { IfOk result (λ goes_on. after_chunk_of R.stream C.word_of state.new context.new rng.new goes_on
         ≡ table.receive tag (chunk_tree chunk) (endpoint_of R.stream C.word_of state.old context.old rng.old)) }
+    ensures goes_on { GoesOn context.old context.new }
 {
     if let Some(misuse) = violation(state, &chunk) {
         drop(chunk);
@@ -204,14 +221,16 @@ fn data_violation(state: &State, is_interleaved: bool) -> Option<Misuse>
 }
 
 /// A fragment where it lies, in DATA or in I-DATA. The answer is whether the next chunk is looked at.
+#[tactic(auto, using(sctp_endpoint::proofs::GoesOnLemmas::goes_on_same, sctp_endpoint::proofs::GoesOnLemmas::goes_on_through))]
 fn receive_data<C: Checksum>(
     state: &mut State,
     context: &mut Context<C>,
     is_interleaved: bool,
     fragment: DataView<'_>,
 ) -> Result<bool, AllocError>
-    ensures { (tag : ℕ) (words : Stream) → IfOk result (λ goes_on. record { end = record { endpoint_state = endpoint_state_of C.word_of state.new context.new; draws = words }; allows_next = goes_on }
+    ensures ok { (tag : ℕ) (words : Stream) → IfOk result (λ goes_on. record { end = record { endpoint_state = endpoint_state_of C.word_of state.new context.new; draws = words }; allows_next = goes_on }
         ≡ table.receive tag (carrying is_interleaved fragment.entry) (record { endpoint_state = endpoint_state_of C.word_of state.old context.old; draws = words })) }
+    ensures goes_on { GoesOn context.old context.new }
 {
     if let Some(misuse) = data_violation(state, is_interleaved) {
         handle_misuse(state, context, misuse)?;
@@ -232,6 +251,7 @@ fn built(alloc: Global, raw: RawChunk<'_>) -> Result<Chunk, AllocError>
 }
 
 /// One chunk where it lies. DATA is received there, and others are built. The answer is whether the next one is looked at.
+#[tactic(auto, using(sctp_endpoint::proofs::GoesOnLemmas::goes_on_same, sctp_endpoint::proofs::GoesOnLemmas::goes_on_through))]
 fn receive_in_place<R: Rng, C: Checksum>(
     state: &mut State,
     context: &mut Context<C>,
@@ -239,8 +259,9 @@ fn receive_in_place<R: Rng, C: Checksum>(
     tag: u32,
     raw: RawChunk<'_>,
 ) -> Result<bool, AllocError>
-    ensures { (t : ChunkTree) → IsChunk (raw_chunk raw.entry) t → IfOk result (λ goes_on. after_chunk_of R.stream C.word_of state.new context.new rng.new goes_on
+    ensures ok { (t : ChunkTree) → IsChunk (raw_chunk raw.entry) t → IfOk result (λ goes_on. after_chunk_of R.stream C.word_of state.new context.new rng.new goes_on
         ≡ table.receive tag t (endpoint_of R.stream C.word_of state.old context.old rng.old)) }
+    ensures goes_on { GoesOn context.old context.new }
 {
     match raw.data_view() {
         Some(fragment) => receive_data(state, context, raw.typ == IDataChunk::TYPE, fragment),
@@ -252,6 +273,7 @@ fn receive_in_place<R: Rng, C: Checksum>(
 }
 
 /// One chunk after the other.
+#[tactic(auto, using(sctp_endpoint::proofs::GoesOnLemmas::goes_on_same, sctp_endpoint::proofs::GoesOnLemmas::goes_on_through))]
 fn receive_all<R: Rng, C: Checksum>(
     state: &mut State,
     context: &mut Context<C>,
@@ -259,8 +281,9 @@ fn receive_all<R: Rng, C: Checksum>(
     tag: u32,
     mut view: PacketView<'_>,
 ) -> Result<(), AllocError>
-    ensures { (chunks : List ChunkTree) → AreLeft view.entry chunks → OnOk result (endpoint_of R.stream C.word_of state.new context.new rng.new
+    ensures ok { (chunks : List ChunkTree) → AreLeft view.entry chunks → OnOk result (endpoint_of R.stream C.word_of state.new context.new rng.new
         ≡ table.receive_all tag chunks (endpoint_of R.stream C.word_of state.old context.old rng.old)) }
+    ensures goes_on { GoesOn context.old context.new }
 {
     while let Some(raw) = view.next_chunk() {
         if !receive_in_place(state, context, rng, tag, raw)? {
@@ -270,12 +293,14 @@ fn receive_all<R: Rng, C: Checksum>(
     Ok(())
 }
 
+#[tactic(auto, using(sctp_endpoint::proofs::GoesOnLemmas::goes_on_same, sctp_endpoint::proofs::GoesOnLemmas::goes_on_through))]
 fn repeat_if<C: Checksum>(
     state: &mut State,
     context: &mut Context<C>,
     has_data: bool,
 ) -> Result<(), AllocError>
-    ensures { OnOk result (endpoint_state_of C.word_of state.new context.new ≡ table.repeats_if has_data (endpoint_state_of C.word_of state.old context.old)) }
+    ensures ok { OnOk result (endpoint_state_of C.word_of state.new context.new ≡ table.repeats_if has_data (endpoint_state_of C.word_of state.old context.old)) }
+    ensures goes_on { GoesOn context.old context.new }
 {
     if !has_data {
         return Ok(());
@@ -286,8 +311,10 @@ fn repeat_if<C: Checksum>(
     }
 }
 
+#[tactic(auto, using(sctp_endpoint::proofs::GoesOnLemmas::goes_on_same, sctp_endpoint::proofs::GoesOnLemmas::goes_on_through))]
 fn on_packet_end<C: Checksum>(state: &mut State, context: &mut Context<C>) -> Result<(), AllocError>
-    ensures { OnOk result (endpoint_state_of C.word_of state.new context.new ≡ where_open table.on_packet_end (endpoint_state_of C.word_of state.old context.old)) }
+    ensures ok { OnOk result (endpoint_state_of C.word_of state.new context.new ≡ where_open table.on_packet_end (endpoint_state_of C.word_of state.old context.old)) }
+    ensures goes_on { GoesOn context.old context.new }
 {
     match state {
         State::Closed | State::CookieWait(_) => Ok(()),
@@ -296,6 +323,7 @@ fn on_packet_end<C: Checksum>(state: &mut State, context: &mut Context<C>) -> Re
 }
 
 /// The chunks of a packet that is taken.
+#[tactic(auto, using(sctp_endpoint::proofs::GoesOnLemmas::goes_on_same, sctp_endpoint::proofs::GoesOnLemmas::goes_on_through))]
 fn handle_accepted_packet<R: Rng, C: Checksum>(
     state: &mut State,
     context: &mut Context<C>,
@@ -304,8 +332,9 @@ fn handle_accepted_packet<R: Rng, C: Checksum>(
     has_data: bool,
     view: PacketView<'_>,
 ) -> Result<(), AllocError>
-    ensures { (chunks : List ChunkTree) → AreLeft view.entry chunks → has_data ≡ table.has_data_chunk chunks
+    ensures ok { (chunks : List ChunkTree) → AreLeft view.entry chunks → has_data ≡ table.has_data_chunk chunks
         → OnOk result (endpoint_of R.stream C.word_of state.new context.new rng.new ≡ table.on_accepted_packet tag chunks (endpoint_of R.stream C.word_of state.old context.old rng.old)) }
+    ensures goes_on { GoesOn context.old context.new }
 {
     repeat_if(state, context, has_data)?;
     receive_all(state, context, rng, tag, view)?;
@@ -313,14 +342,16 @@ fn handle_accepted_packet<R: Rng, C: Checksum>(
 }
 
 /// A packet that could be read, where it lies.
+#[tactic(auto, using(sctp_endpoint::proofs::GoesOnLemmas::goes_on_same, sctp_endpoint::proofs::GoesOnLemmas::goes_on_through))]
 pub(crate) fn handle_packet<R: Rng, C: Checksum>(
     state: &mut State,
     context: &mut Context<C>,
     rng: &mut R,
     view: PacketView<'_>,
 ) -> Result<(), AllocError>
-    ensures { (chunks : List ChunkTree) → AreLeft view.entry chunks → OnOk result (endpoint_of R.stream C.word_of state.new context.new rng.new
+    ensures ok { (chunks : List ChunkTree) → AreLeft view.entry chunks → OnOk result (endpoint_of R.stream C.word_of state.new context.new rng.new
         ≡ table.on_packet (viewed_packet view.entry chunks) (endpoint_of R.stream C.word_of state.old context.old rng.old)) }
+    ensures goes_on { GoesOn context.old context.new }
 {
     count_packet(context);
     let tag = view.header().verification_tag;
@@ -335,23 +366,27 @@ pub(crate) fn handle_packet<R: Rng, C: Checksum>(
 }
 
 /// Bytes that are no packet.
+#[tactic(auto, using(sctp_endpoint::proofs::GoesOnLemmas::goes_on_same, sctp_endpoint::proofs::GoesOnLemmas::goes_on_through))]
 fn refuse_bytes<C: Checksum>(context: &mut Context<C>) -> Result<(), AllocError>
-    ensures { OnOk result (context_of C.word_of context.new
+    ensures ok { OnOk result (context_of C.word_of context.new
         ≡ emit_error ErrorKind.ParseFailed (codes "Failed to parse SCTP packet") (table.count_packet (context_of C.word_of context.old))) }
+    ensures goes_on { GoesOn context.old context.new }
 {
     count_packet(context);
     context.emit_error(ErrorKind::ParseFailed, "Failed to parse SCTP packet")
 }
 
 /// The bytes of a packet that came.
+#[tactic(auto, using(sctp_endpoint::proofs::GoesOnLemmas::goes_on_same, sctp_endpoint::proofs::GoesOnLemmas::goes_on_through))]
 pub(crate) fn handle_input<R: Rng, C: Checksum>(
     state: &mut State,
     context: &mut Context<C>,
     rng: &mut R,
     bytes: &[u8],
 ) -> Result<(), AllocError>
-    ensures { OnOk result (Receives (C.word_of context.old.checksum) bytes.now (endpoint_of R.stream C.word_of state.old context.old rng.old)
+    ensures ok { OnOk result (Receives (C.word_of context.old.checksum) bytes.now (endpoint_of R.stream C.word_of state.old context.old rng.old)
         (endpoint_of R.stream C.word_of state.new context.new rng.new)) }
+    ensures goes_on { GoesOn context.old context.new }
 {
     let word = packet_word(context, bytes);
     match PacketView::new(bytes, word, &policy(context)) {

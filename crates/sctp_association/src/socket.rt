@@ -1,15 +1,15 @@
 //! The socket.
 
-ghost use Rattle.std.specs.Prelude.{◌≡◌, ◌<◌, ◌^◌, ◌↔◌, ◌||◌, false, true, Err, is_err, length, map, option_map, drop, slice_get, IfOk, IfErr, OnOk};
+ghost use Rattle.std.specs.Prelude.{◌≡◌, ◌<◌, ◌^◌, ◌↔◌, ◌||◌, false, true, Err, None, is_err, length, map, option_map, drop, slice_get, IfOk, IfErr, OnErr, OnOk};
 ghost use Rattle.sctp_serial.specs.Messages.{message_of};
 ghost use Rattle.sctp_tx_queue.specs.SendQueue.{amount_of, stream, total_of};
-ghost use Rattle.sctp_state.specs.Events.{event_of, first_of, given_up_of, numbers_of};
+ghost use Rattle.sctp_state.specs.Events.{Grown, event_of, first_of, given_up_of, numbers_of};
 ghost use Rattle.sctp_state.specs.Handover.{handover_state_of};
 ghost use Rattle.sctp_state.specs.Options.{IsValid, options_of, send_options_of};
 ghost use Rattle.spec_endpoint.specs.Association.{fresh, in_context};
 ghost use Rattle.spec_endpoint.specs.Input.{my_tag, in_endpoint_state};
 ghost use Rattle.sctp_calls.specs.Metrics.{metrics_in, metrics_of};
-ghost use Rattle.sctp_association.specs.Socket.{Ends, Worked, association_of, batch_ending, ending_of, endpoint, handover_ending, readiness_in, refusal_in, refusals_in, reset_refusal_in, resetting_ending, restore_ending, restore_refusal_in, sending_ending};
+ghost use Rattle.sctp_association.specs.Socket.{Ends, LeavesAtMemory, RanOut, Worked, association_of, batch_ending, ending_of, endpoint, handover_ending, readiness_in, refusal_in, refusals_in, reset_refusal_in, resetting_ending, restore_ending, restore_refusal_in, sending_ending};
 ghost use Rattle.spec_endpoint.specs.Receiving.{Receives, Judges};
 ghost use Rattle.spec_endpoint.specs.Shown.{association_in, is_at_rest};
 ghost use Rattle.spec_endpoint.specs.Wire.{writing};
@@ -200,9 +200,11 @@ impl<R: Rng, C: Checksum> DcSctpSocket for Socket<R, C> {
         get_next_message(&mut self.state)
     }
 
+    #[tactic(auto, using(crate::proofs::StandsLemmas::stands_same, crate::proofs::StandsLemmas::stands_by, crate::proofs::StandsLemmas::stands_on))]
     fn handle_input(&mut self, bytes: &[u8]) -> Result<(), CallError>
         ensures ends { Ends (ending_of result) self.old self.new }
         ensures ok { OnOk result (Receives (C.word_of self.old.context.checksum) bytes.now (endpoint R.stream C.word_of self.old) (endpoint R.stream C.word_of self.new)) }
+        ensures stands { Grown self.old.context.emitted self.new.context.emitted }
     {
         if self.has_failed {
             return Err(CallError::Failed);
@@ -211,9 +213,12 @@ impl<R: Rng, C: Checksum> DcSctpSocket for Socket<R, C> {
         Ok(ended(&mut self.has_failed, done)?)
     }
 
+    #[tactic(auto, using(crate::proofs::StandsLemmas::stands_same, crate::proofs::StandsLemmas::stands_by, crate::proofs::StandsLemmas::stands_on))]
     fn advance_time(&mut self, now: SocketTime) -> Result<(), CallError>
         ensures ends { Ends (ending_of result) self.old self.new }
         ensures ok { OnOk result (endpoint R.stream C.word_of self.new ≡ in_endpoint_state (time.advance now) (endpoint R.stream C.word_of self.old)) }
+        ensures stands { Grown self.old.context.emitted self.new.context.emitted }
+        ensures at_memory { OnErr result (LeavesAtMemory self.old self.new) }
     {
         if self.has_failed {
             return Err(CallError::Failed);
@@ -228,9 +233,12 @@ impl<R: Rng, C: Checksum> DcSctpSocket for Socket<R, C> {
         poll_timeout(&self.context, &self.state)
     }
 
+    #[tactic(auto, using(crate::proofs::StandsLemmas::stands_same, crate::proofs::StandsLemmas::stands_by, crate::proofs::StandsLemmas::stands_on))]
     fn connect(&mut self) -> Result<(), CallError>
         ensures ends { Ends (ending_of result) self.old self.new }
         ensures ok { OnOk result (endpoint R.stream C.word_of self.new ≡ opening.connect (endpoint R.stream C.word_of self.old)) }
+        ensures stands { Grown self.old.context.emitted self.new.context.emitted }
+        ensures at_memory { OnErr result (LeavesAtMemory self.old self.new) }
     {
         if self.has_failed {
             return Err(CallError::Failed);
@@ -239,9 +247,12 @@ impl<R: Rng, C: Checksum> DcSctpSocket for Socket<R, C> {
         Ok(ended(&mut self.has_failed, done)?)
     }
 
+    #[tactic(auto, using(crate::proofs::StandsLemmas::stands_same, crate::proofs::StandsLemmas::stands_by, crate::proofs::StandsLemmas::stands_on))]
     fn close(&mut self) -> Result<(), CallError>
         ensures ends { Ends (ending_of result) self.old self.new }
         ensures ok { OnOk result (endpoint R.stream C.word_of self.new ≡ in_endpoint_state closing.close (endpoint R.stream C.word_of self.old)) }
+        ensures stands { Grown self.old.context.emitted self.new.context.emitted }
+        ensures at_memory { OnErr result (LeavesAtMemory self.old self.new) }
     {
         if self.has_failed {
             return Err(CallError::Failed);
@@ -250,9 +261,12 @@ impl<R: Rng, C: Checksum> DcSctpSocket for Socket<R, C> {
         Ok(ended(&mut self.has_failed, done)?)
     }
 
+    #[tactic(auto, using(crate::proofs::StandsLemmas::stands_same, crate::proofs::StandsLemmas::stands_by, crate::proofs::StandsLemmas::stands_on))]
     fn shutdown(&mut self) -> Result<(), CallError>
         ensures ends { Ends (ending_of result) self.old self.new }
         ensures ok { OnOk result (endpoint R.stream C.word_of self.new ≡ in_endpoint_state closing.shutdown (endpoint R.stream C.word_of self.old)) }
+        ensures stands { Grown self.old.context.emitted self.new.context.emitted }
+        ensures at_memory { OnErr result (LeavesAtMemory self.old self.new) }
     {
         if self.has_failed {
             return Err(CallError::Failed);
@@ -261,11 +275,14 @@ impl<R: Rng, C: Checksum> DcSctpSocket for Socket<R, C> {
         Ok(ended(&mut self.has_failed, done)?)
     }
 
+    #[tactic(auto, using(crate::proofs::StandsLemmas::stands_same, crate::proofs::StandsLemmas::stands_by, crate::proofs::StandsLemmas::stands_on))]
     fn send(&mut self, message: Message, options: &SendOptions) -> Result<(), SendError>
         ensures ends { Ends (sending_ending result) self.old self.new }
         ensures answer { sending_ending result ≡ Worked → refusal_in result ≡ calls.send_refusal_of (message_of message) (endpoint R.stream C.word_of self.old).endpoint_state }
         ensures sent { sending_ending result ≡ Worked
             → endpoint R.stream C.word_of self.new ≡ in_endpoint_state (calls.send (message_of message) (send_options_of options.now)) (endpoint R.stream C.word_of self.old) }
+        ensures stands { Grown self.old.context.emitted self.new.context.emitted }
+        ensures at_memory { OnErr result (LeavesAtMemory self.old self.new) }
     {
         if self.has_failed {
             return Err(SendError::Failed);
@@ -277,6 +294,7 @@ impl<R: Rng, C: Checksum> DcSctpSocket for Socket<R, C> {
         }
     }
 
+    #[tactic(auto, using(crate::proofs::StandsLemmas::stands_same, crate::proofs::StandsLemmas::stands_by, crate::proofs::StandsLemmas::stands_on))]
     fn send_many(&mut self, messages: Vec<Message>, options: &SendOptions) -> Result<(), BatchFault>
         ensures ends { Ends (batch_ending result) self.old self.new }
         ensures answer { batch_ending result ≡ Worked → refusals_in result ≡ (let s = (endpoint R.stream C.word_of self.old).endpoint_state in
@@ -284,6 +302,8 @@ impl<R: Rng, C: Checksum> DcSctpSocket for Socket<R, C> {
         ensures refused { (e : BatchSendError) → result ≡ Err (BatchFault.Refused e) → 0 < length e.0.items }
         ensures sent { batch_ending result ≡ Worked → endpoint R.stream C.word_of self.new
             ≡ in_endpoint_state (calls.send_many (map message_of messages.items) (send_options_of options.now)) (endpoint R.stream C.word_of self.old) }
+        ensures stands { Grown self.old.context.emitted self.new.context.emitted }
+        ensures at_memory { OnErr result (LeavesAtMemory self.old self.new) }
     {
         if self.has_failed {
             return Err(BatchFault::Failed);
@@ -296,11 +316,15 @@ impl<R: Rng, C: Checksum> DcSctpSocket for Socket<R, C> {
         Err(BatchFault::Refused(BatchSendError(refusals)))
     }
 
+    #[tactic(auto, using(crate::proofs::StandsLemmas::stands_same, crate::proofs::StandsLemmas::stands_by, crate::proofs::StandsLemmas::stands_on))]
     fn reset_streams(&mut self, streams: &[StreamId]) -> Result<(), ResetStreamsError>
         ensures ends { Ends (resetting_ending result) self.old self.new }
         ensures answer { resetting_ending result ≡ Worked → reset_refusal_in result ≡ resets.reset_refusal self.old.state }
         ensures reset { resetting_ending result ≡ Worked
             → endpoint R.stream C.word_of self.new ≡ in_endpoint_state (resets.reset_streams (numbers_of streams.now)) (endpoint R.stream C.word_of self.old) }
+        ensures allowed { resetting_ending result ≡ RanOut → resets.reset_refusal self.old.state ≡ None }
+        ensures stands { Grown self.old.context.emitted self.new.context.emitted }
+        ensures at_memory { OnErr result (LeavesAtMemory self.old self.new) }
     {
         if self.has_failed {
             return Err(ResetStreamsError::Failed);
@@ -312,9 +336,12 @@ impl<R: Rng, C: Checksum> DcSctpSocket for Socket<R, C> {
         }
     }
 
+    #[tactic(auto, using(crate::proofs::StandsLemmas::stands_same, crate::proofs::StandsLemmas::stands_by, crate::proofs::StandsLemmas::stands_on))]
     fn set_stream_priority(&mut self, id: StreamId, priority: u16) -> Result<(), CallError>
         ensures ends { Ends (ending_of result) self.old self.new }
         ensures ok { OnOk result (endpoint R.stream C.word_of self.new ≡ in_endpoint_state (in_context (calls.set_priority id.0 priority)) (endpoint R.stream C.word_of self.old)) }
+        ensures stands { Grown self.old.context.emitted self.new.context.emitted }
+        ensures at_memory { OnErr result (LeavesAtMemory self.old self.new) }
     {
         if self.has_failed {
             return Err(CallError::Failed);
@@ -329,6 +356,7 @@ impl<R: Rng, C: Checksum> DcSctpSocket for Socket<R, C> {
         self.context.send_queue.get_priority(id)
     }
 
+    #[tactic(auto, using(crate::proofs::StandsLemmas::stands_same, crate::proofs::StandsLemmas::stands_by, crate::proofs::StandsLemmas::stands_on))]
     fn set_buffered_amount_low_threshold(
         &mut self,
         id: StreamId,
@@ -336,6 +364,8 @@ impl<R: Rng, C: Checksum> DcSctpSocket for Socket<R, C> {
     ) -> Result<(), CallError>
         ensures ends { Ends (ending_of result) self.old self.new }
         ensures ok { OnOk result (endpoint R.stream C.word_of self.new ≡ in_endpoint_state (in_context (calls.set_low_threshold id.0 bytes)) (endpoint R.stream C.word_of self.old)) }
+        ensures stands { Grown self.old.context.emitted self.new.context.emitted }
+        ensures at_memory { OnErr result (LeavesAtMemory self.old self.new) }
     {
         if self.has_failed {
             return Err(CallError::Failed);
@@ -394,12 +424,16 @@ impl<R: Rng, C: Checksum> DcSctpSocket for Socket<R, C> {
         get_handover_readiness(&self.context, &self.state)
     }
 
+    #[tactic(auto, using(crate::proofs::StandsLemmas::stands_same, crate::proofs::StandsLemmas::stands_by, crate::proofs::StandsLemmas::stands_on))]
     fn get_handover_state_and_close(&mut self) -> Result<SocketHandoverState, HandoverError>
         ensures ends { Ends (handover_ending result) self.old self.new }
         ensures answer { handover_ending result ≡ Worked → readiness_in result ≡ handover.readiness (endpoint R.stream C.word_of self.old).endpoint_state }
         ensures refused { (r : HandoverReadiness) → result ≡ Err (HandoverError.NotReady r) → 0 < r.0 }
         ensures record { IfOk result (λ h. handover_state_of h ≡ handover.handed_over (endpoint R.stream C.word_of self.old).endpoint_state) }
         ensures left { handover_ending result ≡ Worked → endpoint R.stream C.word_of self.new ≡ in_endpoint_state handover.hand_over (endpoint R.stream C.word_of self.old) }
+        ensures allowed { handover_ending result ≡ RanOut → handover.readiness (endpoint R.stream C.word_of self.old).endpoint_state ≡ 0 }
+        ensures stands { Grown self.old.context.emitted self.new.context.emitted }
+        ensures at_memory { OnErr result (LeavesAtMemory self.old self.new) }
     {
         if self.has_failed {
             return Err(HandoverError::Failed);
@@ -412,11 +446,14 @@ impl<R: Rng, C: Checksum> DcSctpSocket for Socket<R, C> {
         Ok(ended(&mut self.has_failed, state)?)
     }
 
+    #[tactic(auto, using(crate::proofs::StandsLemmas::stands_same, crate::proofs::StandsLemmas::stands_by, crate::proofs::StandsLemmas::stands_on))]
     fn restore_from_state(&mut self, state: &SocketHandoverState) -> Result<(), RestoreError>
         ensures ends { Ends (restore_ending result) self.old self.new }
         ensures answer { restore_ending result ≡ Worked → restore_refusal_in result ≡ handover.restore_refusal_in self.old.state (handover_state_of state.now) }
         ensures restored { restore_ending result ≡ Worked
             → endpoint R.stream C.word_of self.new ≡ in_endpoint_state (handover.restore (handover_state_of state.now)) (endpoint R.stream C.word_of self.old) }
+        ensures allowed { restore_ending result ≡ RanOut → handover.restore_refusal_in self.old.state (handover_state_of state.now) ≡ None }
+        ensures stands { Grown self.old.context.emitted self.new.context.emitted }
     {
         if self.has_failed {
             return Err(RestoreError::Failed);

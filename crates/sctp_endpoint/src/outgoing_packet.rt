@@ -4,7 +4,7 @@ ghost use Rattle.std.specs.Prelude.{◌≡◌, ◌≤◌, ◌<◌, ◌^◌, ◌&
 ghost use Rattle.sctp_wire.specs.Serialize.{IsEncodable, is_encodable, padded_item};
 ghost use Rattle.sctp_packet.specs.ChunkView.{chunk_tree};
 ghost use Rattle.sctp_packet.specs.Written.{chunk_bytes, chunk_is_whole, chunk_item};
-ghost use Rattle.sctp_chunk.specs.Views.{fragment_tree};
+ghost use Rattle.sctp_chunk.specs.Views.{fragment_tree, sack_chunk_tree};
 ghost use Rattle.spec_endpoint.specs.Sending.{data_chunk_of};
 ghost use Rattle.spec_endpoint.specs.Packets.{add, added_if, clear_chunks, fits, has_chunks, packet_to, room};
 ghost use Rattle.sctp_endpoint.specs.WrittenChunks.{written_tree};
@@ -12,7 +12,9 @@ ghost use Rattle.spec_endpoint.specs.Wire.{word_at, written_bytes};
 
 use crate::written_chunks::{WrittenChunk, WrittenChunks};
 use sctp_chunk::FragmentChunk;
-use sctp_packet::{COMMON_HEADER_SIZE, Chunk, Data, DataChunk, IDataChunk, SctpPacketBuilder};
+use sctp_packet::{
+    COMMON_HEADER_SIZE, Chunk, Data, DataChunk, IDataChunk, SackChunk, SctpPacketBuilder,
+};
 use sctp_serial::Tsn;
 use sctp_tx::{ChunkForm, TakesFragments};
 use sctp_wire::{Checksum, SerializableTlv};
@@ -129,6 +131,16 @@ impl OutgoingPacket {
         let outcome = self.write(&chunk, written);
         drop(chunk);
         outcome
+    }
+
+    /// Adds a SACK, as `add` does; no other chunk is as frequent but those of fragments.
+    pub fn add_sack(&mut self, sack: &SackChunk) -> Result<(), AllocError>
+        ensures ok { OnOk result (self.new ≡ add (sack_chunk_tree sack.now) self.old) }
+        ensures err { OnErr result (self.new ≡ self.old) }
+    {
+        let written = WrittenChunk::sack(sack);
+        self.write(sack, written)?;
+        Ok(())
     }
 
     /// Writes what contracts see as `written` where it fits. The answer is whether it did.

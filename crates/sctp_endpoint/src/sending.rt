@@ -41,7 +41,7 @@ impl<C: Checksum> Context<C> {
         {
             let window = tcb.reassembly_queue.remaining_bytes() as u32;
             let sack = tcb.data_tracker.create_selective_ack(window)?;
-            packet.add(Chunk::Sack(sack))?;
+            packet.add_sack(&sack)?;
         }
         Ok(())
     }

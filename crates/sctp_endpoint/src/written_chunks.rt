@@ -6,7 +6,7 @@ ghost use Rattle.sctp_packet.specs.Written.{chunk_item, chunks_bytes};
 ghost use Rattle.spec_endpoint.specs.Packets.{is_some_chunk};
 
 use sctp_chunk::FragmentChunk;
-use sctp_packet::{Chunk, Data};
+use sctp_packet::{Chunk, Data, SackChunk};
 use sctp_serial::Tsn;
 use sctp_tx::ChunkForm;
 use sctp_wire::SerializableTlv;
@@ -14,16 +14,17 @@ use std::alloc::{AllocError, Global};
 use std::marker::Model;
 use std::snapshot::Snapshot;
 
-/// What was written, as contracts see it: nothing of it is here at run time but which of the two it was.
+/// What was written, as contracts see it: nothing of it is here at run time but which of these it was.
 #[derive(Drop)]
 pub enum WrittenChunk {
     Whole(Snapshot<Chunk>),
+    Sack(Snapshot<SackChunk>),
     Fragment(Snapshot<Tsn>, Snapshot<Data>, Snapshot<ChunkForm>),
 }
 
 impl WrittenChunk {
     ghost use Rattle.sctp_packet.specs.ChunkView.{chunk_tree};
-    ghost use Rattle.sctp_chunk.specs.Views.{fragment_chunk_tree};
+    ghost use Rattle.sctp_chunk.specs.Views.{fragment_chunk_tree, sack_chunk_tree};
     ghost use Rattle.sctp_endpoint.specs.WrittenChunks.{written_tree};
 
     /// A chunk that was written.
@@ -31,6 +32,13 @@ impl WrittenChunk {
         ensures { written_tree result ≡ chunk_tree chunk.now }
     {
         WrittenChunk::Whole(Snapshot::of(chunk))
+    }
+
+    /// A SACK that was written.
+    pub fn sack(sack: &SackChunk) -> WrittenChunk
+        ensures { written_tree result ≡ sack_chunk_tree sack.now }
+    {
+        WrittenChunk::Sack(Snapshot::of(sack))
     }
 
     /// A fragment that was written from where it is kept.

@@ -1,3 +1,4 @@
 pub mod ForeignBytesLemmas
 pub mod GoesLemmas
+pub mod InterruptedLemmas
 pub mod ReachableLemmas

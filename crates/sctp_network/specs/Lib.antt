@@ -1,3 +1,4 @@
+pub mod Interrupted
 pub mod WorldView
 pub use Rattle.spec_world.specs.Observations
 pub use Rattle.spec_world.specs.World

@@ -1,11 +1,11 @@
 //! Two ends and all packets between them.
 
-ghost use Rattle.std.specs.Prelude.{◌≡◌, List, ℕ, true, false, Some, None, [], ◌∷◌, drop, length, map, option_map, slice_get, IfOk, IfErr, OnOk, Ok, Err};
+ghost use Rattle.std.specs.Prelude.{◌≡◌, List, ℕ, true, false, Some, None, [], ◌∷◌, drop, length, map, option_map, slice_get, IfOk, IfErr, OnOk, OnErr, Ok, Err};
 ghost use Rattle.sctp_packet.specs.Grammar.{Each};
 ghost use Rattle.sctp_state.specs.Options.{IsValid, options_of};
 ghost use Rattle.sctp_network.specs.declared.world.WorldError.TheVariants.{Memory as no_memory};
 ghost use Rattle.spec_endpoint.specs.Wire.{AreBytes};
-ghost use Rattle.spec_world.specs.World.{MeetsForeign, Happens, Runs, IsDisabled, RunsUpToDisabled, RunsUpToEnabled, Action, fresh_world, side_of, is_at_rest, TakesBytes, clock};
+ghost use Rattle.spec_world.specs.World.{MeetsForeign, Happens, Runs, IsDisabled, RunsUpToDisabled, Action, fresh_world, side_of, is_at_rest, TakesBytes, clock};
 ghost use Rattle.proof_world.specs.FirstRun.{LeadsFirstRun, ContinuesFirstRun};
 ghost use Rattle.spec_world.specs.Observations as observed;
 ghost use Rattle.spec_world.specs.Observations.{Given};
@@ -16,8 +16,10 @@ ghost use Rattle.proof_world.specs.Consistent.{WorldKeepsRules};
 ghost use Rattle.proof_world.specs.Delivered.{WorldDelivers};
 ghost use Rattle.proof_world.specs.Few.{LogUsesFew};
 ghost use Rattle.proof_world.specs.Reachable.{Origin, origin, initial_world, IsReachable, Continues};
-ghost use Rattle.proof_awake.specs.Worlds.{EndsAreAwake};
+ghost use Rattle.proof_awake.specs.Worlds.{EndsAreAwake, EndsHaveNoLine};
+ghost use Rattle.sctp_network_side.specs.Interrupted.{StopsWithin, TakesBytesSo};
 ghost use Rattle.sctp_network_side.specs.SideView.{action_of, end_tree, entry_tree, side_in};
+ghost use Rattle.sctp_network.specs.Interrupted.{IsMadeBy, RunsUpToFailure};
 ghost use Rattle.sctp_network.specs.WorldView.{world_of};
 
 mod pair;
@@ -134,6 +136,8 @@ impl<R: Rng + Drop, C: Checksum + Drop> World<R, C> {
             let first = fresh_world (options_of options_a.now) (options_of options_b.now) (R.stream rng_a) (R.stream rng_b) (C.word_of checksum_a) (C.word_of checksum_b) in
             let last = world_of R.stream C.word_of w in (runs : Runs (map action_of events.now) first last)
             × (EachEndDrawsDistinctTags (map action_of events.now) first last runs → WorldAgrees last.log)) }
+        ensures awake { IfOk result (λ w. EndsAreAwake (world_of R.stream C.word_of w)) }
+        ensures no_line { IfOk result (λ w. EndsHaveNoLine (options_of options_a.now).max_burst (options_of options_b.now).max_burst (world_of R.stream C.word_of w)) }
         ensures works { IfOk result (λ w. w.has_failed ≡ false) }
         ensures stopped { IfErr result (λ e. e ≡ WorldError.NoSuchPacket → (v : table.World) × RunsUpToDisabled (map action_of events.now)
             (fresh_world (options_of options_a.now) (options_of options_b.now) (R.stream rng_a) (R.stream rng_b) (C.word_of checksum_a) (C.word_of checksum_b)) v) }
@@ -246,6 +250,7 @@ impl<R: Rng, C: Checksum> World<R, C> {
         ensures no_such_packet { self.old.has_failed ≡ false → IsDisabled (action_of event.now) (world_of R.stream C.word_of self.old) → result ≡ Err WorldError.NoSuchPacket }
         ensures same { IfErr result (λ e. e ≡ WorldError.NoSuchPacket → self.new ≡ self.old) }
         ensures unfailed { IfErr result (λ e. e ≡ WorldError.NoSuchPacket → self.new.has_failed ≡ false) }
+        ensures cut { OnErr result (StopsWithin (IsMadeBy (action_of event.now) (world_of R.stream C.word_of self.old)) self.old.log self.new.log) }
         ensures memory { IfErr result (λ e. e ≡ WorldError.Memory → self.new.has_failed ≡ true) }
         ensures failed { self.old.has_failed ≡ true → result ≡ Err WorldError.Memory }
     {
@@ -264,6 +269,7 @@ impl<R: Rng, C: Checksum> World<R, C> {
         ensures disabled { IfErr result (λ e. e ≡ WorldError.NoSuchPacket → IsDisabled (action_of event.now) (world_of R.stream C.word_of self.old)) }
         ensures no_such_packet { IsDisabled (action_of event.now) (world_of R.stream C.word_of self.old) → result ≡ Err WorldError.NoSuchPacket }
         ensures same { IfErr result (λ e. e ≡ WorldError.NoSuchPacket → self.new ≡ self.old) }
+        ensures cut { OnErr result (StopsWithin (IsMadeBy (action_of event.now) (world_of R.stream C.word_of self.old)) self.old.log self.new.log) }
         ensures failed { self.new.has_failed ≡ self.old.has_failed }
     {
         match event {
@@ -308,6 +314,7 @@ impl<R: Rng, C: Checksum> World<R, C> {
     /// Bytes from elsewhere come to an end.
     fn inject(&mut self, end: End, bytes: &[u8]) -> Result<(), CallError>
         ensures ok { OnOk result (MeetsForeign (end_tree end) bytes.now (world_of R.stream C.word_of self.old) (world_of R.stream C.word_of self.new)) }
+        ensures cut { OnErr result (StopsWithin (IsMadeBy (table.GiveForeign (end_tree end) bytes.now) (world_of R.stream C.word_of self.old)) self.old.log self.new.log) }
         ensures failed { self.new.has_failed ≡ self.old.has_failed }
     {
         match end {
@@ -323,7 +330,7 @@ impl<R: Rng, C: Checksum> World<R, C> {
             → RunsUpToDisabled (map action_of events.now) (world_of R.stream C.word_of self.old) (world_of R.stream C.word_of self.new)) }
         ensures unfailed { IfErr result (λ e. e ≡ WorldError.NoSuchPacket → self.new.has_failed ≡ false) }
         ensures interrupted { IfErr result (λ e. e ≡ WorldError.Memory → self.old.has_failed ≡ false
-            → RunsUpToEnabled (map action_of events.now) (world_of R.stream C.word_of self.old)) }
+            → RunsUpToFailure (map action_of events.now) (world_of R.stream C.word_of self.old) self.new.log) }
         ensures memory { IfErr result (λ e. e ≡ WorldError.Memory → self.new.has_failed ≡ true) }
         ensures failed { self.old.has_failed ≡ true → result ≡ Err WorldError.Memory }
     {
@@ -340,7 +347,7 @@ impl<R: Rng, C: Checksum> World<R, C> {
         ensures works { self.old.has_failed ≡ false → OnOk result (self.new.has_failed ≡ false) }
         ensures unfailed { IfErr result (λ e. e ≡ WorldError.NoSuchPacket → self.new.has_failed ≡ false) }
         ensures interrupted { IfErr result (λ e. e ≡ WorldError.Memory → self.old.has_failed ≡ false
-            → RunsUpToEnabled (map action_of events.now) (world_of R.stream C.word_of self.old)) }
+            → RunsUpToFailure (map action_of events.now) (world_of R.stream C.word_of self.old) self.new.log) }
         ensures memory { IfErr result (λ e. e ≡ WorldError.Memory → self.new.has_failed ≡ true) }
     {
         for event in events {
@@ -359,6 +366,7 @@ pub fn step<R: Rng, C: Checksum>(world: &mut World<R, C>, event: &Event) -> Resu
     ensures no_such_packet { world.old.has_failed ≡ false → IsDisabled (action_of event.now) (world_of R.stream C.word_of world.old) → result ≡ Err WorldError.NoSuchPacket }
     ensures same { IfErr result (λ e. e ≡ WorldError.NoSuchPacket → world.new ≡ world.old) }
     ensures unfailed { IfErr result (λ e. e ≡ WorldError.NoSuchPacket → world.new.has_failed ≡ false) }
+    ensures interrupted { OnErr result (StopsWithin (IsMadeBy (action_of event.now) (world_of R.stream C.word_of world.old)) world.old.log world.new.log) }
     ensures memory { IfErr result (λ e. e ≡ WorldError.Memory → world.new.has_failed ≡ true) }
     ensures failed { world.old.has_failed ≡ true → result ≡ Err WorldError.Memory }
     ensures first_run { OnOk result (LeadsFirstRun (action_of event.now ∷ []) (world_of R.stream C.word_of world.old) (world_of R.stream C.word_of world.new)) }
@@ -368,6 +376,8 @@ pub fn step<R: Rng, C: Checksum>(world: &mut World<R, C>, event: &Event) -> Resu
     ensures agrees { (o : Origin) (actions : List Action) (l : IsReachable o actions (world_of R.stream C.word_of world.new))
         → EachEndDrawsDistinctTags actions (initial_world o) (world_of R.stream C.word_of world.new) l.runs → WorldAgrees (world_of R.stream C.word_of world.new).log }
     ensures awake { (o : Origin) (actions : List Action) → IsReachable o actions (world_of R.stream C.word_of world.new) → EndsAreAwake (world_of R.stream C.word_of world.new) }
+    ensures no_line { (o : Origin) (actions : List Action) → IsReachable o actions (world_of R.stream C.word_of world.new)
+        → EndsHaveNoLine o.a.max_burst o.b.max_burst (world_of R.stream C.word_of world.new) }
 {
     let a = world.sent(End::A);
     let b = world.sent(End::B);
@@ -386,7 +396,7 @@ pub fn run<R: Rng, C: Checksum>(world: &mut World<R, C>, events: &[Event]) -> Re
         → RunsUpToDisabled (map action_of events.now) (world_of R.stream C.word_of world.old) (world_of R.stream C.word_of world.new)) }
     ensures unfailed { IfErr result (λ e. e ≡ WorldError.NoSuchPacket → world.new.has_failed ≡ false) }
     ensures interrupted { IfErr result (λ e. e ≡ WorldError.Memory → world.old.has_failed ≡ false
-        → RunsUpToEnabled (map action_of events.now) (world_of R.stream C.word_of world.old)) }
+        → RunsUpToFailure (map action_of events.now) (world_of R.stream C.word_of world.old) world.new.log) }
     ensures memory { IfErr result (λ e. e ≡ WorldError.Memory → world.new.has_failed ≡ true) }
     ensures failed { world.old.has_failed ≡ true → result ≡ Err WorldError.Memory }
     ensures first_run { OnOk result (LeadsFirstRun (map action_of events.now) (world_of R.stream C.word_of world.old) (world_of R.stream C.word_of world.new)) }
@@ -399,6 +409,8 @@ pub fn run<R: Rng, C: Checksum>(world: &mut World<R, C>, events: &[Event]) -> Re
     ensures agrees { (o : Origin) (actions : List Action) (l : IsReachable o actions (world_of R.stream C.word_of world.new))
         → EachEndDrawsDistinctTags actions (initial_world o) (world_of R.stream C.word_of world.new) l.runs → WorldAgrees (world_of R.stream C.word_of world.new).log }
     ensures awake { (o : Origin) (actions : List Action) → IsReachable o actions (world_of R.stream C.word_of world.new) → EndsAreAwake (world_of R.stream C.word_of world.new) }
+    ensures no_line { (o : Origin) (actions : List Action) → IsReachable o actions (world_of R.stream C.word_of world.new)
+        → EndsHaveNoLine o.a.max_burst o.b.max_burst (world_of R.stream C.word_of world.new) }
 {
     let a = world.sent(End::A);
     let b = world.sent(End::B);
@@ -422,6 +434,9 @@ fn give<R: Rng, C: Checksum>(
         × TakesBytes (end_tree end) (Given (end_tree end) (clock (side_in R.stream C.word_of to.old).socket) number) bytes (side_in R.stream C.word_of to.old) (side_in R.stream C.word_of to.new) (map entry_tree log.old.items) (map entry_tree log.new.items)) }
     ensures disabled { IfErr result (λ e. e ≡ WorldError.NoSuchPacket → slice_get from.now.packets number ≡ None) }
     ensures no_such_packet { slice_get from.now.packets number ≡ None → result ≡ Err WorldError.NoSuchPacket }
+    ensures cut { OnErr result (StopsWithin (λ longer. (bytes : List ℕ) × (slice_get from.now.packets number ≡ Some bytes)
+        × TakesBytesSo (end_tree end) (Given (end_tree end) (clock (side_in R.stream C.word_of to.old).socket) number) bytes
+        (side_in R.stream C.word_of to.old) (map entry_tree log.old.items) longer) (map entry_tree log.old.items) (map entry_tree log.new.items)) }
     ensures side { IfErr result (λ e. e ≡ WorldError.NoSuchPacket → to.new ≡ to.old) }
     ensures log { IfErr result (λ e. e ≡ WorldError.NoSuchPacket → log.new ≡ log.old) }
 {

@@ -1,10 +1,11 @@
 //! ABORT and ERROR, and the ABORT that a chunk is answered with that was not negotiated (RFC 9260 section 9.1).
 
-ghost use Rattle.std.specs.Prelude.{◌≡◌, map, IfOk, OnOk, string_bytes};
+ghost use Rattle.std.specs.Prelude.{◌≡◌, map, IfOk, OnErr, OnOk, string_bytes};
 ghost use Rattle.sctp_error_cause.specs.CauseViews.{cause_tree};
 ghost use Rattle.sctp_state.specs.Events.{OnAborted};
 ghost use Rattle.spec_endpoint.specs.Association.{where_open};
 ghost use Rattle.spec_endpoint.specs.Packets.{emit_error};
+ghost use Rattle.sctp_endpoint.specs.GoesOn.{GoesOn};
 ghost use Rattle.sctp_endpoint.specs.Views.{context_of, endpoint_state_of, tcb_of};
 ghost use Rattle.sctp_supervision.specs.MisuseView.{misuse_text};
 ghost use Rattle.spec_endpoint.specs.Shutdown as closing;
@@ -33,35 +34,41 @@ fn causes_text(alloc: Global, causes: &[ErrorCause]) -> Result<String, AllocErro
 }
 
 /// The association is emitted as aborted by the peer.
+#[tactic(auto, using(sctp_endpoint::proofs::GoesOnLemmas::goes_on_same, sctp_endpoint::proofs::GoesOnLemmas::goes_on_through))]
 fn emit_abort<C: Checksum>(
     context: &mut Context<C>,
     causes: &[ErrorCause],
 ) -> Result<(), AllocError>
-    ensures { OnOk result (context_of C.word_of context.new ≡ closing.over (OnAborted ErrorKind.PeerReported (closing.causes_text (map cause_tree causes.now))) (context_of C.word_of context.old)) }
+    ensures ok { OnOk result (context_of C.word_of context.new ≡ closing.over (OnAborted ErrorKind.PeerReported (closing.causes_text (map cause_tree causes.now))) (context_of C.word_of context.old)) }
+    ensures goes_on { GoesOn context.old context.new }
 {
     let text = causes_text(context.alloc, causes)?;
     context.internal_close(SocketEvent::OnAborted(ErrorKind::PeerReported, text))
 }
 
 /// An error that the peer reports.
+#[tactic(auto, using(sctp_endpoint::proofs::GoesOnLemmas::goes_on_same, sctp_endpoint::proofs::GoesOnLemmas::goes_on_through))]
 fn emit_error<C: Checksum>(
     context: &mut Context<C>,
     causes: &[ErrorCause],
 ) -> Result<(), AllocError>
-    ensures { OnOk result (context_of C.word_of context.new ≡ emit_error ErrorKind.PeerReported (closing.causes_text (map cause_tree causes.now)) (context_of C.word_of context.old)) }
+    ensures ok { OnOk result (context_of C.word_of context.new ≡ emit_error ErrorKind.PeerReported (closing.causes_text (map cause_tree causes.now)) (context_of C.word_of context.old)) }
+    ensures goes_on { GoesOn context.old context.new }
 {
     let text = causes_text(context.alloc, causes)?;
     context.emit_event(SocketEvent::OnError(ErrorKind::PeerReported, text))
 }
 
 /// An ABORT goes out, since what was negotiated forbids a chunk.
+#[tactic(auto, using(sctp_endpoint::proofs::GoesOnLemmas::goes_on_same, sctp_endpoint::proofs::GoesOnLemmas::goes_on_through))]
 fn abort_by_violation<C: Checksum>(
     context: &mut Context<C>,
     tcb: &TransmissionControlBlock,
     misuse: Misuse,
 ) -> Result<(), AllocError>
-    ensures { OnOk result (context_of C.word_of context.new
+    ensures ok { OnOk result (context_of C.word_of context.new
         ≡ (closing.abort_for_violation (misuse_text misuse) (tcb_of tcb.now) (context_of C.word_of context.old)).context) }
+    ensures goes_on { GoesOn context.old context.new }
 {
     let information = String::from_str(context.alloc, misuse.text())?;
     let cause = ErrorCause::ProtocolViolation(ProtocolViolationErrorCause { information });
@@ -70,12 +77,15 @@ fn abort_by_violation<C: Checksum>(
 }
 
 /// ABORT: the association ends at once, and nothing answers it (RFC 9260 section 9.1).
+#[tactic(auto, using(sctp_endpoint::proofs::GoesOnLemmas::goes_on_same, sctp_endpoint::proofs::GoesOnLemmas::goes_on_through))]
 pub fn handle_abort<C: Checksum>(
     state: &mut State,
     context: &mut Context<C>,
     causes: &[ErrorCause],
 ) -> Result<(), AllocError>
-    ensures { OnOk result (endpoint_state_of C.word_of state.new context.new ≡ where_open (closing.on_abort (map cause_tree causes.now)) (endpoint_state_of C.word_of state.old context.old)) }
+    ensures ok { OnOk result (endpoint_state_of C.word_of state.new context.new ≡ where_open (closing.on_abort (map cause_tree causes.now)) (endpoint_state_of C.word_of state.old context.old)) }
+    ensures goes_on { GoesOn context.old context.new }
+    ensures err { OnErr result (state.new ≡ state.old) }
 {
     match state {
         State::Closed | State::CookieWait(_) => Ok(()),
@@ -88,12 +98,14 @@ pub fn handle_abort<C: Checksum>(
 }
 
 /// ERROR.
+#[tactic(auto, using(sctp_endpoint::proofs::GoesOnLemmas::goes_on_same, sctp_endpoint::proofs::GoesOnLemmas::goes_on_through))]
 pub fn handle_error<C: Checksum>(
     state: &State,
     context: &mut Context<C>,
     causes: &[ErrorCause],
 ) -> Result<(), AllocError>
-    ensures { OnOk result (endpoint_state_of C.word_of state.now context.new ≡ where_open (closing.on_error (map cause_tree causes.now)) (endpoint_state_of C.word_of state.now context.old)) }
+    ensures ok { OnOk result (endpoint_state_of C.word_of state.now context.new ≡ where_open (closing.on_error (map cause_tree causes.now)) (endpoint_state_of C.word_of state.now context.old)) }
+    ensures goes_on { GoesOn context.old context.new }
 {
     match state {
         State::Closed | State::CookieWait(_) => Ok(()),
@@ -102,12 +114,15 @@ pub fn handle_error<C: Checksum>(
 }
 
 /// A chunk that what was negotiated forbids ends the association.
+#[tactic(auto, using(sctp_endpoint::proofs::GoesOnLemmas::goes_on_same, sctp_endpoint::proofs::GoesOnLemmas::goes_on_through))]
 pub fn handle_misuse<C: Checksum>(
     state: &mut State,
     context: &mut Context<C>,
     misuse: Misuse,
 ) -> Result<(), AllocError>
-    ensures { OnOk result (endpoint_state_of C.word_of state.new context.new ≡ table.abort_for_violation_in (misuse_text misuse) (endpoint_state_of C.word_of state.old context.old)) }
+    ensures ok { OnOk result (endpoint_state_of C.word_of state.new context.new ≡ table.abort_for_violation_in (misuse_text misuse) (endpoint_state_of C.word_of state.old context.old)) }
+    ensures goes_on { GoesOn context.old context.new }
+    ensures err { OnErr result (state.new ≡ state.old) }
 {
     match state {
         State::Closed | State::CookieWait(_) => Ok(()),

@@ -5,6 +5,7 @@ ghost use Rattle.std.specs.Option.{option_map};
 ghost use Rattle.sctp_packet.specs.ChunkView.{chunk_tree};
 ghost use Rattle.sctp_parameter.specs.ParameterViews.{parameter_tree};
 ghost use Rattle.sctp_state.specs.Timer.{is_due};
+ghost use Rattle.sctp_endpoint.specs.GoesOn.{GoesOn};
 ghost use Rattle.sctp_endpoint.specs.Views.{context_of, tcb_of};
 ghost use Rattle.spec_endpoint.specs.Heartbeats as table;
 
@@ -39,23 +40,27 @@ fn info_in(parameters: &[Parameter]) -> Option<&[u8]>
 }
 
 /// A HEARTBEAT with the next number goes out.
+#[tactic(auto, using(sctp_endpoint::proofs::GoesOnLemmas::goes_on_same, sctp_endpoint::proofs::GoesOnLemmas::goes_on_through))]
 fn send_heartbeat<C: Checksum>(
     context: &mut Context<C>,
     tcb: &TransmissionControlBlock,
 ) -> Result<(), AllocError>
-    ensures { OnOk result (context_of C.word_of context.new ≡ table.emit_heartbeat (tcb_of tcb.now) (context_of C.word_of context.old)) }
+    ensures ok { OnOk result (context_of C.word_of context.new ≡ table.emit_heartbeat (tcb_of tcb.now) (context_of C.word_of context.old)) }
+    ensures goes_on { GoesOn context.old context.new }
 {
     let chunk = make_heartbeat(context.alloc, context.heartbeat_counter)?;
     context.emit_chunk(tcb, chunk)
 }
 
 /// At the interval a HEARTBEAT goes out. The answer is whether the time has come.
+#[tactic(auto, using(sctp_endpoint::proofs::GoesOnLemmas::goes_on_same, sctp_endpoint::proofs::GoesOnLemmas::goes_on_through, sctp_endpoint::proofs::GoesOnLemmas::goes_on_as))]
 pub fn tick_heartbeat_interval<C: Checksum>(
     context: &mut Context<C>,
     tcb: &TransmissionControlBlock,
 ) -> Result<bool, AllocError>
     ensures due { IfOk result (λ due. due ≡ is_due context.old.clock context.old.heartbeats.interval) }
     ensures context { IfOk result (λ due. context_of C.word_of context.new ≡ table.send_heartbeat_if due (tcb_of tcb.now) (context_of C.word_of context.old)) }
+    ensures goes_on { GoesOn context.old context.new }
 {
     if !context.heartbeat_interval.expire(context.clock) {
         return Ok(false);
@@ -67,9 +72,11 @@ pub fn tick_heartbeat_interval<C: Checksum>(
 }
 
 /// A HEARTBEAT ACK that doesn't come in time counts as an error (RFC 9260 section 8.3). The answer is whether that time is over.
+#[tactic(auto, using(sctp_endpoint::proofs::GoesOnLemmas::goes_on_same, sctp_endpoint::proofs::GoesOnLemmas::goes_on_through, sctp_endpoint::proofs::GoesOnLemmas::goes_on_as))]
 pub fn tick_heartbeat_timeout<C: Checksum>(context: &mut Context<C>) -> bool
     ensures due { result ≡ is_due context.old.clock context.old.heartbeats.timeout }
     ensures context { context_of C.word_of context.new ≡ table.heartbeat_timeout_if result (context_of C.word_of context.old) }
+    ensures goes_on { GoesOn context.old context.new }
 {
     if !context.heartbeat_timeout.expire(context.clock) {
         return false;
@@ -87,11 +94,13 @@ pub fn heartbeat_expiry<C: Checksum>(context: &Context<C>) -> SocketTime
 }
 
 /// HEARTBEAT ACK: an answer to the last HEARTBEAT shows that the peer is there, and its errors are forgotten (RFC 9260 section 8.3).
+#[tactic(auto, using(sctp_endpoint::proofs::GoesOnLemmas::goes_on_same, sctp_endpoint::proofs::GoesOnLemmas::goes_on_through))]
 pub fn handle_heartbeat_ack<C: Checksum>(
     context: &mut Context<C>,
     parameters: &[Parameter],
 ) -> Result<(), AllocError>
-    ensures { OnOk result (context_of C.word_of context.new ≡ table.on_heartbeat_ack (map parameter_tree parameters.now) (context_of C.word_of context.old)) }
+    ensures ok { OnOk result (context_of C.word_of context.new ≡ table.on_heartbeat_ack (map parameter_tree parameters.now) (context_of C.word_of context.old)) }
+    ensures goes_on { GoesOn context.old context.new }
 {
     match info_in(parameters) {
         Some(info) => take_heartbeat_info(context, info),
@@ -99,8 +108,10 @@ pub fn handle_heartbeat_ack<C: Checksum>(
     }
 }
 
+#[tactic(auto, using(sctp_endpoint::proofs::GoesOnLemmas::goes_on_same, sctp_endpoint::proofs::GoesOnLemmas::goes_on_through, sctp_endpoint::proofs::GoesOnLemmas::goes_on_as))]
 fn take_heartbeat_info<C: Checksum>(context: &mut Context<C>, info: &[u8]) -> Result<(), AllocError>
-    ensures { OnOk result (context_of C.word_of context.new ≡ table.on_heartbeat_info (Some info.now) (context_of C.word_of context.old)) }
+    ensures ok { OnOk result (context_of C.word_of context.new ≡ table.on_heartbeat_info (Some info.now) (context_of C.word_of context.old)) }
+    ensures goes_on { GoesOn context.old context.new }
 {
     if info.len() != 4 {
         return emit_heartbeat_info_error(context);
@@ -112,8 +123,10 @@ fn take_heartbeat_info<C: Checksum>(context: &mut Context<C>, info: &[u8]) -> Re
     Ok(())
 }
 
+#[tactic(auto, using(sctp_endpoint::proofs::GoesOnLemmas::goes_on_same, sctp_endpoint::proofs::GoesOnLemmas::goes_on_through))]
 fn emit_heartbeat_info_error<C: Checksum>(context: &mut Context<C>) -> Result<(), AllocError>
-    ensures { OnOk result (context_of C.word_of context.new ≡ table.no_info (context_of C.word_of context.old)) }
+    ensures ok { OnOk result (context_of C.word_of context.new ≡ table.no_info (context_of C.word_of context.old)) }
+    ensures goes_on { GoesOn context.old context.new }
 {
     context.emit_error(
         ErrorKind::ParseFailed,

@@ -7,6 +7,7 @@ ghost use Rattle.sctp_control_chunk.specs.Views.{unknown_tree};
 ghost use Rattle.sctp_wire.specs.Item.{item_bytes};
 ghost use Rattle.sctp_packet.specs.Written.{chunk_item};
 ghost use Rattle.sctp_capabilities.specs.Capabilities.{capabilities_of};
+ghost use Rattle.sctp_endpoint.specs.GoesOn.{GoesOn};
 ghost use Rattle.sctp_endpoint.specs.Views.{context_of, endpoint_state_of, state_of, tcb_of};
 ghost use Rattle.sctp_supervision.specs.MisuseView.{data_misused, misuse_text};
 ghost use Rattle.spec_endpoint.specs.Packets.{emit_chunk};
@@ -134,13 +135,15 @@ fn first_bytes(alloc: Global, chunk: &UnknownChunk, most: usize) -> Result<Vec<u
 }
 
 /// An ERROR with as much of an unknown chunk as a packet holds.
+#[tactic(auto, using(sctp_endpoint::proofs::GoesOnLemmas::goes_on_same, sctp_endpoint::proofs::GoesOnLemmas::goes_on_through))]
 fn report_unrecognized<C: Checksum>(
     context: &mut Context<C>,
     tcb: &TransmissionControlBlock,
     chunk: &UnknownChunk,
 ) -> Result<(), AllocError>
-    ensures { let u = chunk.now in OnOk result (context_of C.word_of context.new
+    ensures ok { let u = chunk.now in OnOk result (context_of C.word_of context.new
         ≡ emit_chunk (table.unrecognized_chunk_error context.old.options.mtu u.typ u.flags u.value.items) (tcb_of tcb.now) (context_of C.word_of context.old)) }
+    ensures goes_on { GoesOn context.old context.new }
 {
     let most = (context.options.mtu / 4 * 4).saturating_sub(20);
     let chunk = first_bytes(context.alloc, chunk, most)?;
@@ -149,11 +152,13 @@ fn report_unrecognized<C: Checksum>(
     context.emit_chunk(tcb, Chunk::Error(ErrorChunk { error_causes }))
 }
 
+#[tactic(auto, using(sctp_endpoint::proofs::GoesOnLemmas::goes_on_same, sctp_endpoint::proofs::GoesOnLemmas::goes_on_through))]
 fn emit_unknown_chunk_error<C: Checksum>(
     context: &mut Context<C>,
     chunk: &UnknownChunk,
 ) -> Result<(), AllocError>
-    ensures { let u = chunk.now in OnOk result (context_of C.word_of context.new ≡ table.emit_unknown_chunk_error u.typ u.flags u.value.items (context_of C.word_of context.old)) }
+    ensures ok { let u = chunk.now in OnOk result (context_of C.word_of context.new ≡ table.emit_unknown_chunk_error u.typ u.flags u.value.items (context_of C.word_of context.old)) }
+    ensures goes_on { GoesOn context.old context.new }
 {
     let text = unknown_text(context.alloc, chunk)?;
     context.emit_event(SocketEvent::OnError(ErrorKind::ParseFailed, text))
@@ -167,13 +172,15 @@ fn unknown_text(alloc: Global, chunk: &UnknownChunk) -> Result<String, AllocErro
 }
 
 /// A chunk of unknown type. Where its type says so, it is reported to the user and the peer.
+#[tactic(auto, using(sctp_endpoint::proofs::GoesOnLemmas::goes_on_same, sctp_endpoint::proofs::GoesOnLemmas::goes_on_through))]
 pub fn handle_unknown<C: Checksum>(
     state: &State,
     context: &mut Context<C>,
     chunk: &UnknownChunk,
 ) -> Result<(), AllocError>
-    ensures { let u = chunk.now in OnOk result (endpoint_state_of C.word_of state.now context.new
+    ensures ok { let u = chunk.now in OnOk result (endpoint_state_of C.word_of state.now context.new
         ≡ table.on_unknown u.typ u.flags u.value.items (endpoint_state_of C.word_of state.now context.old)) }
+    ensures goes_on { GoesOn context.old context.new }
 {
     if !is_reported(chunk.typ) {
         return Ok(());

@@ -1,8 +1,11 @@
 //! Time: which timers a state looks at, and what their expiries lead to.
 
-ghost use Rattle.std.specs.Prelude.{◌≡◌, cond, IfOk, OnOk};
+ghost use Rattle.std.specs.Prelude.{◌≡◌, cond, IfOk, OnErr, OnOk};
+ghost use Rattle.sctp_endpoint.specs.GoesOn.{GoesOn};
 ghost use Rattle.sctp_endpoint.specs.Views.{context_of, timer_outcome_of, phase_of, endpoint_state_after, endpoint_state_of, state_of, tcb_of, ticking_of, init_outcome_of};
 ghost use Rattle.sctp_state.specs.Timer.{expire};
+ghost use Rattle.spec_endpoint.specs.Calls.{ready_in};
+ghost use Rattle.spec_endpoint.specs.Shown.{association_in};
 ghost use Rattle.spec_endpoint.specs.Shutdown.{send_shutdown, send_shutdown_ack};
 ghost use Rattle.spec_endpoint.specs.Timers as table;
 
@@ -18,19 +21,25 @@ use std::alloc::AllocError;
 
 /// The delay of an acknowledgement (RFC 9260 section 6.2). The answer is whether it expired.
 fn tick_ack<C: Checksum>(context: &Context<C>, tcb: &mut TransmissionControlBlock) -> bool
-    ensures { ticking_of C.word_of tcb.new context.now result ≡ table.tick_ack (table.ticking (tcb_of tcb.old) (context_of C.word_of context.now)) }
+    ensures ok { ticking_of C.word_of tcb.new context.now result ≡ table.tick_ack (table.ticking (tcb_of tcb.old) (context_of C.word_of context.now)) }
+    ensures received { tcb.new.reassembly_queue ≡ tcb.old.reassembly_queue }
+    ensures identity { tcb.new.identity ≡ tcb.old.identity }
 {
     tcb.data_tracker.handle_timeout(context.clock)
 }
 
 /// T3-rtx (RFC 9260 section 6.3.3), after the other one has expired or not: an expiry is an error of the peer (section 8.1). The
 /// answer is whether any did.
+#[tactic(auto, using(sctp_endpoint::proofs::GoesOnLemmas::goes_on_same, sctp_endpoint::proofs::GoesOnLemmas::goes_on_through, sctp_endpoint::proofs::GoesOnLemmas::goes_on_as))]
 fn tick_t3<C: Checksum>(
     context: &mut Context<C>,
     tcb: &mut TransmissionControlBlock,
     has_expired: bool,
 ) -> Result<bool, AllocError>
-    ensures { IfOk result (λ any. ticking_of C.word_of tcb.new context.new any ≡ table.tick_t3 (ticking_of C.word_of tcb.old context.old has_expired)) }
+    ensures ok { IfOk result (λ any. ticking_of C.word_of tcb.new context.new any ≡ table.tick_t3 (ticking_of C.word_of tcb.old context.old has_expired)) }
+    ensures goes_on { GoesOn context.old context.new }
+    ensures received { tcb.new.reassembly_queue ≡ tcb.old.reassembly_queue }
+    ensures identity { tcb.new.identity ≡ tcb.old.identity }
 {
     if tcb
         .retransmission_queue
@@ -43,12 +52,15 @@ fn tick_t3<C: Checksum>(
 }
 
 /// The timers of a control block, and those of heartbeats, one after the other. The answer is whether any expired.
-#[tactic(auto, unfolding(spec_endpoint::specs::Timers::tick_timers))]
+#[tactic(auto, using(sctp_endpoint::proofs::GoesOnLemmas::goes_on_same, sctp_endpoint::proofs::GoesOnLemmas::goes_on_through), unfolding(spec_endpoint::specs::Timers::tick_timers))]
 fn tick_tcb<C: Checksum>(
     context: &mut Context<C>,
     tcb: &mut TransmissionControlBlock,
 ) -> Result<bool, AllocError>
-    ensures { IfOk result (λ any. ticking_of C.word_of tcb.new context.new any ≡ table.tick_timers (tcb_of tcb.old) (context_of C.word_of context.old)) }
+    ensures ok { IfOk result (λ any. ticking_of C.word_of tcb.new context.new any ≡ table.tick_timers (tcb_of tcb.old) (context_of C.word_of context.old)) }
+    ensures goes_on { GoesOn context.old context.new }
+    ensures received { tcb.new.reassembly_queue ≡ tcb.old.reassembly_queue }
+    ensures identity { tcb.new.identity ≡ tcb.old.identity }
 {
     let has_expired = tick_ack(context, tcb);
     let has_expired = tick_t3(context, tcb, has_expired)?;
@@ -58,11 +70,13 @@ fn tick_tcb<C: Checksum>(
 }
 
 /// Too many errors end the association (RFC 9260 section 8.1). The answer is whether it ended.
+#[tactic(auto, using(sctp_endpoint::proofs::GoesOnLemmas::goes_on_same, sctp_endpoint::proofs::GoesOnLemmas::goes_on_through))]
 fn end_if_exhausted<C: Checksum>(
     context: &mut Context<C>,
     tcb: &TransmissionControlBlock,
 ) -> Result<bool, AllocError>
-    ensures { IfOk result (λ ended. timer_outcome_of C.word_of tcb.now context.new ended ≡ table.abort_if_exhausted (tcb_of tcb.now) (context_of C.word_of context.old)) }
+    ensures ok { IfOk result (λ ended. timer_outcome_of C.word_of tcb.now context.new ended ≡ table.abort_if_exhausted (tcb_of tcb.now) (context_of C.word_of context.old)) }
+    ensures goes_on { GoesOn context.old context.new }
 {
     if context.tx_error_counter.is_exhausted() {
         context.abort_by_retransmissions(tcb)?;
@@ -72,11 +86,15 @@ fn end_if_exhausted<C: Checksum>(
 }
 
 /// Too many errors end the association; else what may be sent goes out. The answer is whether it ended.
+#[tactic(auto, using(sctp_endpoint::proofs::GoesOnLemmas::goes_on_same, sctp_endpoint::proofs::GoesOnLemmas::goes_on_through))]
 fn abort_or_send<C: Checksum>(
     context: &mut Context<C>,
     tcb: &mut TransmissionControlBlock,
 ) -> Result<bool, AllocError>
-    ensures { IfOk result (λ ended. timer_outcome_of C.word_of tcb.new context.new ended ≡ table.abort_or_send (tcb_of tcb.old) (context_of C.word_of context.old)) }
+    ensures ok { IfOk result (λ ended. timer_outcome_of C.word_of tcb.new context.new ended ≡ table.abort_or_send (tcb_of tcb.old) (context_of C.word_of context.old)) }
+    ensures goes_on { GoesOn context.old context.new }
+    ensures received { tcb.new.reassembly_queue ≡ tcb.old.reassembly_queue }
+    ensures identity { tcb.new.identity ≡ tcb.old.identity }
 {
     if context.tx_error_counter.is_exhausted() {
         context.abort_by_retransmissions(tcb)?;
@@ -86,12 +104,16 @@ fn abort_or_send<C: Checksum>(
     Ok(false)
 }
 
+#[tactic(auto, using(sctp_endpoint::proofs::GoesOnLemmas::goes_on_same, sctp_endpoint::proofs::GoesOnLemmas::goes_on_through))]
 fn after_ticks<C: Checksum>(
     context: &mut Context<C>,
     tcb: &mut TransmissionControlBlock,
     has_expired: bool,
 ) -> Result<bool, AllocError>
-    ensures { IfOk result (λ ended. timer_outcome_of C.word_of tcb.new context.new ended ≡ table.after_ticks_if has_expired (tcb_of tcb.old) (context_of C.word_of context.old)) }
+    ensures ok { IfOk result (λ ended. timer_outcome_of C.word_of tcb.new context.new ended ≡ table.after_ticks_if has_expired (tcb_of tcb.old) (context_of C.word_of context.old)) }
+    ensures goes_on { GoesOn context.old context.new }
+    ensures received { tcb.new.reassembly_queue ≡ tcb.old.reassembly_queue }
+    ensures identity { tcb.new.identity ≡ tcb.old.identity }
 {
     if has_expired {
         abort_or_send(context, tcb)
@@ -101,17 +123,22 @@ fn after_ticks<C: Checksum>(
 }
 
 /// The timers of an association that is established or is being shut down, but for T2-shutdown.
+#[tactic(auto, using(sctp_endpoint::proofs::GoesOnLemmas::goes_on_same, sctp_endpoint::proofs::GoesOnLemmas::goes_on_through))]
 fn tick_established<C: Checksum>(
     context: &mut Context<C>,
     tcb: &mut TransmissionControlBlock,
 ) -> Result<bool, AllocError>
-    ensures { IfOk result (λ ended. timer_outcome_of C.word_of tcb.new context.new ended ≡ table.after_ticks (table.tick_timers (tcb_of tcb.old) (context_of C.word_of context.old))) }
+    ensures ok { IfOk result (λ ended. timer_outcome_of C.word_of tcb.new context.new ended ≡ table.after_ticks (table.tick_timers (tcb_of tcb.old) (context_of C.word_of context.old))) }
+    ensures goes_on { GoesOn context.old context.new }
+    ensures received { tcb.new.reassembly_queue ≡ tcb.old.reassembly_queue }
+    ensures identity { tcb.new.identity ≡ tcb.old.identity }
 {
     let has_expired = tick_tcb(context, tcb)?;
     after_ticks(context, tcb, has_expired)
 }
 
 /// Before the COOKIE ACK: the COOKIE ECHO goes out again (RFC 9260 section 5.1).
+#[tactic(auto, using(sctp_endpoint::proofs::GoesOnLemmas::goes_on_same, sctp_endpoint::proofs::GoesOnLemmas::goes_on_through))]
 fn tick_cookie_echoed<C: Checksum>(
     context: &mut Context<C>,
     echoed: &mut CookieEchoedState,
@@ -121,6 +148,9 @@ fn tick_cookie_echoed<C: Checksum>(
     ensures cookie { OnOk result (echoed.new.cookie.items ≡ echoed.old.cookie.items) }
     ensures left { IfOk result (λ ended. timer_outcome_of C.word_of tcb.new context.new ended
         ≡ table.tick_cookie echoed.old.t1_cookie echoed.old.cookie.items (table.tick_ack (table.ticking (tcb_of tcb.old) (context_of C.word_of context.old)))) }
+    ensures goes_on { GoesOn context.old context.new }
+    ensures received { tcb.new.reassembly_queue ≡ tcb.old.reassembly_queue }
+    ensures identity { tcb.new.identity ≡ tcb.old.identity }
 {
     let has_expired = tick_ack(context, tcb);
     if !echoed.t1_cookie.expire(context.clock) {
@@ -134,12 +164,14 @@ fn tick_cookie_echoed<C: Checksum>(
     end_if_exhausted(context, tcb)
 }
 
+#[tactic(auto, using(sctp_endpoint::proofs::GoesOnLemmas::goes_on_same, sctp_endpoint::proofs::GoesOnLemmas::goes_on_through))]
 fn end_if_expired<C: Checksum>(
     context: &mut Context<C>,
     tcb: &TransmissionControlBlock,
     has_expired: bool,
 ) -> Result<bool, AllocError>
-    ensures { IfOk result (λ ended. timer_outcome_of C.word_of tcb.now context.new ended ≡ table.waits_if has_expired (tcb_of tcb.now) (context_of C.word_of context.old)) }
+    ensures ok { IfOk result (λ ended. timer_outcome_of C.word_of tcb.now context.new ended ≡ table.waits_if has_expired (tcb_of tcb.now) (context_of C.word_of context.old)) }
+    ensures goes_on { GoesOn context.old context.new }
 {
     if has_expired {
         end_if_exhausted(context, tcb)
@@ -149,12 +181,14 @@ fn end_if_expired<C: Checksum>(
 }
 
 /// The SHUTDOWN, or the SHUTDOWN ACK, goes out again.
+#[tactic(auto, using(sctp_endpoint::proofs::GoesOnLemmas::goes_on_same, sctp_endpoint::proofs::GoesOnLemmas::goes_on_through))]
 fn send_again<C: Checksum>(
     context: &mut Context<C>,
     is_ack: bool,
     tcb: &TransmissionControlBlock,
 ) -> Result<(), AllocError>
-    ensures { OnOk result (context_of C.word_of context.new ≡ cond is_ack send_shutdown_ack send_shutdown (tcb_of tcb.now) (context_of C.word_of context.old)) }
+    ensures ok { OnOk result (context_of C.word_of context.new ≡ cond is_ack send_shutdown_ack send_shutdown (tcb_of tcb.now) (context_of C.word_of context.old)) }
+    ensures goes_on { GoesOn context.old context.new }
 {
     if is_ack {
         context.send_shutdown_ack(tcb)
@@ -164,6 +198,7 @@ fn send_again<C: Checksum>(
 }
 
 /// After the own SHUTDOWN, or the own SHUTDOWN ACK: T2-shutdown sends it again (RFC 9260 section 9.2).
+#[tactic(auto, using(sctp_endpoint::proofs::GoesOnLemmas::goes_on_same, sctp_endpoint::proofs::GoesOnLemmas::goes_on_through))]
 fn tick_shutdown<C: Checksum>(
     context: &mut Context<C>,
     is_ack: bool,
@@ -173,6 +208,9 @@ fn tick_shutdown<C: Checksum>(
     ensures timer { OnOk result (t2_shutdown.new ≡ expire context.old.clock t2_shutdown.old) }
     ensures left { IfOk result (λ ended. timer_outcome_of C.word_of tcb.new context.new ended
         ≡ table.tick_t2 context.old.clock (cond is_ack send_shutdown_ack send_shutdown) t2_shutdown.old (table.tick_timers (tcb_of tcb.old) (context_of C.word_of context.old))) }
+    ensures goes_on { GoesOn context.old context.new }
+    ensures received { tcb.new.reassembly_queue ≡ tcb.old.reassembly_queue }
+    ensures identity { tcb.new.identity ≡ tcb.old.identity }
 {
     let now = context.clock;
     let has_expired = tick_tcb(context, tcb)?;
@@ -187,13 +225,17 @@ fn tick_shutdown<C: Checksum>(
     abort_or_send(context, tcb)
 }
 
+#[tactic(auto, using(sctp_endpoint::proofs::GoesOnLemmas::goes_on_same, sctp_endpoint::proofs::GoesOnLemmas::goes_on_through))]
 fn tick_open<C: Checksum>(
     context: &mut Context<C>,
     phase: &mut Phase,
     tcb: &mut TransmissionControlBlock,
 ) -> Result<bool, AllocError>
-    ensures { IfOk result (λ ended. endpoint_state_after C.word_of phase.new tcb.new context.new ended
+    ensures ok { IfOk result (λ ended. endpoint_state_after C.word_of phase.new tcb.new context.new ended
         ≡ table.tick_open (phase_of phase.old) (tcb_of tcb.old) (context_of C.word_of context.old)) }
+    ensures goes_on { GoesOn context.old context.new }
+    ensures received { tcb.new.reassembly_queue ≡ tcb.old.reassembly_queue }
+    ensures identity { tcb.new.identity ≡ tcb.old.identity }
 {
     match phase {
         Phase::CookieEchoed(echoed) => tick_cookie_echoed(context, echoed, tcb),
@@ -205,6 +247,7 @@ fn tick_open<C: Checksum>(
 }
 
 /// Before the INIT ACK: the INIT goes out again (RFC 9260 section 5.1).
+#[tactic(auto, using(sctp_endpoint::proofs::GoesOnLemmas::goes_on_same, sctp_endpoint::proofs::GoesOnLemmas::goes_on_through))]
 fn tick_cookie_wait<C: Checksum>(
     context: &mut Context<C>,
     waiting: &mut CookieWaitState,
@@ -214,6 +257,7 @@ fn tick_cookie_wait<C: Checksum>(
     ensures timer { OnOk result (waiting.new.t1_init ≡ expire context.old.clock waiting.old.t1_init) }
     ensures waited { IfOk result (λ ended. init_outcome_of C.word_of context.new ended
         ≡ table.tick_init waiting.old.verification_tag waiting.old.initial_tsn.0 waiting.old.t1_init (context_of C.word_of context.old)) }
+    ensures goes_on { GoesOn context.old context.new }
 {
     if !waiting.t1_init.expire(context.clock) {
         return Ok(false);
@@ -227,11 +271,15 @@ fn tick_cookie_wait<C: Checksum>(
 }
 
 /// What has expired by now.
+#[tactic(auto, using(sctp_endpoint::proofs::GoesOnLemmas::goes_on_same, sctp_endpoint::proofs::GoesOnLemmas::goes_on_through))]
 fn handle_timeouts<C: Checksum>(
     state: &mut State,
     context: &mut Context<C>,
 ) -> Result<(), AllocError>
-    ensures { OnOk result (endpoint_state_of C.word_of state.new context.new ≡ table.tick_in (state_of state.old) (context_of C.word_of context.old)) }
+    ensures ok { OnOk result (endpoint_state_of C.word_of state.new context.new ≡ table.tick_in (state_of state.old) (context_of C.word_of context.old)) }
+    ensures goes_on { GoesOn context.old context.new }
+    ensures ready { OnErr result (ready_in (state_of state.new) ≡ ready_in (state_of state.old)) }
+    ensures association { OnErr result (association_in (state_of state.new) ≡ association_in (state_of state.old)) }
 {
     match state {
         State::Closed => Ok(()),
@@ -251,12 +299,16 @@ fn handle_timeouts<C: Checksum>(
 }
 
 /// Time passes; a moment before the clock's changes nothing.
+#[tactic(auto, using(sctp_endpoint::proofs::GoesOnLemmas::goes_on_same, sctp_endpoint::proofs::GoesOnLemmas::goes_on_through, sctp_endpoint::proofs::GoesOnLemmas::goes_on_as))]
 pub fn advance_time<C: Checksum>(
     state: &mut State,
     context: &mut Context<C>,
     now: SocketTime,
 ) -> Result<(), AllocError>
-    ensures { OnOk result (endpoint_state_of C.word_of state.new context.new ≡ table.advance now (endpoint_state_of C.word_of state.old context.old)) }
+    ensures ok { OnOk result (endpoint_state_of C.word_of state.new context.new ≡ table.advance now (endpoint_state_of C.word_of state.old context.old)) }
+    ensures goes_on { GoesOn context.old context.new }
+    ensures ready { OnErr result (ready_in (state_of state.new) ≡ ready_in (state_of state.old)) }
+    ensures association { OnErr result (association_in (state_of state.new) ≡ association_in (state_of state.old)) }
 {
     if now < context.clock {
         return Ok(());

@@ -1,3 +1,4 @@
 pub mod PrepareLemmas
 pub mod CleanedLemmas
 pub mod DataLemmas
+pub mod EmittedLemmas

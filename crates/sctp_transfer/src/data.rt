@@ -6,6 +6,10 @@ ghost use Rattle.sctp_packet.specs.Chunk.{error_chunk};
 ghost use Rattle.spec_endpoint.specs.Packets.{emit_chunk};
 ghost use Rattle.sctp_packet.specs.Views.{viewed_fragment};
 ghost use Rattle.spec_endpoint.specs.Data.{accepts_point, accepts_tsn, fragment_if, handle_forward_tsn_if, on_data};
+ghost use Rattle.sctp_rx.specs.Delivery.{Extends};
+ghost use Rattle.spec_endpoint.specs.Calls.{ready_in};
+ghost use Rattle.spec_endpoint.specs.Shown.{association_in};
+ghost use Rattle.sctp_endpoint.specs.GoesOn.{GoesOn};
 ghost use Rattle.sctp_endpoint.specs.Views.{context_of, endpoint_state_of, state_of, tcb_of};
 ghost use Rattle.spec_endpoint.specs.Data as table;
 
@@ -18,13 +22,17 @@ use sctp_wire::Checksum;
 use std::alloc::{AllocError, Global};
 
 /// DATA or I-DATA, where it lies. Its payload is copied only where it is kept.
+#[tactic(auto, using(sctp_reassembly::proofs::ExtendsLemmas::extends_none, sctp_endpoint::proofs::GoesOnLemmas::goes_on_same, sctp_endpoint::proofs::GoesOnLemmas::goes_on_through))]
 pub fn handle_data<C: Checksum>(
     state: &mut State,
     context: &mut Context<C>,
     fragment: DataView<'_>,
 ) -> Result<(), AllocError>
-    ensures { OnOk result (endpoint_state_of C.word_of state.new context.new
+    ensures ok { OnOk result (endpoint_state_of C.word_of state.new context.new
         ≡ on_data fragment.entry.tsn.0 fragment.entry.immediate_ack (viewed_fragment fragment.entry) (endpoint_state_of C.word_of state.old context.old)) }
+    ensures goes_on { GoesOn context.old context.new }
+    ensures ready { Extends (ready_in (state_of state.old)) (ready_in (state_of state.new)) }
+    ensures association { association_in (state_of state.new) ≡ association_in (state_of state.old) }
 {
     if fragment.payload.is_empty() {
         return handle_no_data(state, context, fragment.tsn);
@@ -38,15 +46,17 @@ pub fn handle_data<C: Checksum>(
 /// A fragment is observed, and copied and kept where its TSN is new; unless there is no room, for its bytes or
 /// for one fragment more, or the TSN lies too far away. What isn't observed isn't acknowledged, so that the peer
 /// sends it again (RFC 9260 section 6.2).
-#[tactic(auto, using(crate::proofs::DataLemmas::not_taken))]
+#[tactic(auto, using(sctp_reassembly::proofs::ExtendsLemmas::extends_none, crate::proofs::DataLemmas::not_taken))]
 fn take_data(
     tcb: &mut TransmissionControlBlock,
     alloc: Global,
     now: SocketTime,
     fragment: DataView<'_>,
 ) -> Result<(), AllocError>
-    ensures { OnOk result (tcb_of tcb.new
+    ensures ok { OnOk result (tcb_of tcb.new
         ≡ fragment_if (accepts_tsn fragment.entry.tsn.0 (tcb_of tcb.old)) fragment.entry.tsn.0 fragment.entry.immediate_ack (viewed_fragment fragment.entry) (tcb_of tcb.old)) }
+    ensures ready { Extends tcb.old.reassembly_queue.ready tcb.new.reassembly_queue.ready }
+    ensures identity { tcb.new.identity ≡ tcb.old.identity }
 {
     if tcb.reassembly_queue.is_full()
         || tcb.reassembly_queue.is_above_watermark()
@@ -62,8 +72,10 @@ fn take_data(
     Ok(())
 }
 
+#[tactic(auto, using(sctp_endpoint::proofs::GoesOnLemmas::goes_on_same, sctp_endpoint::proofs::GoesOnLemmas::goes_on_through))]
 fn emit_data_error<C: Checksum>(context: &mut Context<C>) -> Result<(), AllocError>
-    ensures { OnOk result (context_of C.word_of context.new ≡ table.not_connected (context_of C.word_of context.old)) }
+    ensures ok { OnOk result (context_of C.word_of context.new ≡ table.not_connected (context_of C.word_of context.old)) }
+    ensures goes_on { GoesOn context.old context.new }
 {
     context.emit_error(
         ErrorKind::NotConnected,
@@ -72,12 +84,14 @@ fn emit_data_error<C: Checksum>(context: &mut Context<C>) -> Result<(), AllocErr
 }
 
 /// DATA without a payload (RFC 9260 section 6.2).
+#[tactic(auto, using(sctp_endpoint::proofs::GoesOnLemmas::goes_on_same, sctp_endpoint::proofs::GoesOnLemmas::goes_on_through))]
 fn handle_no_data<C: Checksum>(
     state: &State,
     context: &mut Context<C>,
     tsn: Tsn,
 ) -> Result<(), AllocError>
-    ensures { OnOk result (context_of C.word_of context.new ≡ table.on_no_data tsn.0 (state_of state.now) (context_of C.word_of context.old)) }
+    ensures ok { OnOk result (context_of C.word_of context.new ≡ table.on_no_data tsn.0 (state_of state.now) (context_of C.word_of context.old)) }
+    ensures goes_on { GoesOn context.old context.new }
 {
     context.emit_error(
         ErrorKind::ProtocolViolation,
@@ -90,14 +104,15 @@ fn handle_no_data<C: Checksum>(
 }
 
 /// An ERROR that a DATA chunk had no payload (RFC 9260 section 3.3.10.9).
-#[tactic(auto, unfolding(sctp_wire::specs::Cause::cause_value, sctp_chunk::specs::Written::chunk_value))]
+#[tactic(auto, using(sctp_endpoint::proofs::GoesOnLemmas::goes_on_same, sctp_endpoint::proofs::GoesOnLemmas::goes_on_through), unfolding(sctp_wire::specs::Cause::cause_value, sctp_chunk::specs::Written::chunk_value))]
 fn send_no_user_data<C: Checksum>(
     context: &mut Context<C>,
     tcb: &TransmissionControlBlock,
     tsn: Tsn,
 ) -> Result<(), AllocError>
-    ensures { OnOk result (context_of C.word_of context.new
+    ensures ok { OnOk result (context_of C.word_of context.new
         ≡ emit_chunk (error_chunk (no_user_data (record { 0 = tsn.0 }) ∷ [])) (tcb_of tcb.now) (context_of C.word_of context.old)) }
+    ensures goes_on { GoesOn context.old context.new }
 {
     let mut error_causes = Vec::new(context.alloc);
     error_causes.push(ErrorCause::NoUserData(NoUserDataErrorCause { tsn }))?;
@@ -106,14 +121,17 @@ fn send_no_user_data<C: Checksum>(
 
 /// A forward point is observed, unless it lies too far away, or has no room behind a reset: up to it all counts as received. It
 /// reaches reassembly where it moves the cumulative TSN; an older one is acknowledged alone (RFC 3758 section 3.6).
+#[tactic(auto, using(sctp_reassembly::proofs::ExtendsLemmas::extends_none))]
 fn skip_to(
     tcb: &mut TransmissionControlBlock,
     now: SocketTime,
     new_cumulative_tsn: Tsn,
     skipped: &[SkippedStream],
 ) -> Result<(), AllocError>
-    ensures { OnOk result (tcb_of tcb.new
+    ensures ok { OnOk result (tcb_of tcb.new
         ≡ handle_forward_tsn_if (accepts_point new_cumulative_tsn.0 skipped.now (tcb_of tcb.old)) new_cumulative_tsn.0 skipped.now (tcb_of tcb.old)) }
+    ensures ready { Extends tcb.old.reassembly_queue.ready tcb.new.reassembly_queue.ready }
+    ensures identity { tcb.new.identity ≡ tcb.old.identity }
 {
     if !tcb.data_tracker.is_tsn_valid(new_cumulative_tsn) {
         return Ok(());
@@ -132,13 +150,16 @@ fn skip_to(
 }
 
 /// FORWARD-TSN or I-FORWARD-TSN. It reaches reassembly where it moves the cumulative TSN.
+#[tactic(auto, using(sctp_reassembly::proofs::ExtendsLemmas::extends_none))]
 pub fn handle_forward_tsn(
     state: &mut State,
     now: SocketTime,
     new_cumulative_tsn: Tsn,
     skipped: &[SkippedStream],
 ) -> Result<(), AllocError>
-    ensures { OnOk result (state_of state.new ≡ table.handle_forward_tsn_in (state_of state.old) new_cumulative_tsn.0 skipped.now) }
+    ensures ok { OnOk result (state_of state.new ≡ table.handle_forward_tsn_in (state_of state.old) new_cumulative_tsn.0 skipped.now) }
+    ensures ready { Extends (ready_in (state_of state.old)) (ready_in (state_of state.new)) }
+    ensures association { association_in (state_of state.new) ≡ association_in (state_of state.old) }
 {
     match state {
         State::Closed | State::CookieWait(_) => Ok(()),

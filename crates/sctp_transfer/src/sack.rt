@@ -5,7 +5,10 @@ ghost use Rattle.std.specs.Option.{option_map};
 ghost use Rattle.std.specs.Duration.{as_nanos};
 ghost use Rattle.spec_endpoint.specs.Sack.{clean_blocks, after_sack, on_sack, on_sack_open, sample_rtt};
 ghost use Rattle.sctp_tx.specs.RetransmissionQueue.{answer_of};
-ghost use Rattle.sctp_endpoint.specs.Views.{context_of, opened_of, phase_of, sack_of, endpoint_state_of, tcb_of};
+ghost use Rattle.spec_endpoint.specs.Calls.{ready_in};
+ghost use Rattle.spec_endpoint.specs.Shown.{association_in};
+ghost use Rattle.sctp_endpoint.specs.GoesOn.{GoesOn};
+ghost use Rattle.sctp_endpoint.specs.Views.{context_of, opened_of, phase_of, sack_of, endpoint_state_of, state_of, tcb_of};
 
 use sctp_endpoint::{Context, Phase, State, TransmissionControlBlock};
 use sctp_packet::{SackChunk, clean_sack};
@@ -26,7 +29,9 @@ fn cleaned(sack: SackChunk) -> SackChunk
 
 /// A round trip sets the retransmission timeout (RFC 9260 section 6.3.1), which each part counts by.
 fn observe_rtt(tcb: &mut TransmissionControlBlock, rtt: Option<Duration>)
-    ensures { tcb_of tcb.new ≡ sample_rtt (option_map as_nanos rtt) (tcb_of tcb.old) }
+    ensures ok { tcb_of tcb.new ≡ sample_rtt (option_map as_nanos rtt) (tcb_of tcb.old) }
+    ensures received { tcb.new.reassembly_queue ≡ tcb.old.reassembly_queue }
+    ensures identity { tcb.new.identity ≡ tcb.old.identity }
 {
     let Some(rtt) = rtt else {
         return;
@@ -38,12 +43,16 @@ fn observe_rtt(tcb: &mut TransmissionControlBlock, rtt: Option<Duration>)
 }
 
 /// SACK.
+#[tactic(auto, using(sctp_endpoint::proofs::GoesOnLemmas::goes_on_same, sctp_endpoint::proofs::GoesOnLemmas::goes_on_through))]
 pub fn handle_sack<C: Checksum>(
     state: &mut State,
     context: &mut Context<C>,
     sack: SackChunk,
 ) -> Result<(), AllocError>
-    ensures { OnOk result (endpoint_state_of C.word_of state.new context.new ≡ on_sack (sack_of sack) (endpoint_state_of C.word_of state.old context.old)) }
+    ensures ok { OnOk result (endpoint_state_of C.word_of state.new context.new ≡ on_sack (sack_of sack) (endpoint_state_of C.word_of state.old context.old)) }
+    ensures goes_on { GoesOn context.old context.new }
+    ensures received { ready_in (state_of state.new) ≡ ready_in (state_of state.old) }
+    ensures association { association_in (state_of state.new) ≡ association_in (state_of state.old) }
 {
     match state {
         State::Closed | State::CookieWait(_) => context.emit_error(
@@ -54,14 +63,18 @@ pub fn handle_sack<C: Checksum>(
     }
 }
 
+#[tactic(auto, using(sctp_endpoint::proofs::GoesOnLemmas::goes_on_same, sctp_endpoint::proofs::GoesOnLemmas::goes_on_through))]
 fn sack_open<C: Checksum>(
     phase: &mut Phase,
     tcb: &mut TransmissionControlBlock,
     context: &mut Context<C>,
     sack: SackChunk,
 ) -> Result<(), AllocError>
-    ensures { OnOk result (opened_of C.word_of phase.new tcb.new context.new
+    ensures ok { OnOk result (opened_of C.word_of phase.new tcb.new context.new
         ≡ on_sack_open (sack_of sack) (phase_of phase.old) (tcb_of tcb.old) (context_of C.word_of context.old)) }
+    ensures goes_on { GoesOn context.old context.new }
+    ensures received { tcb.new.reassembly_queue ≡ tcb.old.reassembly_queue }
+    ensures identity { tcb.new.identity ≡ tcb.old.identity }
 {
     let sack = cleaned(sack);
     let answer = tcb
@@ -72,14 +85,18 @@ fn sack_open<C: Checksum>(
 
 /// What was acknowledged shows that the peer is there, so its errors are forgotten (RFC 9260 section 8.1). Then goes out what waited for
 /// it: a shutdown (section 9.2), what is to be sent again at once (section 7.2.4), and what there is room for.
+#[tactic(auto, using(sctp_endpoint::proofs::GoesOnLemmas::goes_on_same, sctp_endpoint::proofs::GoesOnLemmas::goes_on_through, sctp_endpoint::proofs::GoesOnLemmas::goes_on_as))]
 fn after_sack<C: Checksum>(
     phase: &mut Phase,
     tcb: &mut TransmissionControlBlock,
     context: &mut Context<C>,
     answer: HandleSackResult,
 ) -> Result<(), AllocError>
-    ensures { OnOk result (opened_of C.word_of phase.new tcb.new context.new
+    ensures ok { OnOk result (opened_of C.word_of phase.new tcb.new context.new
         ≡ after_sack (answer_of answer) (phase_of phase.old) (tcb_of tcb.old) (context_of C.word_of context.old)) }
+    ensures goes_on { GoesOn context.old context.new }
+    ensures received { tcb.new.reassembly_queue ≡ tcb.old.reassembly_queue }
+    ensures identity { tcb.new.identity ≡ tcb.old.identity }
 {
     let HandleSackResult::Valid {
         rtt,

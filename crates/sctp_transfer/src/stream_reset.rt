@@ -1,12 +1,16 @@
 //! Streams that are reset (RFC 6525): the peer's requests, the answers to the own one, its timer, and the call.
 
-ghost use Rattle.std.specs.Prelude.{◌≡◌, ◌++◌, ◌∷◌, [], false, true, None, map, IfOk, OnOk};
+ghost use Rattle.std.specs.Prelude.{◌≡◌, ◌++◌, ◌∷◌, [], false, true, None, map, IfOk, OnErr, OnOk};
 ghost use Rattle.sctp_wire.specs.Parameter.{reset_response};
 ghost use Rattle.sctp_parameter.specs.ParameterViews.{parameter_tree, result_number};
 ghost use Rattle.sctp_state.specs.Events.{numbers_of};
 ghost use Rattle.spec_endpoint.specs.Association.{where_open};
 ghost use Rattle.spec_endpoint.specs.ResetRequests.{is_final};
 ghost use Rattle.sctp_endpoint.specs.RequestViews.{outcome_of};
+ghost use Rattle.sctp_rx.specs.Delivery.{Extends};
+ghost use Rattle.spec_endpoint.specs.Calls.{ready_in};
+ghost use Rattle.spec_endpoint.specs.Shown.{association_in};
+ghost use Rattle.sctp_endpoint.specs.GoesOn.{GoesOn};
 ghost use Rattle.sctp_endpoint.specs.Views.{context_of, handled_parameters_of, handling_of, opened_of, phase_of, after_sending_of, endpoint_state_of, state_of, tcb_of, ticking_of};
 ghost use Rattle.spec_endpoint.specs.StreamReset as table;
 ghost use Rattle.spec_endpoint.specs.Timers as timers;
@@ -44,14 +48,17 @@ fn respond(
 
 /// The reset of these streams is to wait for what was sent before it, so that what comes late isn't taken for what is sent behind it
 /// (RFC 6525 section 5.2.2).
+#[tactic(auto, using(sctp_reassembly::proofs::ExtendsLemmas::extends_none))]
 fn defer_reset<C: Checksum>(
     context: &Context<C>,
     tcb: &mut TransmissionControlBlock,
     request: &OutgoingSsnResetRequestParameter,
     responses: &mut Vec<Parameter>,
 ) -> Result<(), AllocError>
-    ensures { let r = request.now in OnOk result (handling_of C.word_of tcb.new context.now (map parameter_tree responses.new.items)
+    ensures ok { let r = request.now in OnOk result (handling_of C.word_of tcb.new context.now (map parameter_tree responses.new.items)
         ≡ table.defers r.request_seq_nbr r.sender_last_assigned_tsn.0 r.streams.items (handling_of C.word_of tcb.old context.now (map parameter_tree responses.old.items))) }
+    ensures ready { Extends tcb.old.reassembly_queue.ready tcb.new.reassembly_queue.ready }
+    ensures identity { tcb.new.identity ≡ tcb.old.identity }
 {
     tcb.reassembly_queue
         .enter_deferred_reset(request.sender_last_assigned_tsn, &request.streams)?;
@@ -61,14 +68,18 @@ fn defer_reset<C: Checksum>(
 }
 
 /// The streams are reset, and an event says so.
+#[tactic(auto, using(sctp_reassembly::proofs::ExtendsLemmas::extends_none, sctp_endpoint::proofs::GoesOnLemmas::goes_on_same, sctp_endpoint::proofs::GoesOnLemmas::goes_on_through))]
 fn perform_reset<C: Checksum>(
     context: &mut Context<C>,
     tcb: &mut TransmissionControlBlock,
     request: OutgoingSsnResetRequestParameter,
     responses: &mut Vec<Parameter>,
 ) -> Result<(), AllocError>
-    ensures { OnOk result (handling_of C.word_of tcb.new context.new (map parameter_tree responses.new.items)
+    ensures ok { OnOk result (handling_of C.word_of tcb.new context.new (map parameter_tree responses.new.items)
         ≡ table.performs request.request_seq_nbr request.streams.items (handling_of C.word_of tcb.old context.old (map parameter_tree responses.old.items))) }
+    ensures goes_on { GoesOn context.old context.new }
+    ensures ready { Extends tcb.old.reassembly_queue.ready tcb.new.reassembly_queue.ready }
+    ensures identity { tcb.new.identity ≡ tcb.old.identity }
 {
     tcb.reassembly_queue
         .reset_streams_and_leave_deferred_reset(&request.streams)?;
@@ -85,14 +96,18 @@ fn is_ahead(tcb: &TransmissionControlBlock, tsn: Tsn) -> bool
     tsn.greater_than(tcb.data_tracker.last_cumulative_acked_tsn())
 }
 
+#[tactic(auto, using(sctp_reassembly::proofs::ExtendsLemmas::extends_none, sctp_endpoint::proofs::GoesOnLemmas::goes_on_same, sctp_endpoint::proofs::GoesOnLemmas::goes_on_through))]
 fn reset_or_defer<C: Checksum>(
     context: &mut Context<C>,
     tcb: &mut TransmissionControlBlock,
     request: OutgoingSsnResetRequestParameter,
     responses: &mut Vec<Parameter>,
 ) -> Result<(), AllocError>
-    ensures { OnOk result (handling_of C.word_of tcb.new context.new (map parameter_tree responses.new.items)
+    ensures ok { OnOk result (handling_of C.word_of tcb.new context.new (map parameter_tree responses.new.items)
         ≡ table.resets request.request_seq_nbr request.sender_last_assigned_tsn.0 request.streams.items (handling_of C.word_of tcb.old context.old (map parameter_tree responses.old.items))) }
+    ensures goes_on { GoesOn context.old context.new }
+    ensures ready { Extends tcb.old.reassembly_queue.ready tcb.new.reassembly_queue.ready }
+    ensures identity { tcb.new.identity ≡ tcb.old.identity }
 {
     if is_ahead(tcb, request.sender_last_assigned_tsn) {
         defer_reset(context, tcb, &request, responses)
@@ -110,14 +125,18 @@ fn is_final(answer: ReconfigurationResponseResult) -> bool
 
 /// The peer resets its outgoing streams (RFC 6525 section 5.2.2). The last request again is answered as before, once
 /// it was done.
+#[tactic(auto, using(sctp_reassembly::proofs::ExtendsLemmas::extends_none, sctp_endpoint::proofs::GoesOnLemmas::goes_on_same, sctp_endpoint::proofs::GoesOnLemmas::goes_on_through))]
 fn handle_outgoing_request<C: Checksum>(
     context: &mut Context<C>,
     tcb: &mut TransmissionControlBlock,
     request: OutgoingSsnResetRequestParameter,
     responses: &mut Vec<Parameter>,
 ) -> Result<(), AllocError>
-    ensures { OnOk result (handling_of C.word_of tcb.new context.new (map parameter_tree responses.new.items)
+    ensures ok { OnOk result (handling_of C.word_of tcb.new context.new (map parameter_tree responses.new.items)
         ≡ table.on_outgoing request.request_seq_nbr request.sender_last_assigned_tsn.0 request.streams.items (handling_of C.word_of tcb.old context.old (map parameter_tree responses.old.items))) }
+    ensures goes_on { GoesOn context.old context.new }
+    ensures ready { Extends tcb.old.reassembly_queue.ready tcb.new.reassembly_queue.ready }
+    ensures identity { tcb.new.identity ≡ tcb.old.identity }
 {
     let number = request.request_seq_nbr;
     if tcb.reset_requests.is_last(number) {
@@ -141,8 +160,10 @@ fn handle_incoming_request<C: Checksum>(
     number: u32,
     responses: &mut Vec<Parameter>,
 ) -> Result<(), AllocError>
-    ensures { OnOk result (handling_of C.word_of tcb.new context.now (map parameter_tree responses.new.items)
+    ensures ok { OnOk result (handling_of C.word_of tcb.new context.now (map parameter_tree responses.new.items)
         ≡ table.on_incoming number (handling_of C.word_of tcb.old context.now (map parameter_tree responses.old.items))) }
+    ensures received { tcb.new.reassembly_queue ≡ tcb.old.reassembly_queue }
+    ensures identity { tcb.new.identity ≡ tcb.old.identity }
 {
     if !tcb.reset_requests.is_known(number) {
         let answer = ReconfigurationResponseResult::ErrorBadSequenceNumber;
@@ -155,11 +176,13 @@ fn handle_incoming_request<C: Checksum>(
 
 /// What an answer says of the streams of the own request, and of no others: their numbers begin anew only where the peer has reset
 /// them too (RFC 6525 section 5.2.7).
+#[tactic(auto, using(sctp_endpoint::proofs::GoesOnLemmas::goes_on_same, sctp_endpoint::proofs::GoesOnLemmas::goes_on_through, sctp_endpoint::proofs::GoesOnLemmas::goes_on_as))]
 fn handle_outcome<C: Checksum>(
     context: &mut Context<C>,
     outcome: ResetOutcome,
 ) -> Result<(), AllocError>
-    ensures { OnOk result (context_of C.word_of context.new ≡ table.on_outcome (outcome_of outcome) (context_of C.word_of context.old)) }
+    ensures ok { OnOk result (context_of C.word_of context.new ≡ table.on_outcome (outcome_of outcome) (context_of C.word_of context.old)) }
+    ensures goes_on { GoesOn context.old context.new }
 {
     match outcome {
         ResetOutcome::Unsettled => Ok(()),
@@ -175,13 +198,17 @@ fn handle_outcome<C: Checksum>(
 }
 
 /// The peer answers a request (RFC 6525 section 5.2.7).
+#[tactic(auto, using(sctp_endpoint::proofs::GoesOnLemmas::goes_on_same, sctp_endpoint::proofs::GoesOnLemmas::goes_on_through))]
 fn handle_response<C: Checksum>(
     context: &mut Context<C>,
     tcb: &mut TransmissionControlBlock,
     response: &ReconfigurationResponseParameter,
 ) -> Result<(), AllocError>
-    ensures { let r = response.now in OnOk result (after_sending_of C.word_of tcb.new context.new
+    ensures ok { let r = response.now in OnOk result (after_sending_of C.word_of tcb.new context.new
         ≡ table.on_response r.response_seq_nbr (result_number r.result) (tcb_of tcb.old) (context_of C.word_of context.old)) }
+    ensures goes_on { GoesOn context.old context.new }
+    ensures received { tcb.new.reassembly_queue ≡ tcb.old.reassembly_queue }
+    ensures identity { tcb.new.identity ≡ tcb.old.identity }
 {
     let outcome = tcb
         .reset_requests
@@ -190,14 +217,18 @@ fn handle_response<C: Checksum>(
 }
 
 /// One parameter.
+#[tactic(auto, using(sctp_reassembly::proofs::ExtendsLemmas::extends_none, sctp_reassembly::proofs::ExtendsLemmas::extends_both, crate::proofs::EmittedLemmas::extends_as, sctp_endpoint::proofs::GoesOnLemmas::goes_on_same, sctp_endpoint::proofs::GoesOnLemmas::goes_on_through))]
 fn handle_parameter<C: Checksum>(
     context: &mut Context<C>,
     tcb: &mut TransmissionControlBlock,
     parameter: Parameter,
     responses: &mut Vec<Parameter>,
 ) -> Result<(), AllocError>
-    ensures { OnOk result (handling_of C.word_of tcb.new context.new (map parameter_tree responses.new.items)
+    ensures ok { OnOk result (handling_of C.word_of tcb.new context.new (map parameter_tree responses.new.items)
         ≡ table.on_parameter (parameter_tree parameter) (handling_of C.word_of tcb.old context.old (map parameter_tree responses.old.items))) }
+    ensures goes_on { GoesOn context.old context.new }
+    ensures ready { Extends tcb.old.reassembly_queue.ready tcb.new.reassembly_queue.ready }
+    ensures identity { tcb.new.identity ≡ tcb.old.identity }
 {
     match parameter {
         Parameter::OutgoingSsnResetRequest(p) => {
@@ -212,14 +243,18 @@ fn handle_parameter<C: Checksum>(
 }
 
 /// The parameters in order, up to a second outgoing request. The answer is whether there was none.
+#[tactic(auto, using(sctp_reassembly::proofs::ExtendsLemmas::extends_none, sctp_reassembly::proofs::ExtendsLemmas::extends_both, crate::proofs::EmittedLemmas::extends_as, sctp_endpoint::proofs::GoesOnLemmas::goes_on_same, sctp_endpoint::proofs::GoesOnLemmas::goes_on_through))]
 fn handle_parameters<C: Checksum>(
     context: &mut Context<C>,
     tcb: &mut TransmissionControlBlock,
     parameters: Vec<Parameter>,
     responses: &mut Vec<Parameter>,
 ) -> Result<bool, AllocError>
-    ensures { IfOk result (λ is_whole. handled_parameters_of C.word_of tcb.new context.new (map parameter_tree responses.new.items) is_whole
+    ensures ok { IfOk result (λ is_whole. handled_parameters_of C.word_of tcb.new context.new (map parameter_tree responses.new.items) is_whole
         ≡ table.handle_all (map parameter_tree parameters.items) false (handling_of C.word_of tcb.old context.old (map parameter_tree responses.old.items))) }
+    ensures goes_on { GoesOn context.old context.new }
+    ensures ready { Extends tcb.old.reassembly_queue.ready tcb.new.reassembly_queue.ready }
+    ensures identity { tcb.new.identity ≡ tcb.old.identity }
 {
     let mut has_outgoing = false;
     for parameter in parameters {
@@ -234,12 +269,14 @@ fn handle_parameters<C: Checksum>(
 }
 
 /// The responses go out in a packet, where there are some.
+#[tactic(auto, using(sctp_endpoint::proofs::GoesOnLemmas::goes_on_same, sctp_endpoint::proofs::GoesOnLemmas::goes_on_through))]
 fn send_responses<C: Checksum>(
     context: &mut Context<C>,
     tcb: &TransmissionControlBlock,
     responses: Vec<Parameter>,
 ) -> Result<(), AllocError>
-    ensures { OnOk result (context_of C.word_of context.new ≡ table.send_responses (map parameter_tree responses.items) (tcb_of tcb.now) (context_of C.word_of context.old)) }
+    ensures ok { OnOk result (context_of C.word_of context.new ≡ table.send_responses (map parameter_tree responses.items) (tcb_of tcb.now) (context_of C.word_of context.old)) }
+    ensures goes_on { GoesOn context.old context.new }
 {
     if responses.is_empty() {
         return Ok(());
@@ -249,6 +286,7 @@ fn send_responses<C: Checksum>(
 }
 
 /// The responses go out, and what may be sent then; after a second outgoing request nothing is sent.
+#[tactic(auto, using(sctp_endpoint::proofs::GoesOnLemmas::goes_on_same, sctp_endpoint::proofs::GoesOnLemmas::goes_on_through))]
 fn finish_reconfig<C: Checksum>(
     context: &mut Context<C>,
     phase: &Phase,
@@ -256,8 +294,11 @@ fn finish_reconfig<C: Checksum>(
     responses: Vec<Parameter>,
     is_whole: bool,
 ) -> Result<(), AllocError>
-    ensures { OnOk result (opened_of C.word_of phase.now tcb.new context.new
+    ensures ok { OnOk result (opened_of C.word_of phase.now tcb.new context.new
         ≡ table.finish_reconfig_if is_whole (phase_of phase.now) (handling_of C.word_of tcb.old context.old (map parameter_tree responses.items))) }
+    ensures goes_on { GoesOn context.old context.new }
+    ensures received { tcb.new.reassembly_queue ≡ tcb.old.reassembly_queue }
+    ensures identity { tcb.new.identity ≡ tcb.old.identity }
 {
     if !is_whole {
         return context.emit_error(
@@ -269,14 +310,18 @@ fn finish_reconfig<C: Checksum>(
     context.send_buffered_packets(tcb, phase.is_before_cookie_ack())
 }
 
+#[tactic(auto, using(sctp_reassembly::proofs::ExtendsLemmas::extends_none, sctp_reassembly::proofs::ExtendsLemmas::extends_both, crate::proofs::EmittedLemmas::extends_as, sctp_endpoint::proofs::GoesOnLemmas::goes_on_same, sctp_endpoint::proofs::GoesOnLemmas::goes_on_through))]
 fn take_parameters<C: Checksum>(
     context: &mut Context<C>,
     phase: &Phase,
     tcb: &mut TransmissionControlBlock,
     parameters: Vec<Parameter>,
 ) -> Result<(), AllocError>
-    ensures { OnOk result (opened_of C.word_of phase.now tcb.new context.new
+    ensures ok { OnOk result (opened_of C.word_of phase.now tcb.new context.new
         ≡ table.finish_reconfig (phase_of phase.now) (table.handle_all (map parameter_tree parameters.items) false (handling_of C.word_of tcb.old context.old []))) }
+    ensures goes_on { GoesOn context.old context.new }
+    ensures ready { Extends tcb.old.reassembly_queue.ready tcb.new.reassembly_queue.ready }
+    ensures identity { tcb.new.identity ≡ tcb.old.identity }
 {
     let mut responses = Vec::new(context.alloc);
     let is_whole = handle_parameters(context, tcb, parameters, &mut responses)?;
@@ -284,13 +329,15 @@ fn take_parameters<C: Checksum>(
 }
 
 /// A RE-CONFIG without parameters.
+#[tactic(auto, using(sctp_endpoint::proofs::GoesOnLemmas::goes_on_same, sctp_endpoint::proofs::GoesOnLemmas::goes_on_through))]
 fn emit_reconfig_error<C: Checksum>(
     context: &mut Context<C>,
     phase: &Phase,
     tcb: &TransmissionControlBlock,
 ) -> Result<(), AllocError>
-    ensures { OnOk result (opened_of C.word_of phase.now tcb.now context.new
+    ensures ok { OnOk result (opened_of C.word_of phase.now tcb.now context.new
         ≡ table.on_reconfig [] (phase_of phase.now) (tcb_of tcb.now) (context_of C.word_of context.old)) }
+    ensures goes_on { GoesOn context.old context.new }
 {
     context.emit_error(
         ErrorKind::ProtocolViolation,
@@ -299,14 +346,18 @@ fn emit_reconfig_error<C: Checksum>(
 }
 
 /// RE-CONFIG (RFC 6525 section 5.2): its parameters, the responses, and what may be sent then.
+#[tactic(auto, using(sctp_reassembly::proofs::ExtendsLemmas::extends_none, sctp_reassembly::proofs::ExtendsLemmas::extends_both, crate::proofs::EmittedLemmas::extends_as, sctp_endpoint::proofs::GoesOnLemmas::goes_on_same, sctp_endpoint::proofs::GoesOnLemmas::goes_on_through))]
 fn reconfig_open<C: Checksum>(
     context: &mut Context<C>,
     phase: &Phase,
     tcb: &mut TransmissionControlBlock,
     parameters: Vec<Parameter>,
 ) -> Result<(), AllocError>
-    ensures { OnOk result (opened_of C.word_of phase.now tcb.new context.new
+    ensures ok { OnOk result (opened_of C.word_of phase.now tcb.new context.new
         ≡ table.on_reconfig (map parameter_tree parameters.items) (phase_of phase.now) (tcb_of tcb.old) (context_of C.word_of context.old)) }
+    ensures goes_on { GoesOn context.old context.new }
+    ensures ready { Extends tcb.old.reassembly_queue.ready tcb.new.reassembly_queue.ready }
+    ensures identity { tcb.new.identity ≡ tcb.old.identity }
 {
     if parameters.is_empty() {
         return emit_reconfig_error(context, phase, tcb);
@@ -315,11 +366,15 @@ fn reconfig_open<C: Checksum>(
 }
 
 /// The own request to reset streams goes out again, unless there were too many errors.
+#[tactic(auto, using(sctp_endpoint::proofs::GoesOnLemmas::goes_on_same, sctp_endpoint::proofs::GoesOnLemmas::goes_on_through))]
 fn send_request_again<C: Checksum>(
     context: &mut Context<C>,
     tcb: &mut TransmissionControlBlock,
 ) -> Result<(), AllocError>
-    ensures { OnOk result (ticking_of C.word_of tcb.new context.new true ≡ timers.requests_again (ticking_of C.word_of tcb.old context.old true)) }
+    ensures ok { OnOk result (ticking_of C.word_of tcb.new context.new true ≡ timers.requests_again (ticking_of C.word_of tcb.old context.old true)) }
+    ensures goes_on { GoesOn context.old context.new }
+    ensures received { tcb.new.reassembly_queue ≡ tcb.old.reassembly_queue }
+    ensures identity { tcb.new.identity ≡ tcb.old.identity }
 {
     if context.tx_error_counter.is_exhausted() {
         return Ok(());
@@ -333,12 +388,16 @@ fn send_request_again<C: Checksum>(
 
 /// The reconfiguration timer (RFC 6525 section 5.1.1), after the other ones have expired or not. The answer is whether
 /// any did.
+#[tactic(auto, using(sctp_endpoint::proofs::GoesOnLemmas::goes_on_same, sctp_endpoint::proofs::GoesOnLemmas::goes_on_through, sctp_endpoint::proofs::GoesOnLemmas::goes_on_as))]
 pub fn tick_requests<C: Checksum>(
     context: &mut Context<C>,
     tcb: &mut TransmissionControlBlock,
     has_expired: bool,
 ) -> Result<bool, AllocError>
-    ensures { IfOk result (λ any. ticking_of C.word_of tcb.new context.new any ≡ timers.tick_requests (ticking_of C.word_of tcb.old context.old has_expired)) }
+    ensures ok { IfOk result (λ any. ticking_of C.word_of tcb.new context.new any ≡ timers.tick_requests (ticking_of C.word_of tcb.old context.old has_expired)) }
+    ensures goes_on { GoesOn context.old context.new }
+    ensures received { tcb.new.reassembly_queue ≡ tcb.old.reassembly_queue }
+    ensures identity { tcb.new.identity ≡ tcb.old.identity }
 {
     if !tcb.reset_requests.expire(context.clock) {
         return Ok(has_expired);
@@ -351,19 +410,23 @@ pub fn tick_requests<C: Checksum>(
 }
 
 /// The reset of a stream is prepared: its messages of which nothing is sent are dropped.
+#[tactic(auto, using(sctp_endpoint::proofs::GoesOnLemmas::goes_on_same, sctp_endpoint::proofs::GoesOnLemmas::goes_on_through, sctp_endpoint::proofs::GoesOnLemmas::goes_on_as, sctp_endpoint::proofs::GoesOnLemmas::goes_on_by))]
 fn prepare_reset<C: Checksum>(context: &mut Context<C>, id: StreamId) -> Result<(), AllocError>
-    ensures { OnOk result (context_of C.word_of context.new ≡ table.prepare_reset_stream id.0 (context_of C.word_of context.old)) }
+    ensures ok { OnOk result (context_of C.word_of context.new ≡ table.prepare_reset_stream id.0 (context_of C.word_of context.old)) }
+    ensures goes_on { GoesOn context.old context.new }
 {
     context
         .send_queue
         .prepare_reset_stream(id, &mut context.events)
 }
 
+#[tactic(auto, using(sctp_endpoint::proofs::GoesOnLemmas::goes_on_same, sctp_endpoint::proofs::GoesOnLemmas::goes_on_through))]
 fn prepare_resets<C: Checksum>(
     context: &mut Context<C>,
     streams: &[StreamId],
 ) -> Result<(), AllocError>
-    ensures { OnOk result (context_of C.word_of context.new ≡ table.prepare_all (numbers_of streams.now) (context_of C.word_of context.old)) }
+    ensures ok { OnOk result (context_of C.word_of context.new ≡ table.prepare_all (numbers_of streams.now) (context_of C.word_of context.old)) }
+    ensures goes_on { GoesOn context.old context.new }
 {
     for id in streams {
         prepare_reset(context, *id)?;
@@ -378,13 +441,17 @@ fn is_outgoing(parameter: &Parameter) -> bool
 }
 
 /// RE-CONFIG.
+#[tactic(auto, using(sctp_reassembly::proofs::ExtendsLemmas::extends_none, sctp_endpoint::proofs::GoesOnLemmas::goes_on_same, sctp_endpoint::proofs::GoesOnLemmas::goes_on_through))]
 pub fn handle_reconfig<C: Checksum>(
     state: &mut State,
     context: &mut Context<C>,
     parameters: Vec<Parameter>,
 ) -> Result<(), AllocError>
-    ensures { OnOk result (endpoint_state_of C.word_of state.new context.new
+    ensures ok { OnOk result (endpoint_state_of C.word_of state.new context.new
         ≡ where_open (table.on_reconfig (map parameter_tree parameters.items)) (endpoint_state_of C.word_of state.old context.old)) }
+    ensures goes_on { GoesOn context.old context.new }
+    ensures ready { Extends (ready_in (state_of state.old)) (ready_in (state_of state.new)) }
+    ensures association { association_in (state_of state.new) ≡ association_in (state_of state.old) }
 {
     match state {
         State::Closed | State::CookieWait(_) => Ok(()),
@@ -404,6 +471,7 @@ fn reset_refusal(state: &State) -> Option<ResetStreamsError>
 }
 
 /// Streams are to be reset, once their partly sent messages have ended; or the call is refused, then the answer says why.
+#[tactic(auto, using(sctp_endpoint::proofs::GoesOnLemmas::goes_on_same, sctp_endpoint::proofs::GoesOnLemmas::goes_on_through))]
 pub fn reset_streams<C: Checksum>(
     state: &mut State,
     context: &mut Context<C>,
@@ -412,6 +480,10 @@ pub fn reset_streams<C: Checksum>(
     ensures answer { IfOk result (λ refusal. refusal ≡ table.reset_refusal (state_of state.old)) }
     ensures reset { OnOk result (endpoint_state_of C.word_of state.new context.new
         ≡ table.reset_streams (numbers_of streams.now) (endpoint_state_of C.word_of state.old context.old)) }
+    ensures goes_on { GoesOn context.old context.new }
+    ensures received { ready_in (state_of state.new) ≡ ready_in (state_of state.old) }
+    ensures association { association_in (state_of state.new) ≡ association_in (state_of state.old) }
+    ensures allowed { OnErr result (table.reset_refusal (state_of state.old) ≡ None) }
 {
     let refusal = reset_refusal(state);
     if refusal.is_none() {

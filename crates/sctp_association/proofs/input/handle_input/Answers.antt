@@ -4,14 +4,14 @@ use Rattle.sctp_endpoint.specs.Views.{endpoint_of}
 use Rattle.sctp_association.proofs.ReceiveLemmas.{received_ok, not_received_ok, on_ok_of}
 use Rattle.sctp_association.proofs.input.handle_input.Goals as goal
 
-pub returns-in-Ok : goal.returns-in-Ok
-returns-in-Ok g c =
+pub returns-in-Ok-clause-ok : goal.returns-in-Ok-clause-ok
+returns-in-Ok-clause-ok g c =
     let seen = c.in-Ok.ensures.packet in
     received_ok c.handle_packet.result (g.C.Checksum.word_of c.args.context.now.checksum) c.policy.result c.packet_word-word.result c.args.bytes.now (viewed_packet c.in-Ok.view seen.0)
-    (endpoint_of g.R.Rng.stream g.C.Checksum.word_of c.args.state.now c.args.context.now c.args.rng.now) _ (search rules) (search rules) seen.1 (c.handle_packet.ensures seen.0 seen.2)
+    (endpoint_of g.R.Rng.stream g.C.Checksum.word_of c.args.state.now c.args.context.now c.args.rng.now) _ (search rules) (search rules) seen.1 (c.handle_packet.ensures.ok seen.0 seen.2)
 
-pub returns-in-Err : goal.returns-in-Err
-returns-in-Err g c =
+pub returns-in-Err-clause-ok : goal.returns-in-Err-clause-ok
+returns-in-Err-clause-ok g c =
     not_received_ok c.refuse_bytes.result (g.C.Checksum.word_of c.args.context.now.checksum) c.policy.result c.packet_word-word.result c.args.bytes.now c.in-Err.field-0
     (endpoint_of g.R.Rng.stream g.C.Checksum.word_of c.args.state.now c.args.context.now c.args.rng.now) _ (search rules) (search rules) c.in-Err.ensures.refused
     (on_ok_of c.refuse_bytes.result c.in-Err.ensures.never_memory) (search rules)

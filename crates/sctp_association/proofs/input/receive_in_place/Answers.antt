@@ -12,17 +12,17 @@ pub receive-requires : goal.receive-requires
 receive-requires g c =
     carries_none (raw_chunk c.args.raw) (chunk_tree c.in_ok-chunk-in-None.chunk) c.in-None.ensures.no_data c.in-None.ensures.no_idata c.in_ok-chunk-in-None.ensures
 
-pub returns-in-Some : goal.returns-in-Some
-returns-in-Some g c =
+pub returns-in-Some-clause-ok : goal.returns-in-Some-clause-ok
+returns-in-Some-clause-ok g c =
     λ t is.
     subst (λ (u : ChunkTree). IfOk c.receive_data.result (λ goes_on. after_chunk_of g.R.Rng.stream g.C.Checksum.word_of c.receive_data.new.state c.receive_data.new.context c.args.rng.now goes_on
     ≡ table.receive c.args.tag u (endpoint_of g.R.Rng.stream g.C.Checksum.word_of c.args.state.now c.args.context.now c.args.rng.now)))
     (carries_it (raw_chunk c.args.raw) c.in-Some.fragment t c.in-Some.ensures.data c.in-Some.ensures.idata c.in-Some.ensures.carrier is)
-    (c.receive_data.ensures c.args.tag (g.R.Rng.stream c.args.rng.now))
+    (c.receive_data.ensures.ok c.args.tag (g.R.Rng.stream c.args.rng.now))
 
-pub returns-in_ok-chunk-in-None : goal.returns-in_ok-chunk-in-None
-returns-in_ok-chunk-in-None g c =
+pub returns-in_ok-chunk-in-None-clause-ok : goal.returns-in_ok-chunk-in-None-clause-ok
+returns-in_ok-chunk-in-None-clause-ok g c =
     λ t is.
     subst (λ (u : ChunkTree). IfOk c.receive.result (λ goes_on. after_chunk_of g.R.Rng.stream g.C.Checksum.word_of c.receive.new.state c.receive.new.context c.receive.new.rng goes_on
     ≡ table.receive c.args.tag u (endpoint_of g.R.Rng.stream g.C.Checksum.word_of c.args.state.now c.args.context.now c.args.rng.now)))
-    (one_chunk (raw_chunk c.args.raw) (chunk_tree c.in_ok-chunk-in-None.chunk) t c.in_ok-chunk-in-None.ensures is) c.receive.ensures
+    (one_chunk (raw_chunk c.args.raw) (chunk_tree c.in_ok-chunk-in-None.chunk) t c.in_ok-chunk-in-None.ensures is) c.receive.ensures.ok

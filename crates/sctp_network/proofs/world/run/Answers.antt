@@ -3,6 +3,7 @@ use Rattle.std.proofs.lemmas.Result.{on_ok_weaker, IfErr-weaker}
 use Rattle.proof_delivery.proofs.LawLemmas.{delivered, refused_none, delivered_then}
 use Rattle.spec_world.specs.World.{World}
 use Rattle.proof_awake.proofs.WorldLemmas.{worlds_awake}
+use Rattle.proof_awake.proofs.WorldLineLemmas.{worlds_lined}
 use Rattle.proof_world.proofs.AgreedLemmas.{worlds_agree}
 use Rattle.proof_world.proofs.ComposedLemmas.{compose}
 use Rattle.proof_world.proofs.OnceLemmas.{never_ran}
@@ -52,3 +53,6 @@ returns-clause-agrees g c = λ o actions l distinct. worlds_agree o actions _ l 
 
 pub returns-clause-awake : goal.returns-clause-awake
 returns-clause-awake g c = λ o actions l. worlds_awake o.a o.b o.draws_a o.draws_b o.word_of_a o.word_of_b actions _ l.valid_a l.valid_b l.runs
+
+pub returns-clause-no_line : goal.returns-clause-no_line
+returns-clause-no_line g c = λ o actions l. worlds_lined o actions _ l

@@ -12,8 +12,8 @@ add-requires-clause-room c = omega (arith, c.is_full.ensures.small c.if-is_full.
 pub add-requires-clause-fragments : goal.add-requires-clause-fragments
 add-requires-clause-fragments c = omega (arith, c.holds_most_fragments.ensures.small c.if-holds_most_fragments.false)
 
-pub returns-in_ok-add : goal.returns-in_ok-add
-returns-in_ok-add c =
+pub returns-in_ok-add-clause-ok : goal.returns-in_ok-add-clause-ok
+returns-in_ok-add-clause-ok c =
     let t = tcb_of c.args.tcb.now in
     let n = number_of t.tracker c.args.fragment.tsn.0 in
     let full : is_full t.reassembly ≡ false = search rules in

@@ -10,4 +10,4 @@ pub returns-clause-ok : goal.returns-clause-ok
 returns-clause-ok g c =
     let after = endpoint_of g.R.Rng.stream g.C.Checksum.word_of c.handle_input-done.new.state c.handle_input-done.new.context c.handle_input-done.new.rng in
     subst (λ (v : SocketValue _ _). Receives (g.C.Checksum.word_of v.context.checksum) c.args.bytes.now (endpoint g.R.Rng.stream g.C.Checksum.word_of v) after) c.self.view_is
-    (where_ok c.handle_input-done.result (ap is_err (sym c.in_ok-ended.ensures.same)) c.handle_input-done.ensures)
+    (where_ok c.handle_input-done.result (ap is_err (sym c.in_ok-ended.ensures.same)) c.handle_input-done.ensures.ok)

@@ -30,6 +30,18 @@ returns-in-Ok-clause-agrees g c =
     let l : IsReachable o (map action_of c.args.events.now) last = c.in-Ok.ensures.reachable o [] c.in_ok-world.ensures.reachable in
     (l.runs, λ distinct. c.run.ensures.agrees o (map action_of c.args.events.now) l distinct)
 
+pub returns-in-Ok-clause-awake : goal.returns-in-Ok-clause-awake
+returns-in-Ok-clause-awake g c =
+    let o : Origin = origin (options_of c.args.options_a.now) (options_of c.args.options_b.now) (g.R.Rng.stream c.args.rng_a) (g.R.Rng.stream c.args.rng_b)
+    (g.C.Checksum.word_of c.args.checksum_a) (g.C.Checksum.word_of c.args.checksum_b) in
+    c.run.ensures.awake o (map action_of c.args.events.now) (c.in-Ok.ensures.reachable o [] c.in_ok-world.ensures.reachable)
+
+pub returns-in-Ok-clause-no_line : goal.returns-in-Ok-clause-no_line
+returns-in-Ok-clause-no_line g c =
+    let o : Origin = origin (options_of c.args.options_a.now) (options_of c.args.options_b.now) (g.R.Rng.stream c.args.rng_a) (g.R.Rng.stream c.args.rng_b)
+    (g.C.Checksum.word_of c.args.checksum_a) (g.C.Checksum.word_of c.args.checksum_b) in
+    c.run.ensures.no_line o (map action_of c.args.events.now) (c.in-Ok.ensures.reachable o [] c.in_ok-world.ensures.reachable)
+
 pub returns-in-Ok-clause-works : goal.returns-in-Ok-clause-works
 returns-in-Ok-clause-works g c = c.in-Ok.ensures.works.1
 
