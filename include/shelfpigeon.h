@@ -129,7 +129,8 @@ enum {
     PIGEON_MESSAGE_INTERLEAVING = 2,           /* RFC 8260 */
     PIGEON_NO_CHECKSUM_VERIFICATION = 4,       /* for tests */
     PIGEON_HANDOVER_WITH_OUTSTANDING_DATA = 8,
-    PIGEON_HEARTBEAT_INTERVAL_INCLUDE_RTT = 16 /* NOT READ */
+    PIGEON_HEARTBEAT_INTERVAL_INCLUDE_RTT = 16, /* NOT READ */
+    PIGEON_AVOID_STALLS = 32                    /* what the RFCs ask, where the original stands still or loses; set by pigeon_options_for_webrtc */
 };
 
 /* What a socket is made with. Spans are in nanoseconds, sizes in bytes, windows in packets of the largest size. A field without bounds takes
@@ -169,7 +170,7 @@ typedef struct pigeon_options {
     uint32_t max_held_fragments;
     uint64_t rtt_max;
     uint64_t rto_initial;         /* at least a millisecond */
-    uint64_t rto_max;             /* at least rto_min; timers back off beyond it */
+    uint64_t rto_max;             /* at least rto_min; timers back off beyond it without PIGEON_AVOID_STALLS */
     uint64_t rto_min;             /* at least a millisecond */
     uint64_t t1_init_timeout;     /* at least a millisecond */
     uint64_t t1_cookie_timeout;   /* at least a millisecond */
@@ -191,8 +192,8 @@ typedef struct pigeon_options {
 uint32_t pigeon_default_options_sized(void *options, size_t size);
 static inline uint32_t pigeon_default_options(pigeon_options *options) { return pigeon_default_options_sized(options, options->size); }
 
-/* Writes the options of data channels (RFC 8831), which differ from the defaults in two: DTLS finds damage, where the peer says so too
- * (RFC 9653); and the window is twice the largest message of 262,144 bytes. The mtu of 1,191 leaves room for DTLS and UDP, there are 65,535
+/* Writes the options of data channels (RFC 8831), which differ from the defaults in three: DTLS finds damage, where the peer says so too
+ * (RFC 9653); the window is twice the largest message of 262,144 bytes; and PIGEON_AVOID_STALLS. The mtu of 1,191 leaves room for DTLS and UDP, there are 65,535
  * streams each way. With another largest message set max_message_size, and the window to twice what the peer may send. PIGEON_INVALID_SIZE. */
 uint32_t pigeon_options_for_webrtc_sized(void *options, size_t size);
 static inline uint32_t pigeon_options_for_webrtc(pigeon_options *options) { return pigeon_options_for_webrtc_sized(options, options->size); }
@@ -227,7 +228,8 @@ void pigeon_free(pigeon_socket *socket);
 /* Opens an association, where the socket is closed. Advance the time first. */
 uint32_t pigeon_connect(pigeon_socket *socket);
 /* No more messages are accepted, and the association ends once nothing is in flight (RFC 9260 section 9.2). What waits to be sent, or to be
- * sent again, isn't waited for and may be lost: wait until pigeon_is_at_rest says 1. A closed socket stays as it is. Advance the time first. */
+ * sent again, is waited for with PIGEON_AVOID_STALLS alone, and else may be lost: wait until pigeon_is_at_rest says 1. A closed socket stays as
+ * it is. Advance the time first. */
 uint32_t pigeon_shutdown(pigeon_socket *socket);
 /* Ends the association at once, with an ABORT to the peer (RFC 9260 section 9.1). The send queue stays, here and where the peer aborts: what it
  * holds goes to the peer of the next association, a partly sent message from its start. */
@@ -323,7 +325,7 @@ uint32_t pigeon_handover(pigeon_socket *socket, size_t *needed, uint8_t *buffer,
 /* Takes up a record in a closed socket that was made with the same options, and sends what may be sent; PIGEON_ON_CONNECTED is emitted. Advance
  * the time first, to the present: what is outstanding is dated back from the clock's moment. The retransmission timer starts with the next
  * fragment that goes out, or with a SACK that leaves some in flight, and heartbeats with the next data: until then pigeon_poll_timeout may be
- * UINT64_MAX. Thresholds of streams are the default again, and what the socket had queued is gone. Of a socket that was closed there is
+ * UINT64_MAX. With PIGEON_AVOID_STALLS both start at once. Thresholds of streams are the default again, and what the socket had queued is gone. Of a socket that was closed there is
  * nothing to take up. PIGEON_NOT_CLOSED, PIGEON_INVALID_STATE, PIGEON_NO_ROOM: nothing changes. */
 uint32_t pigeon_restore(pigeon_socket *socket, const uint8_t *bytes, size_t length);
 
@@ -394,7 +396,8 @@ typedef struct pigeon_message {
 } pigeon_message;
 
 /* Hands out the message that was ready first. PIGEON_SHORT_BUFFER: it stays, and `length` says what it needs. Messages go with their
- * association: once it has ended none is ready, so take them each turn. */
+ * association: once it has ended none is ready, so take them each turn. With PIGEON_AVOID_STALLS the peer may have to be told that there is room
+ * again: then pigeon_poll_timeout names this moment. */
 uint32_t pigeon_next_message(pigeon_socket *socket, pigeon_message *message, uint8_t *buffer, size_t length);
 
 /* The same without a copy: the `length` bytes at `payload` are the socket's, and are lent until the next call with it. They are let go when

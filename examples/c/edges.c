@@ -136,7 +136,7 @@ static void not_made(pigeon_options options) {
     is("short seed", pigeon_new_sized(&end, &options, sizeof options, seed_of(1), 31), PIGEON_INVALID_ARGUMENT);
     is("mtu", pigeon_new(&end, &other, seed_of(1)), PIGEON_INVALID_OPTIONS);
     other = options;
-    other.flags = 32;
+    other.flags = 64;
     is("flags", pigeon_new(&end, &other, seed_of(1)), PIGEON_INVALID_ARGUMENT);
     other = options;
     other.checksum = 2;

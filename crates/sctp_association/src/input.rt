@@ -55,7 +55,7 @@ fn maybe_send_sack<C: Checksum>(
     phase: &Phase,
     tcb: &mut TransmissionControlBlock,
 ) -> Result<(), AllocError>
-    ensures ok { OnOk result (opened_of C.word_of phase.now tcb.new context.new ≡ table.on_packet_end (phase_of phase.now) (tcb_of tcb.old) (context_of C.word_of context.old)) }
+    ensures ok { OnOk result (opened_of C.word_of phase.now tcb.new context.new ≡ table.packet_acked (phase_of phase.now) (tcb_of tcb.old) (context_of C.word_of context.old)) }
     ensures goes_on { GoesOn context.old context.new }
     ensures received { tcb.new.reassembly_queue ≡ tcb.old.reassembly_queue }
     ensures identity { tcb.new.identity ≡ tcb.old.identity }
@@ -69,6 +69,26 @@ fn maybe_send_sack<C: Checksum>(
     let sack = tcb.data_tracker.create_selective_ack(window)?;
     packet.add(Chunk::Sack(sack))?;
     context.send_buffered_packets_with(tcb, phase.is_before_cookie_ack(), packet)
+}
+
+/// The end of a packet. With stalls avoided a shutdown that waited goes on behind all that was sent: what waited may have expired.
+#[tactic(auto, using(sctp_endpoint::proofs::GoesOnLemmas::goes_on_same, sctp_endpoint::proofs::GoesOnLemmas::goes_on_through))]
+fn end_packet<C: Checksum>(
+    context: &mut Context<C>,
+    phase: &mut Phase,
+    tcb: &mut TransmissionControlBlock,
+) -> Result<(), AllocError>
+    ensures ok { OnOk result (opened_of C.word_of phase.new tcb.new context.new ≡ table.on_packet_end (phase_of phase.old) (tcb_of tcb.old) (context_of C.word_of context.old)) }
+    ensures goes_on { GoesOn context.old context.new }
+    ensures received { tcb.new.reassembly_queue ≡ tcb.old.reassembly_queue }
+    ensures identity { tcb.new.identity ≡ tcb.old.identity }
+{
+    let avoids_stalls = context.options.avoid_stalls;
+    maybe_send_sack(context, phase, tcb)?;
+    if avoids_stalls {
+        context.maybe_send_shutdown_or_ack(phase, tcb)?;
+    }
+    Ok(())
 }
 
 /// After the own SHUTDOWN: it goes out again, and its timer starts anew (RFC 9260 section 9.2).
@@ -318,7 +338,7 @@ fn on_packet_end<C: Checksum>(state: &mut State, context: &mut Context<C>) -> Re
 {
     match state {
         State::Closed | State::CookieWait(_) => Ok(()),
-        State::Open(phase, tcb) => maybe_send_sack(context, phase, tcb),
+        State::Open(phase, tcb) => end_packet(context, phase, tcb),
     }
 }
 

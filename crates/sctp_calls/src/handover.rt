@@ -166,6 +166,19 @@ pub fn hand_over<C: Checksum>(
     }
 }
 
+/// With stalls avoided the timers of items and of heartbeats start; else they do with the first data that is sent.
+#[tactic(auto, using(sctp_endpoint::proofs::GoesOnLemmas::goes_on_same, sctp_endpoint::proofs::GoesOnLemmas::goes_on_through))]
+fn wake<C: Checksum>(context: &mut Context<C>, tcb: &mut TransmissionControlBlock)
+    ensures ok { after_sending_of C.word_of tcb.new context.new ≡ table.woken_if context.old.options.avoid_stalls (tcb_of tcb.old) (context_of C.word_of context.old) }
+    ensures goes_on { GoesOn context.old context.new }
+    ensures identity { tcb.new.identity ≡ tcb.old.identity }
+{
+    if context.options.avoid_stalls {
+        tcb.retransmission_queue.wake(context.clock);
+        context.restart_heartbeat_interval();
+    }
+}
+
 /// The association of a record goes on; it is new to the user of this socket.
 #[tactic(auto, using(sctp_endpoint::proofs::GoesOnLemmas::goes_on_same, sctp_endpoint::proofs::GoesOnLemmas::goes_on_through, sctp_endpoint::proofs::GoesOnLemmas::goes_on_as))]
 fn take_up<C: Checksum>(
@@ -183,7 +196,8 @@ fn take_up<C: Checksum>(
     context
         .send_queue
         .restore_from_state(context.clock, handed_over)?;
-    let tcb = tcb_from(context, handed_over)?;
+    let mut tcb = tcb_from(context, handed_over)?;
+    wake(context, &mut tcb);
     state.enter(State::Open(Phase::Established, tcb));
     context.emit_event(SocketEvent::OnConnected())?;
     send_waiting(state, context)

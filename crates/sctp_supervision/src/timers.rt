@@ -104,18 +104,47 @@ fn abort_or_send<C: Checksum>(
     Ok(false)
 }
 
+/// The first moment at which something is owed that no timer brings: an acknowledgement at once, a forward point where its limit ends.
+fn first_owed<C: Checksum>(context: &Context<C>, tcb: &TransmissionControlBlock) -> SocketTime
+    ensures { result ≡ table.first_owed (tcb_of tcb.now) (context_of C.word_of context.now) }
+{
+    let forward_point = if tcb.retransmission_queue.has_forward_point() {
+        context.limit_forward_tsn_until
+    } else {
+        SocketTime::infinite_future()
+    };
+    if tcb.data_tracker.owes_ack() {
+        context.clock.min(forward_point)
+    } else {
+        forward_point
+    }
+}
+
+/// With stalls avoided what is owed is sent, where packets may go out.
+fn sends_owed<C: Checksum>(context: &Context<C>) -> bool
+    ensures { result ≡ table.sends_owed (context_of C.word_of context.now) }
+{
+    context.options.avoid_stalls && 0 < context.options.max_burst
+}
+
+fn is_owed<C: Checksum>(context: &Context<C>, tcb: &TransmissionControlBlock) -> bool
+    ensures { result ≡ table.is_owed (tcb_of tcb.now) (context_of C.word_of context.now) }
+{
+    sends_owed(context) && first_owed(context, tcb) <= context.clock
+}
+
 #[tactic(auto, using(sctp_endpoint::proofs::GoesOnLemmas::goes_on_same, sctp_endpoint::proofs::GoesOnLemmas::goes_on_through))]
 fn after_ticks<C: Checksum>(
     context: &mut Context<C>,
     tcb: &mut TransmissionControlBlock,
     has_expired: bool,
 ) -> Result<bool, AllocError>
-    ensures ok { IfOk result (λ ended. timer_outcome_of C.word_of tcb.new context.new ended ≡ table.after_ticks_if has_expired (tcb_of tcb.old) (context_of C.word_of context.old)) }
+    ensures ok { IfOk result (λ ended. timer_outcome_of C.word_of tcb.new context.new ended ≡ table.after_ticks (ticking_of C.word_of tcb.old context.old has_expired)) }
     ensures goes_on { GoesOn context.old context.new }
     ensures received { tcb.new.reassembly_queue ≡ tcb.old.reassembly_queue }
     ensures identity { tcb.new.identity ≡ tcb.old.identity }
 {
-    if has_expired {
+    if has_expired || is_owed(context, tcb) {
         abort_or_send(context, tcb)
     } else {
         Ok(false)
@@ -327,9 +356,14 @@ fn next_timeout(tcb: &TransmissionControlBlock) -> SocketTime
 
 /// The timers of an association that is established or is being shut down, but for T2-shutdown.
 fn running_expiry<C: Checksum>(context: &Context<C>, tcb: &TransmissionControlBlock) -> SocketTime
-    ensures { result ≡ table.running_expiry (tcb_of tcb.now) context.now.heartbeats }
+    ensures { result ≡ table.running_expiry (tcb_of tcb.now) (context_of C.word_of context.now) }
 {
-    next_timeout(tcb).min(heartbeat_expiry(context))
+    let expiry = next_timeout(tcb).min(heartbeat_expiry(context));
+    if sends_owed(context) {
+        first_owed(context, tcb).min(expiry)
+    } else {
+        SocketTime::infinite_future().min(expiry)
+    }
 }
 
 fn phase_expiry<C: Checksum>(
@@ -337,7 +371,7 @@ fn phase_expiry<C: Checksum>(
     phase: &Phase,
     tcb: &TransmissionControlBlock,
 ) -> SocketTime
-    ensures { result ≡ table.phase_expiry (phase_of phase.now) (tcb_of tcb.now) context.now.heartbeats }
+    ensures { result ≡ table.phase_expiry (phase_of phase.now) (tcb_of tcb.now) (context_of C.word_of context.now) }
 {
     match phase {
         Phase::CookieEchoed(echoed) => echoed.t1_cookie.next_expiry(),
