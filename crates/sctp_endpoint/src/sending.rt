@@ -258,7 +258,7 @@ impl<C: Checksum> Context<C> {
     }
 
     /// The most packets of a burst.
-    fn max_burst(&self) -> u32
+    pub fn max_burst(&self) -> u32
         ensures { result ≡ self.now.options.max_burst }
     {
         u32::try_from(self.options.max_burst).unwrap_or(0)

@@ -1,6 +1,6 @@
 //! Time: which timers a state looks at, and what their expiries lead to.
 
-ghost use Rattle.std.specs.Prelude.{◌≡◌, cond, IfOk, OnErr, OnOk};
+ghost use Rattle.std.specs.Prelude.{◌≡◌, ◌||◌, cond, IfOk, OnErr, OnOk};
 ghost use Rattle.sctp_endpoint.specs.GoesOn.{GoesOn};
 ghost use Rattle.sctp_endpoint.specs.Views.{context_of, timer_outcome_of, phase_of, endpoint_state_after, endpoint_state_of, state_of, tcb_of, ticking_of, init_outcome_of};
 ghost use Rattle.sctp_state.specs.Timer.{expire};
@@ -104,33 +104,49 @@ fn abort_or_send<C: Checksum>(
     Ok(false)
 }
 
+/// This moment where something is due at it, else none.
+fn moment_if(is_due: bool, moment: SocketTime) -> SocketTime
+    ensures { result ≡ table.moment_if is_due moment }
+{
+    if is_due {
+        moment
+    } else {
+        SocketTime::infinite_future()
+    }
+}
+
 /// The first moment at which something is owed that no timer brings: an acknowledgement at once, a forward point where its limit ends.
 fn first_owed<C: Checksum>(context: &Context<C>, tcb: &TransmissionControlBlock) -> SocketTime
     ensures { result ≡ table.first_owed (tcb_of tcb.now) (context_of C.word_of context.now) }
 {
-    let forward_point = if tcb.retransmission_queue.has_forward_point() {
-        context.limit_forward_tsn_until
-    } else {
-        SocketTime::infinite_future()
-    };
-    if tcb.data_tracker.owes_ack() {
-        context.clock.min(forward_point)
-    } else {
-        forward_point
-    }
+    let ack = moment_if(tcb.data_tracker.owes_ack(), context.clock);
+    let has_point = tcb.retransmission_queue.has_forward_point();
+    ack.min(moment_if(has_point, context.limit_forward_tsn_until))
 }
 
 /// With stalls avoided what is owed is sent, where packets may go out.
 fn sends_owed<C: Checksum>(context: &Context<C>) -> bool
     ensures { result ≡ table.sends_owed (context_of C.word_of context.now) }
 {
-    context.options.avoid_stalls && 0 < context.options.max_burst
+    context.options.avoid_stalls && context.max_burst() != 0
 }
 
-fn is_owed<C: Checksum>(context: &Context<C>, tcb: &TransmissionControlBlock) -> bool
-    ensures { result ≡ table.is_owed (tcb_of tcb.now) (context_of C.word_of context.now) }
+/// From when on something is owed that is sent.
+fn owed_moment<C: Checksum>(context: &Context<C>, tcb: &TransmissionControlBlock) -> SocketTime
+    ensures { result ≡ table.owed_moment (tcb_of tcb.now) (context_of C.word_of context.now) }
 {
-    sends_owed(context) && first_owed(context, tcb) <= context.clock
+    moment_if(sends_owed(context), first_owed(context, tcb))
+}
+
+/// A timer has expired, or something is owed by now.
+fn sends_now<C: Checksum>(
+    context: &Context<C>,
+    tcb: &TransmissionControlBlock,
+    has_expired: bool,
+) -> bool
+    ensures { result ≡ (has_expired || table.is_owed (tcb_of tcb.now) (context_of C.word_of context.now)) }
+{
+    has_expired || (sends_owed(context) && first_owed(context, tcb) <= context.clock)
 }
 
 #[tactic(auto, using(sctp_endpoint::proofs::GoesOnLemmas::goes_on_same, sctp_endpoint::proofs::GoesOnLemmas::goes_on_through))]
@@ -144,7 +160,7 @@ fn after_ticks<C: Checksum>(
     ensures received { tcb.new.reassembly_queue ≡ tcb.old.reassembly_queue }
     ensures identity { tcb.new.identity ≡ tcb.old.identity }
 {
-    if has_expired || is_owed(context, tcb) {
+    if sends_now(context, tcb, has_expired) {
         abort_or_send(context, tcb)
     } else {
         Ok(false)
@@ -359,11 +375,7 @@ fn running_expiry<C: Checksum>(context: &Context<C>, tcb: &TransmissionControlBl
     ensures { result ≡ table.running_expiry (tcb_of tcb.now) (context_of C.word_of context.now) }
 {
     let expiry = next_timeout(tcb).min(heartbeat_expiry(context));
-    if sends_owed(context) {
-        first_owed(context, tcb).min(expiry)
-    } else {
-        SocketTime::infinite_future().min(expiry)
-    }
+    owed_moment(context, tcb).min(expiry)
 }
 
 fn phase_expiry<C: Checksum>(

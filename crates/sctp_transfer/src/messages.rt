@@ -1,6 +1,6 @@
 //! Messages that are ready to be handed out.
 
-ghost use Rattle.std.specs.Prelude.{◌≡◌, length, option_map, slice_get};
+ghost use Rattle.std.specs.Prelude.{◌≡◌, ◌&&◌, nat_lt, nat_le, length, option_map, slice_get};
 ghost use Rattle.sctp_serial.specs.Messages.{message_of};
 ghost use Rattle.sctp_state.specs.Events.{first_of};
 ghost use Rattle.sctp_state.specs.Options.{IsValid, options_of};
@@ -50,19 +50,41 @@ fn least_window(options: &Options) -> usize
     widest.min(options.mtu.max(widest / 4))
 }
 
+/// Whether the window opens, from so many bytes to so many, where the peer is to be told so.
+fn opens_window(options: &Options, before: usize, after: usize) -> bool
+    requires { IsValid (options_of options.now) }
+    ensures { result ≡ ((options_of options.now).avoid_stalls
+        && (nat_lt before (table.least_window (options_of options.now)) && nat_le (table.least_window (options_of options.now)) after)) }
+{
+    let least = least_window(options);
+    options.avoid_stalls && (before < least && least <= after)
+}
+
+fn first_message(tcb: &mut TransmissionControlBlock) -> Option<Message>
+    ensures message { option_map message_of result ≡ first_of (tcb_of tcb.old).reassembly.ready }
+    ensures rest { tcb_of tcb.new ≡ table.without_first_message (tcb_of tcb.old) }
+{
+    tcb.reassembly_queue.get_next_message()
+}
+
+fn tell_if(opens: bool, tcb: &mut TransmissionControlBlock)
+    ensures { tcb_of tcb.new ≡ table.told_if opens (tcb_of tcb.old) }
+{
+    if opens {
+        tcb.data_tracker.force_immediate_sack();
+    }
+}
+
 /// Hands out the message that was ready first. With stalls avoided an acknowledgement is due where the window opens by it.
 fn take_first(tcb: &mut TransmissionControlBlock, options: &Options) -> Option<Message>
     requires { IsValid (options_of options.now) }
     ensures message { option_map message_of result ≡ first_of (tcb_of tcb.old).reassembly.ready }
     ensures rest { tcb_of tcb.new ≡ table.message_taken (options_of options.now) (tcb_of tcb.old) }
 {
-    let least = least_window(options);
-    let was_closed = tcb.reassembly_queue.remaining_bytes() < least;
-    let message = tcb.reassembly_queue.get_next_message();
-    let is_open = least <= tcb.reassembly_queue.remaining_bytes();
-    if options.avoid_stalls && was_closed && is_open {
-        tcb.data_tracker.force_immediate_sack();
-    }
+    let before = tcb.reassembly_queue.remaining_bytes();
+    let message = first_message(tcb);
+    let after = tcb.reassembly_queue.remaining_bytes();
+    tell_if(opens_window(options, before, after), tcb);
     message
 }
 

@@ -77,12 +77,15 @@ fn is_late(tcb: &TransmissionControlBlock, options: &Options, tsn: Tsn) -> bool
 fn sampled_unless(is_late: bool, answer: HandleSackResult) -> HandleSackResult
     ensures { answer_of result ≡ sampled_unless is_late (answer_of answer) }
 {
+    if !is_late {
+        return answer;
+    }
     match answer {
         HandleSackResult::Valid {
-            rtt,
             reset_error_counter,
+            ..
         } => HandleSackResult::Valid {
-            rtt: if is_late { None } else { rtt },
+            rtt: None,
             reset_error_counter,
         },
         HandleSackResult::Invalid => HandleSackResult::Invalid,
