@@ -23,7 +23,7 @@ impl OutstandingData {
             return false;
         }
         match self.kept.get((number - self.acked - 1) as usize) {
-            Some(item) => !item.is_acked() && !item.is_abandoned(),
+            Some(item) => item.is_outstanding() || item.should_be_retransmitted(),
             None => false,
         }
     }
