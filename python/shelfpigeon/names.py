@@ -75,6 +75,7 @@ class OptionFlags(enum.IntFlag):
     NO_CHECKSUM_VERIFICATION = 4
     HANDOVER_WITH_OUTSTANDING_DATA = 8
     HEARTBEAT_INTERVAL_INCLUDE_RTT = 16
+    AVOID_STALLS = 32
 
 
 class State(enum.IntEnum):
