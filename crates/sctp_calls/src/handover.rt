@@ -10,7 +10,7 @@ ghost use Rattle.spec_endpoint.specs.Association.{Closed, Established, Open};
 ghost use Rattle.spec_endpoint.specs.Shown.{association_in};
 ghost use Rattle.spec_endpoint.specs.Packets.{emit_event_in};
 ghost use Rattle.sctp_endpoint.specs.GoesOn.{GoesOn};
-ghost use Rattle.sctp_endpoint.specs.Views.{context_of, phase_of, endpoint_state_of, state_of, tcb_of};
+ghost use Rattle.sctp_endpoint.specs.Views.{after_sending_of, context_of, phase_of, endpoint_state_of, state_of, tcb_of};
 ghost use Rattle.spec_endpoint.specs.Handover as table;
 
 use sctp_capabilities::Capabilities;

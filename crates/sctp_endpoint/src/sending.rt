@@ -95,9 +95,8 @@ impl<C: Checksum> Context<C> {
     fn forward_pause(&self, span: Duration) -> Duration
         ensures { as_nanos result ≡ forward_pause self.now.options.avoid_stalls (as_nanos span) }
     {
-        let least = Duration::from_millis(1);
-        if self.options.avoid_stalls && span.as_nanos() < least.as_nanos() {
-            least
+        if self.options.avoid_stalls {
+            span.max(Duration::from_millis(1))
         } else {
             span
         }
