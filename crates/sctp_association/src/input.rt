@@ -71,7 +71,25 @@ fn maybe_send_sack<C: Checksum>(
     context.send_buffered_packets_with(tcb, phase.is_before_cookie_ack(), packet)
 }
 
-/// The end of a packet. With stalls avoided a shutdown that waited goes on behind all that was sent: what waited may have expired.
+/// With stalls avoided a shutdown that waited goes on.
+#[tactic(auto, using(sctp_endpoint::proofs::GoesOnLemmas::goes_on_same, sctp_endpoint::proofs::GoesOnLemmas::goes_on_through))]
+fn shut_if<C: Checksum>(
+    avoids_stalls: bool,
+    context: &mut Context<C>,
+    phase: &mut Phase,
+    tcb: &TransmissionControlBlock,
+) -> Result<(), AllocError>
+    ensures ok { OnOk result (opened_of C.word_of phase.new tcb.now context.new ≡ table.shut_if avoids_stalls (opened_of C.word_of phase.old tcb.now context.old)) }
+    ensures goes_on { GoesOn context.old context.new }
+{
+    if avoids_stalls {
+        context.maybe_send_shutdown_or_ack(phase, tcb)
+    } else {
+        Ok(())
+    }
+}
+
+/// The end of a packet: behind all that is sent then, since what a shutdown waited for may have expired.
 #[tactic(auto, using(sctp_endpoint::proofs::GoesOnLemmas::goes_on_same, sctp_endpoint::proofs::GoesOnLemmas::goes_on_through))]
 fn end_packet<C: Checksum>(
     context: &mut Context<C>,
@@ -85,10 +103,7 @@ fn end_packet<C: Checksum>(
 {
     let avoids_stalls = context.options.avoid_stalls;
     maybe_send_sack(context, phase, tcb)?;
-    if avoids_stalls {
-        context.maybe_send_shutdown_or_ack(phase, tcb)?;
-    }
-    Ok(())
+    shut_if(avoids_stalls, context, phase, tcb)
 }
 
 /// After the own SHUTDOWN: it goes out again, and its timer starts anew (RFC 9260 section 9.2).

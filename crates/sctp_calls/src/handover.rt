@@ -171,7 +171,7 @@ pub fn hand_over<C: Checksum>(
 fn wake<C: Checksum>(context: &mut Context<C>, tcb: &mut TransmissionControlBlock)
     ensures ok { after_sending_of C.word_of tcb.new context.new ≡ table.woken_if context.old.options.avoid_stalls (tcb_of tcb.old) (context_of C.word_of context.old) }
     ensures goes_on { GoesOn context.old context.new }
-    ensures identity { tcb.new.identity ≡ tcb.old.identity }
+    ensures association { association_in (Open Established (tcb_of tcb.new)) ≡ association_in (Open Established (tcb_of tcb.old)) }
 {
     if context.options.avoid_stalls {
         tcb.retransmission_queue.wake(context.clock);
@@ -179,7 +179,23 @@ fn wake<C: Checksum>(context: &mut Context<C>, tcb: &mut TransmissionControlBloc
     }
 }
 
-/// The association of a record goes on; it is new to the user of this socket.
+/// The association goes on; it is new to the user of this socket.
+#[tactic(auto, using(sctp_endpoint::proofs::GoesOnLemmas::goes_on_same, sctp_endpoint::proofs::GoesOnLemmas::goes_on_through))]
+fn go_on<C: Checksum>(
+    state: &mut State,
+    context: &mut Context<C>,
+    tcb: TransmissionControlBlock,
+) -> Result<(), AllocError>
+    ensures ok { OnOk result (endpoint_state_of C.word_of state.new context.new ≡ table.goes_on (after_sending_of C.word_of tcb context.old)) }
+    ensures goes_on { GoesOn context.old context.new }
+    ensures held { OnErr result (association_in (state_of state.new) ≡ association_in (Open Established (tcb_of tcb))) }
+{
+    state.enter(State::Open(Phase::Established, tcb));
+    context.emit_event(SocketEvent::OnConnected())?;
+    send_waiting(state, context)
+}
+
+/// The association of a record goes on.
 #[tactic(auto, using(sctp_endpoint::proofs::GoesOnLemmas::goes_on_same, sctp_endpoint::proofs::GoesOnLemmas::goes_on_through, sctp_endpoint::proofs::GoesOnLemmas::goes_on_as))]
 fn take_up<C: Checksum>(
     state: &mut State,
@@ -198,9 +214,7 @@ fn take_up<C: Checksum>(
         .restore_from_state(context.clock, handed_over)?;
     let mut tcb = tcb_from(context, handed_over)?;
     wake(context, &mut tcb);
-    state.enter(State::Open(Phase::Established, tcb));
-    context.emit_event(SocketEvent::OnConnected())?;
-    send_waiting(state, context)
+    go_on(state, context, tcb)
 }
 
 /// A valid record is taken up by a closed socket. Of a socket that was closed there is nothing to take up.
