@@ -1,6 +1,5 @@
 -- What a call leaves of what was emitted, read off the socket.
-use Rattle.std.proofs.Common.{◌≡◌, ◌⊎◌, inl, inr, ℕ, List, [], Option, Some, true, Result, Ok, Err, OnErr, refl, ap, sym, subst}
-use Rattle.std.specs.Prelude.{is_err}
+use Rattle.std.proofs.Common.{◌≡◌, ◌⊎◌, inl, inr, ℕ, List, [], Some, refl, sym, subst}
 use Rattle.sctp_serial.specs.Messages.{Message}
 use Rattle.sctp_state.specs.Events.{Emitted, Grown}
 use Rattle.sctp_state.specs.Handover.{HandoverState}
@@ -10,8 +9,8 @@ use Rattle.sctp_endpoint.specs.Views.{ContextValue}
 use Rattle.sctp_reassembly.specs.Delivery.{Extends}
 use Rattle.sctp_reassembly.proofs.ExtendsLemmas.{extends_none, extends_by}
 use Rattle.spec_endpoint.specs.Calls.{ready_in}
-use Rattle.spec_endpoint.specs.Shown.{Association, association_in}
-use Rattle.sctp_association.specs.Socket.{SocketValue, LeavesAtMemory, LeavesRestoring, association_from}
+use Rattle.spec_endpoint.specs.Shown.{association_in}
+use Rattle.sctp_association.specs.Socket.{SocketValue, LeavesRestoring, association_from}
 
 module _ {R C : Type 0} (v s : SocketValue R C) (is : v ≡ s) where
   pub stands_same : Grown s.context.emitted v.context.emitted
@@ -22,25 +21,6 @@ module _ {R C : Type 0} (v s : SocketValue R C) (is : v ≡ s) where
 
   pub stands_on : (t : Emitted (List ℕ)) → Grown v.context.emitted t → Grown s.context.emitted t
   stands_on t g = subst (λ (u : SocketValue R C). Grown u.context.emitted t) is g
-
-module _ {R C : Type 0} (v s : SocketValue R C) (is : v ≡ s) where
-  pub left_by : (w : SocketValue R C) → Grown v.context.emitted w.context.emitted → association_in w.state ≡ association_in v.state → ready_in w.state ≡ ready_in v.state
-      → LeavesAtMemory s w
-  left_by w g a r = subst (λ (u : SocketValue R C). LeavesAtMemory u w) is (record {
-    emitted = g;
-    association = a;
-    ready = subst (λ (ms : List Message). Extends (ready_in v.state) ms) (sym r) (extends_none (ready_in v.state));
-  })
-
-  pub left_as : (w : SocketValue R C) → Grown v.context.emitted w.context.emitted → w.state ≡ v.state → LeavesAtMemory s w
-  left_as w g e = left_by w g (ap association_in e) (ap ready_in e)
-
-pub left_alone : {R C : Type 0} (s : SocketValue R C) → LeavesAtMemory s s
-left_alone s = record { emitted = grown_same s.context.emitted; association = refl; ready = extends_none (ready_in s.state) }
-
-pub where_err : {T E : Type 0} (r : Result T E) {P : Type 0} → is_err r ≡ true → OnErr r P → P
-where_err (Ok x) e p = absurd (cc)
-where_err (Err x) e p = p
 
 -- ---- a record that is taken up
 
@@ -53,6 +33,3 @@ module _ {R C : Type 0} (h : HandoverState) (v s : SocketValue R C) (is : v ≡ 
       → (association_in w.state ≡ association_in v.state) ⊎ (association_in w.state ≡ Some (association_from h))
       → (ready_in v.state ≡ []) ⊎ (ready_in w.state ≡ ready_in v.state) → LeavesRestoring h s w
   restoring_by w g a r = subst (λ (u : SocketValue R C). LeavesRestoring h u w) is (record { emitted = g; association = a; ready = none_or_same (ready_in v.state) (ready_in w.state) r })
-
-pub restoring_alone : {R C : Type 0} (h : HandoverState) (s : SocketValue R C) → LeavesRestoring h s s
-restoring_alone h s = record { emitted = grown_same s.context.emitted; association = inl refl; ready = extends_none (ready_in s.state) }

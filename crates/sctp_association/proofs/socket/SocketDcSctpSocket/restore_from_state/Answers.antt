@@ -1,9 +1,6 @@
 use Rattle.sctp_state.specs.Handover.{handover_state_of}
-use Rattle.sctp_association.proofs.StandsLemmas.{restoring_by, restoring_alone}
+use Rattle.sctp_association.proofs.StandsLemmas.{restoring_by}
 use Rattle.sctp_association.proofs.socket.SocketDcSctpSocket.restore_from_state.Goals as goal
-
-pub returns-then-branch-clause-at_memory : goal.returns-then-branch-clause-at_memory
-returns-then-branch-clause-at_memory g c = restoring_alone (handover_state_of c.args.state.now) c.args.self.now
 
 pub returns-in_err-ended-clause-at_memory : goal.returns-in_err-ended-clause-at_memory
 returns-in_err-ended-clause-at_memory g c =
