@@ -63,9 +63,9 @@ dropped_by avoids false valid tsn is_immediate f t e = refl
 -- one that has room is taken as ever
 pub kept_so : (o : Options) (tsn : ℕ) (is_immediate : Bool) (f : FragmentTree) (t u : Tcb) → has_room o tsn t ≡ true
     → u ≡ fragment_if (is_valid t.tracker.tracker (number_of t.tracker tsn)) tsn is_immediate f t → u ≡ take_data o tsn is_immediate f t
-kept_so o tsn is_immediate f t u room e = e ∙ kept_by o.avoid_stalls _ (is_valid t.tracker.tracker (number_of t.tracker tsn)) tsn is_immediate f t room
+kept_so o tsn is_immediate f t u room e = e ∙ kept_by o.avoid_stalls (has_room o tsn t) (is_valid t.tracker.tracker (number_of t.tracker tsn)) tsn is_immediate f t room
 
 -- another one may be told of
 pub dropped_so : (o : Options) (tsn : ℕ) (is_immediate : Bool) (f : FragmentTree) (t u : Tcb) → has_room o tsn t ≡ false
     → u ≡ told_of_drop o.avoid_stalls false t → u ≡ take_data o tsn is_immediate f t
-dropped_so o tsn is_immediate f t u room e = e ∙ dropped_by o.avoid_stalls _ (is_valid t.tracker.tracker (number_of t.tracker tsn)) tsn is_immediate f t room
+dropped_so o tsn is_immediate f t u room e = e ∙ dropped_by o.avoid_stalls (has_room o tsn t) (is_valid t.tracker.tracker (number_of t.tracker tsn)) tsn is_immediate f t room
