@@ -1,5 +1,5 @@
 -- Rows of the calls that send, of resets and of the passing of time: its timers run after each where they ran before.
-use Rattle.std.proofs.Common.{◌≡◌, ◌∙◌, cond, ℕ, Bool, true, false, Option, Some, None, List, [], ◌∷◌, codes, refl, sym, ap, subst, arith}
+use Rattle.std.proofs.Common.{◌≡◌, ◌∙◌, cond, ℕ, Bool, true, false, Option, Some, None, List, [], ◌∷◌, codes, refl, sym, ap, subst, arith, ◌||◌}
 use Rattle.std.specs.Prelude.{◌&&◌, ◌||◌, nat_lt}
 use Rattle.sctp_serial.specs.Messages.{Message}
 use Rattle.sctp_serial.specs.declared.api.StreamId.{StreamId}
@@ -24,15 +24,15 @@ use Rattle.spec_endpoint.specs.ResetRequests.{Requests, Outcome, Unsettled, Done
 use Rattle.spec_endpoint.specs.Sending.{AfterSending, is_before_cookie_ack, add_request, send_cookie, send_in}
 use Rattle.spec_endpoint.specs.Shutdown.{send_shutdown, send_shutdown_ack, too_many}
 use Rattle.spec_endpoint.specs.StreamReset.{Handling, handling, process, is_ahead, resets_if, outgoing_by, incoming_if, on_outcome, is_outgoing, on_parameter, HandledParameters, handle_next, handle_all, send_responses, finish_reconfig_if, on_reconfig, prepare_reset_stream, prepare_all, reset_if, reset_refusal}
-use Rattle.spec_endpoint.specs.Timers.{Ticking, tick_ack, t3_if, tick_t3, tick_interval, tick_timeout, request_again, errs_if, requests_if, ticking, tick_timers, TimerOutcome, after_timers, abort_if, abort_or_send_if, after_ticks_if, after_ticks, t2_expired, t2_if, waits_if, t1_expired, t1_if, after_init_timer, init_expired, init_if, tick_open, tick_in, advance_if, advance}
-use Rattle.spec_endpoint.specs.Calls.{shown_state, send_refusal, send_refusal_of, offered, offer, offer_all, sent_if, send, send_many, take_message}
+use Rattle.spec_endpoint.specs.Timers.{Ticking, tick_ack, t3_if, tick_t3, tick_interval, tick_timeout, request_again, errs_if, requests_if, ticking, tick_timers, TimerOutcome, after_timers, abort_if, abort_or_send_if, after_ticks_if, after_ticks, t2_expired, t2_if, waits_if, t1_expired, t1_if, after_init_timer, init_expired, init_if, tick_open, tick_in, advance_if, advance, is_owed}
+use Rattle.spec_endpoint.specs.Calls.{shown_state, send_refusal, send_refusal_of, offered, offer, offer_all, sent_if, send, send_many, take_message, told_if, opens_window, without_first_message}
 use Rattle.proof_awake.specs.Awake.{Runs}
 use Rattle.proof_awake.specs.Invariant.{BlockHolds, Beats, ContextHolds, is_established, waits, PhaseRuns, StateHolds}
 use Rattle.proof_awake.proofs.TimerLemmas.{expire_restarts, beats_after}
 use Rattle.proof_awake.proofs.SenderLemmas.{timeout_holds}
 use Rattle.proof_awake.proofs.BlockLemmas.{rto_least, request_lasts, last_set, handled_holds, woken_holds, delay_holds, with_sender, with_requests, with_tracker}
 use Rattle.proof_awake.proofs.SendingRowLemmas.{Beside, goes_out, chunk_goes_out, Holds, sends_buffered, cookie_goes}
-use Rattle.proof_awake.proofs.RowLemmas.{Going, EndHolds, where_open_holds, send_in_holds, closes, abort_holds}
+use Rattle.proof_awake.proofs.RowLemmas.{Going, EndHolds, where_open_holds, send_in_holds, closes, abort_holds, ack_forced}
 
 with_reassembly : (b : Bool) (t : Tcb) (r : Reassembly) → BlockHolds b t → BlockHolds b (record t { reassembly = r })
 with_reassembly b t r h = record { sender = h.sender; requests = h.requests; tracker = h.tracker; rtt = h.rtt }
@@ -155,10 +155,16 @@ module _ {P : Type 0} where
   send_many_holds ms o s h =
       where_open_holds send_in send_in_holds s.state (offer_all ms o (shown_state s.state) s.context) (offers_hold ms o (shown_state s.state) s.state s.context h)
 
+  told_if_holds : (b opens : Bool) (t : Tcb) → BlockHolds b t → BlockHolds b (told_if opens t)
+  told_if_holds b true t h = ack_forced b t h
+  told_if_holds b false t h = h
+
   take_in_holds : (s : State) (c : Context P) → StateHolds s c.options c.heartbeats → EndHolds (take_message (record { state = s; context = c }))
   take_in_holds Closed c h = h
   take_in_holds (CookieWait tag first t1) c h = h
-  take_in_holds (Open phase t) c h = (h.0, (h.1.0, with_reassembly (waits phase) t _ h.1.1))
+  take_in_holds (Open phase t) c h =
+      let u : Tcb = without_first_message t in
+      (h.0, (h.1.0, told_if_holds (waits phase) (opens_window c.options t.reassembly u.reassembly) u (with_reassembly (waits phase) t _ h.1.1)))
 
   pub take_holds : (s : EndpointState P) → EndHolds s → EndHolds (take_message s)
   take_holds s h = take_in_holds s.state s.context h
@@ -247,7 +253,7 @@ module _ {P : Type 0} where
       settled_if false t c h = stays t c h
 
       settled : (x : Ticking P) → Ticks x → Leads (after_ticks x)
-      settled x h = settled_if x.has_expired x.tcb x.context h
+      settled x h = settled_if (x.has_expired || is_owed x.tcb x.context) x.tcb x.context h
 
   -- ---- T2-shutdown
 

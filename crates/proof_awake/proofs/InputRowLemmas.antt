@@ -19,13 +19,13 @@ use Rattle.spec_endpoint.specs.StreamReset.{on_reconfig}
 use Rattle.spec_endpoint.specs.Opening.{on_cookie_ack}
 use Rattle.spec_endpoint.specs.Calls.{set_max_message_size}
 use Rattle.spec_endpoint.specs.Handover.{left_in, left_if, readiness}
-use Rattle.spec_endpoint.specs.Input.{packet_refusal, report_unrecognized_in, on_unknown_if, emit_unknown_chunk_error, is_reported, on_heartbeat, on_chunk, AfterChunk, violation, received_if, receive, receive_rest, receive_all, has_data_chunk, repeats, repeats_if, in_endpoint_state, ack_if_due, at_end, on_packet_end, count_packet_at, packet_if, on_packet}
+use Rattle.spec_endpoint.specs.Input.{packet_refusal, report_unrecognized_in, on_unknown_if, emit_unknown_chunk_error, is_reported, on_heartbeat, on_chunk, AfterChunk, violation, received_if, receive, receive_rest, receive_all, has_data_chunk, repeats, repeats_if, in_endpoint_state, ack_if_due, at_end, on_packet_end, count_packet_at, packet_if, on_packet, packet_acked, shut_waiting, shut_if}
 use Rattle.spec_endpoint.specs.Laws.{Call, Connect, Close, Shutdown, Send, SendMany, ResetStreams, TakeMessage, SetLowThreshold, SetPriority, SetMaxMessageSize, Advance, HandOver, Restore, ReceivePacket, ReceiveNoPacket, called}
 use Rattle.proof_awake.specs.Awake.{is_restore}
 use Rattle.proof_awake.specs.Invariant.{HasLimits, BlockHolds, is_established, waits, StateHolds}
 use Rattle.proof_awake.proofs.BlockLemmas.{taken_holds, ended_holds, with_tracker}
 use Rattle.proof_awake.proofs.SendingRowLemmas.{Beside, chunk_goes_out, sends_with}
-use Rattle.proof_awake.proofs.RowLemmas.{t2_runs_again, Going, EndHolds, where_open_holds, closes, shutdown_holds, on_shutdown_holds, on_shutdown_ack_holds, on_complete_holds, abort_holds, close_holds, on_data_holds, on_forward_holds, on_sack_holds}
+use Rattle.proof_awake.proofs.RowLemmas.{t2_runs_again, Going, EndHolds, where_open_holds, closes, shutdown_holds, on_shutdown_holds, on_shutdown_ack_holds, on_complete_holds, abort_holds, close_holds, on_data_holds, on_forward_holds, on_sack_holds, emptier, shutdown_goes_on}
 use Rattle.proof_awake.proofs.CallRowLemmas.{reconfig_holds, reset_streams_holds, send_call_holds, send_many_holds, take_holds, advance_holds}
 use Rattle.proof_awake.proofs.OpeningRowLemmas.{Whole, connect_holds, init_holds, init_ack_holds, cookie_ack_holds, cookie_echo_holds}
 
@@ -128,12 +128,22 @@ module _ {P : Type 0} where
       (x.0, (h.1.0, x.1))
   acks_if_due false phase t c h = h
 
-  end_holds : (phase : Phase) (t : Tcb) (c : Context P) → Going phase t c → EndHolds (on_packet_end phase t c)
-  end_holds phase t c h =
+  acked_holds : (phase : Phase) (t : Tcb) (c : Context P) → Going phase t c → EndHolds (packet_acked phase t c)
+  acked_holds phase t c h =
       let u : Tcb = at_end c.now t in
       let k : BlockHolds (waits phase) u = with_tracker (waits phase) t (packet_end c.now t.tracker.tracker) (ended_holds c.now t.tracker.tracker h.1.1.tracker) h.1.1 in
       acks_if_due (is_ack_due false u.tracker.tracker.ack) phase (take_due_ack false u) c
       (h.0, (h.1.0, with_tracker (waits phase) u (take_ack false u.tracker.tracker) (taken_holds false u.tracker.tracker k.tracker) k))
+
+  shut_waiting_holds : (phase : Phase) (t : Tcb) (c : Context P) → Going phase t c → EndHolds (shut_waiting phase t c)
+  shut_waiting_holds phase t c h = shutdown_goes_on phase t c h.0 h.1.0 (emptier (waits phase) t h.1.1)
+
+  shut_if_holds : (b : Bool) (s : EndpointState P) → EndHolds s → EndHolds (shut_if b s)
+  shut_if_holds true s h = where_open_holds shut_waiting shut_waiting_holds s.state s.context h
+  shut_if_holds false s h = h
+
+  end_holds : (phase : Phase) (t : Tcb) (c : Context P) → Going phase t c → EndHolds (on_packet_end phase t c)
+  end_holds phase t c h = shut_if_holds c.options.avoid_stalls (packet_acked phase t c) (acked_holds phase t c h)
 
   packet_by : (o : Option (List ℕ)) (tag : ℕ) (chunks : List ChunkTree) (s : Endpoint P) → Whole s → Whole (packet_if o tag chunks s)
   packet_by None tag chunks s h =
@@ -160,7 +170,7 @@ module _ {P : Type 0} where
   sized_beside n b c h = record { options = times h.options; restarts = h.restarts; interval = h.interval }
     where
       times : HasLimits c.options → HasLimits (set_max_message_size n c).options
-      times k = record { rto_range = k.rto_range; rto_min = k.rto_min; rto_initial = k.rto_initial; t1_init = k.t1_init; t1_cookie = k.t1_cookie; delayed_ack = k.delayed_ack; mtu_least = k.mtu_least; mtu_most = k.mtu_most; cwnd_initial = k.cwnd_initial; cwnd_min = k.cwnd_min }
+      times k = record { rto_range = k.rto_range; rto_min = k.rto_min; rto_initial = k.rto_initial; t1_init = k.t1_init; t1_cookie = k.t1_cookie; delayed_ack = k.delayed_ack; original = k.original; mtu_least = k.mtu_least; mtu_most = k.mtu_most; cwnd_initial = k.cwnd_initial; cwnd_min = k.cwnd_min }
 
   sized : (n : ℕ) (s : State) (c : Context P) → Same s c → Same s (set_max_message_size n c)
   sized n Closed c h = sized_beside n false c h

@@ -1,5 +1,5 @@
 -- The laws of progress.
-use Rattle.std.proofs.Common.{◌≡◌, ℕ, ◌≤◌, ◌<◌, ◌⊎◌, inl, inr, true, false, min, max, Option, Some, None, refl, arith}
+use Rattle.std.proofs.Common.{◌≡◌, ℕ, ◌≤◌, ◌<◌, ◌⊎◌, inl, inr, true, false, min, max, Option, Some, None, refl, arith, sym, subst}
 use Rattle.std.specs.Prelude.{◌==◌, is_some}
 use Rattle.rand_core.specs.Stream.{Stream}
 use Rattle.sctp_serial.specs.Time.{forever}
@@ -7,22 +7,25 @@ use Rattle.sctp_state.specs.Options.{Options, IsValid}
 use Rattle.sctp_state.specs.Timer.{Timer, next_expiry, moment_of}
 use Rattle.sctp_tracker.specs.declared.data_tracker.AckState.{AckState}
 use Rattle.sctp_tracker.specs.declared.data_tracker.AckState.TheVariants.{Idle, Becoming, Delayed, Immediate}
-use Rattle.spec_endpoint.specs.Association.{Tcb, CookieEchoed, Established, ShutdownPending, ShutdownSent, ShutdownReceived, ShutdownAckSent, State, Closed, CookieWait, Open, Heartbeats, Packing, EndpointState, fresh}
-use Rattle.spec_endpoint.specs.Timers.{running_expiry, timeout_in}
+use Rattle.spec_endpoint.specs.Association.{Tcb, CookieEchoed, Established, ShutdownPending, ShutdownSent, ShutdownReceived, ShutdownAckSent, State, Closed, CookieWait, Open, Heartbeats, Packing, EndpointState, fresh, Context, Phase}
+use Rattle.spec_endpoint.specs.Timers.{running_expiry, timeout_in, sends_owed}
+use Rattle.spec_endpoint.specs.Sending.{is_before_cookie_ack}
+use Rattle.sctp_tx_outstanding.specs.Forward.{is_forward_due}
 use Rattle.proof_awake.specs.Awake.{Runs, is_none, is_delayed, AckIsTimed, BeatsOn, BlockIsAwake, StateIsAwake, IsAwake}
 use Rattle.proof_awake.specs.Invariant.{HasLimits, StateHolds, IsTimed}
-use Rattle.proof_awake.specs.Laws.{EachCallKeepsTimed, IsInTime, StateIsInTime, StateIsQuiet, OnlyQuietEndsNameNoMoment}
+use Rattle.proof_awake.specs.Laws.{EachCallKeepsTimed, IsInTime, StateIsInTime, StateIsQuiet, OnlyQuietEndsNameNoMoment, DuePointsHaveAMoment}
 use Rattle.proof_awake.proofs.BlockLemmas.{block_awake}
 use Rattle.proof_awake.proofs.InputRowLemmas.{each_call}
 
-pub valid_times : (o : Options) → IsValid o → HasLimits o
-valid_times o h =
+pub valid_times : (o : Options) → IsValid o → o.avoid_stalls ≡ false → HasLimits o
+valid_times o h off =
     let a = h.times.rto_min in
     let b = h.times.rto_initial in
     let c = h.times.t1_init in
     let d = h.times.t1_cookie in
     let e = h.times.delayed_ack in
     record {
+      original = off;
       rto_range = h.times.rto_range;
       rto_min = omega (arith, a);
       rto_initial = omega (arith, b);
@@ -35,8 +38,8 @@ valid_times o h =
       cwnd_min = h.windows.min_least;
     }
 
-pub new_ends : {P : Type 0} (o : Options) (pack : Packing P) (draws : Stream) → IsValid o → IsTimed (fresh o pack draws).endpoint_state
-new_ends o pack draws h = record { options = valid_times o h; restarts = refl; interval = tt }
+pub new_ends : {P : Type 0} (o : Options) (pack : Packing P) (draws : Stream) → IsValid o → o.avoid_stalls ≡ false → IsTimed (fresh o pack draws).endpoint_state
+new_ends o pack draws h off = record { options = valid_times o h off; restarts = refl; interval = tt }
 
 pub calls_keep : EachCallKeepsTimed
 calls_keep call s e h = each_call call s e h
@@ -70,7 +73,10 @@ unnamed t f l r = let n = named t f r in omega (arith, n, l)
 last : (n now : ℕ) → now < forever → max n now ≡ forever → forever ≤ n
 last n now l e = omega (arith, l, e)
 
-module _ (t : Tcb) (h : Heartbeats) (k : BlockIsAwake t) (l : forever ≤ running_expiry t h) where
+module _ {P : Type 0} (t : Tcb) (c : Context P) (k : BlockIsAwake t) (l : forever ≤ running_expiry t c) where
+  abbrev h : Heartbeats
+  h = c.heartbeats
+
   items_rest : IsInTime t.sender.t3 → is_none t.sender.outstanding.items.kept ≡ true
   items_rest f = go k.items
     where
@@ -102,27 +108,45 @@ module _ (t : Tcb) (h : Heartbeats) (k : BlockIsAwake t) (l : forever ≤ runnin
   waits_on : IsInTime t.sender.t3 → is_none t.sender.outstanding.items.kept ≡ false → ⊥
   waits_on f e = let z = items_rest f in cc
 
-quiet_in : (s : State) (h : Heartbeats) (now : ℕ) → StateIsAwake s h → now < forever → StateIsInTime s h → timeout_in s h now ≡ forever → StateIsQuiet s h
-quiet_in Closed h now k l f e = tt
-quiet_in (CookieWait tag first t1) h now k l f e = unnamed t1 f (last (next_expiry t1) now l e) k
-quiet_in (Open (CookieEchoed t1 cookie) t) h now k l f e = absurd (unnamed t1 f.phase_timer (last (next_expiry t1) now l e) k.0)
-quiet_in (Open Established t) h now k l f e =
-    let m = last (running_expiry t h) now l e in
+quiet_in : {P : Type 0} (s : State) (c : Context P) → StateIsAwake s c.heartbeats → c.now < forever → StateIsInTime s c.heartbeats → timeout_in s c ≡ forever → StateIsQuiet s c.heartbeats
+quiet_in Closed c k l f e = tt
+quiet_in (CookieWait tag first t1) c k l f e = unnamed t1 f (last (next_expiry t1) c.now l e) k
+quiet_in (Open (CookieEchoed t1 cookie) t) c k l f e = absurd (unnamed t1 f.phase_timer (last (next_expiry t1) c.now l e) k.0)
+quiet_in (Open Established t) c k l f e =
+    let m = last (running_expiry t c) c.now l e in
     record {
       connected = refl;
-      nothing_kept = items_rest t h k.1 m f.t3;
-      no_request = request_rests t h k.1 m f.request;
-      no_ack = ack_rests t h k.1 m f.delay;
-      no_heartbeats = beats_rest t h k.1 m f.interval k.0;
+      nothing_kept = items_rest t c k.1 m f.t3;
+      no_request = request_rests t c k.1 m f.request;
+      no_ack = ack_rests t c k.1 m f.delay;
+      no_heartbeats = beats_rest t c k.1 m f.interval k.0;
     }
-quiet_in (Open ShutdownPending t) h now k l f e = absurd (waits_on t h k.1 (last (running_expiry t h) now l e) f.t3 k.0)
-quiet_in (Open (ShutdownSent t2) t) h now k l f e =
-    let m = last (min (next_expiry t2) (running_expiry t h)) now l e in
+quiet_in (Open ShutdownPending t) c k l f e = absurd (waits_on t c k.1 (last (running_expiry t c) c.now l e) f.t3 k.0)
+quiet_in (Open (ShutdownSent t2) t) c k l f e =
+    let m = last (min (next_expiry t2) (running_expiry t c)) c.now l e in
     absurd (unnamed t2 f.phase_timer (omega (arith, m)) k.0)
-quiet_in (Open ShutdownReceived t) h now k l f e = absurd (waits_on t h k.1 (last (running_expiry t h) now l e) f.t3 k.0)
-quiet_in (Open (ShutdownAckSent t2) t) h now k l f e =
-    let m = last (min (next_expiry t2) (running_expiry t h)) now l e in
+quiet_in (Open ShutdownReceived t) c k l f e = absurd (waits_on t c k.1 (last (running_expiry t c) c.now l e) f.t3 k.0)
+quiet_in (Open (ShutdownAckSent t2) t) c k l f e =
+    let m = last (min (next_expiry t2) (running_expiry t c)) c.now l e in
     absurd (unnamed t2 f.phase_timer (omega (arith, m)) k.0)
 
 pub quiet : OnlyQuietEndsNameNoMoment
-quiet s k l f e = quiet_in s.state s.context.heartbeats s.context.now k l f e
+quiet s k l f e = quiet_in s.state s.context k l f e
+
+-- ---- a forward point that is due
+
+point_named : {P : Type 0} (t : Tcb) (c : Context P) → sends_owed c ≡ true → is_forward_due t.sender.outstanding.items ≡ true → running_expiry t c ≤ c.forward_from
+point_named t c sends due = rw (sends, due) (omega arith)
+
+named_in : {P : Type 0} (phase : Phase) (t : Tcb) (c : Context P) → is_before_cookie_ack phase ≡ false → running_expiry t c ≤ c.forward_from
+    → timeout_in (Open phase t) c ≤ max c.forward_from c.now
+named_in (CookieEchoed t1 cookie) t c late l = absurd (cc)
+named_in Established t c late l = omega (arith, l)
+named_in ShutdownPending t c late l = omega (arith, l)
+named_in (ShutdownSent t2) t c late l = omega (arith, l)
+named_in ShutdownReceived t c late l = omega (arith, l)
+named_in (ShutdownAckSent t2) t c late l = omega (arith, l)
+
+pub points_named : DuePointsHaveAMoment
+points_named s phase t is late sends due =
+    subst (λ (r : State). timeout_in r s.context ≤ max s.context.forward_from s.context.now) (sym is) (named_in phase t s.context late (point_named t s.context sends due))

@@ -26,11 +26,11 @@ use Rattle.sctp_stream_scheduler.specs.StreamScheduler.{Scheduler}
 use Rattle.sctp_tx_queue.specs.SendQueue.{Queue}
 use Rattle.proof_awake.specs.Line.{PhaseHasNoLine, StateHasNoLine, HasNoLine, chunk_asks_once, all_ask_once, call_asks_once, EachCallKeepsLined, NewEndsAreLined}
 use Rattle.spec_endpoint.specs.Laws.{Call, Connect, Close, Shutdown, Send, SendMany, ResetStreams, TakeMessage, SetLowThreshold, SetPriority, SetMaxMessageSize, Advance, HandOver, Restore, ReceivePacket, ReceiveNoPacket, called}
-use Rattle.spec_endpoint.specs.Calls.{set_low_threshold, set_priority, shown_state, send_refusal_of, offered, sent_if, offer_all, take_message}
+use Rattle.spec_endpoint.specs.Calls.{set_low_threshold, set_priority, shown_state, send_refusal_of, offered, sent_if, offer_all, take_message, told_if, opens_window, without_first_message}
 use Rattle.spec_endpoint.specs.Handover.{left_in, left_if, readiness}
 use Rattle.spec_endpoint.specs.Opening.{on_cookie_ack}
 use Rattle.sctp_tracker.specs.DataTracker.{packet_end, take_ack}
-use Rattle.spec_endpoint.specs.Input.{packet_refusal, report_unrecognized_in, on_unknown_if, emit_unknown_chunk_error, is_reported, on_heartbeat, on_chunk, AfterChunk, violation, received_if, receive, receive_rest, receive_all, has_data_chunk, repeats, repeats_if, in_endpoint_state, ack_if_due, at_end, on_packet_end, count_packet_at, packet_if}
+use Rattle.spec_endpoint.specs.Input.{packet_refusal, report_unrecognized_in, on_unknown_if, emit_unknown_chunk_error, is_reported, on_heartbeat, on_chunk, AfterChunk, violation, received_if, receive, receive_rest, receive_all, has_data_chunk, repeats, repeats_if, in_endpoint_state, ack_if_due, at_end, on_packet_end, count_packet_at, packet_if, packet_acked, shut_waiting, shut_if}
 use Rattle.proof_awake.proofs.BlockLemmas.{ended_holds, taken_holds, with_tracker}
 use Rattle.proof_awake.proofs.OpeningRowLemmas.{Whole}
 use Rattle.proof_awake.proofs.InputRowLemmas.{received_holds, repeats_if_hold, all_hold, each_call}
@@ -39,7 +39,7 @@ use Rattle.proof_awake.proofs.LineCallLemmas.{Same, offered_same, sends_then, of
 use Rattle.proof_awake.proofs.LineEachLemmas.{reconfig_lined}
 use Rattle.proof_awake.proofs.LineTimeLemmas.{advance_lined, connect_lined, init_is_lined, init_ack_lined, cookie_ack_lined, cookie_echo_lined}
 use Rattle.proof_awake.proofs.RowLemmas.{Going, EndHolds}
-use Rattle.proof_awake.proofs.LineRowLemmas.{Big, Lined, EndLined, big_chunk, big_sent, chunk_lined, sent_lined, open_lined, abort_lined, shutdown_lined, on_shutdown_lined, on_shutdown_ack_lined, on_complete_lined, close_lined, on_data_lined, on_forward_lined, on_sack_lined}
+use Rattle.proof_awake.proofs.LineRowLemmas.{Big, Lined, EndLined, big_chunk, big_sent, chunk_lined, sent_lined, open_lined, abort_lined, shutdown_lined, on_shutdown_lined, on_shutdown_ack_lined, on_complete_lined, close_lined, on_data_lined, on_forward_lined, on_sack_lined, goes_on_lined}
 use Rattle.proof_awake.proofs.LineLemmas.{limit_added}
 
 -- the line alone counts
@@ -142,12 +142,24 @@ module _ {P : Type 0} where
       sent_lined phase p (without_duplicates t) c l.0 k h.1.1.sender.windows
   due_lined false phase t c h l = l
 
-  end_lined : (phase : Phase) (t : Tcb) (c : Context P) → Going phase t c → Lined (Open phase t) c → EndLined (on_packet_end phase t c)
-  end_lined phase t c h l =
+  acked_lined : (phase : Phase) (t : Tcb) (c : Context P) → Going phase t c → Lined (Open phase t) c → EndLined (packet_acked phase t c)
+  acked_lined phase t c h l =
       let u : Tcb = at_end c.now t in
       let k : BlockHolds (waits phase) u = with_tracker (waits phase) t (packet_end c.now t.tracker.tracker) (ended_holds c.now t.tracker.tracker h.1.1.tracker) h.1.1 in
       due_lined (is_ack_due false u.tracker.tracker.ack) phase (take_due_ack false u) c
       (h.0, (h.1.0, with_tracker (waits phase) u (take_ack false u.tracker.tracker) (taken_holds false u.tracker.tracker k.tracker) k)) l
+
+  shut_if_lined : (b : Bool) (s : EndpointState P) → EndLined s → EndLined (shut_if b s)
+  shut_if_lined true s l = where_open_lined s.state s.context l
+    where
+      where_open_lined : (st : State) (c : Context P) → Lined st c → EndLined (where_open shut_waiting (record { state = st; context = c }))
+      where_open_lined Closed c l = l
+      where_open_lined (CookieWait tag first t1) c l = l
+      where_open_lined (Open phase t) c l = goes_on_lined phase t c l
+  shut_if_lined false s l = l
+
+  end_lined : (phase : Phase) (t : Tcb) (c : Context P) → Going phase t c → Lined (Open phase t) c → EndLined (on_packet_end phase t c)
+  end_lined phase t c h l = shut_if_lined c.options.avoid_stalls (packet_acked phase t c) (acked_lined phase t c h l)
 
   packet_by_lined : (o : Option (List ℕ)) (tag : ℕ) (chunks : List ChunkTree) (s : Endpoint P) → all_ask_once chunks ≡ true → Whole s → EndLined s.endpoint_state → EndLined (packet_if o tag chunks s).endpoint_state
   packet_by_lined None tag chunks s e h l =
@@ -194,10 +206,14 @@ module _ {P : Type 0} where
   reset_lined None ids s h l = sent_then s.state s.context (prepare_all ids s.context) (prepared_same ids s.context) h l.0
   reset_lined (Some e) ids s h l = l
 
+  told_if_lined : (opens : Bool) (phase : Phase) (t : Tcb) (c : Context P) → Lined (Open phase t) c → Lined (Open phase (told_if opens t)) c
+  told_if_lined true phase t c l = l
+  told_if_lined false phase t c l = l
+
   took_lined : (s : State) (c : Context P) → Lined s c → EndLined (take_message (record { state = s; context = c }))
   took_lined Closed c l = l
   took_lined (CookieWait tag first t1) c l = l
-  took_lined (Open phase t) c l = l
+  took_lined (Open phase t) c l = let u : Tcb = without_first_message t in told_if_lined (opens_window c.options t.reassembly u.reassembly) phase u c l
 
   pub call_lined : (call : Call) (s : Endpoint P) → is_restore call ≡ false → call_asks_once call ≡ true → Whole s → EndLined s.endpoint_state → EndLined (called call s).endpoint_state
   call_lined Connect s r e h l = connect_lined s.endpoint_state.state s l
@@ -229,4 +245,4 @@ each_call_lined call s r e h =
     record { timed = each_call call s r h.timed; burst = l.0; line = l.1 }
 
 pub new_lined : NewEndsAreLined
-new_lined o pack draws v b = record { timed = new_ends o pack draws v; burst = b; line = tt }
+new_lined o pack draws v off b = record { timed = new_ends o pack draws v off; burst = b; line = tt }

@@ -1,5 +1,5 @@
 -- Time, and what opens an association, leave no stream in line where no item is kept.
-use Rattle.std.proofs.Common.{◌≡◌, ℕ, ◌≤◌, Bool, true, false, Option, Some, None, Result, Ok, Err, List, codes, refl, sym, subst, ◌∙◌, arith}
+use Rattle.std.proofs.Common.{◌≡◌, ℕ, ◌≤◌, Bool, true, false, Option, Some, None, Result, Ok, Err, List, codes, refl, sym, subst, ◌∙◌, arith, ◌||◌}
 use Rattle.std.specs.Prelude.{not, min}
 use Rattle.sctp_wire.specs.Cause.{user_initiated_abort}
 use Rattle.sctp_packet.specs.Chunk.{InitTree, cookie_ack_chunk}
@@ -22,7 +22,7 @@ use Rattle.proof_awake.specs.Line.{PhaseHasNoLine}
 use Rattle.sctp_tx_outstanding.specs.Item.{Item}
 use Rattle.sctp_tx_outstanding.specs.Losses.{nack_all}
 use Rattle.sctp_tx_queue.specs.SendQueue.{Queue}
-use Rattle.spec_endpoint.specs.Timers.{Ticking, tick_ack, t3_if, tick_t3, tick_interval, tick_timeout, request_again, errs_if, requests_if, ticking, tick_timers, after_timers, abort_if, abort_or_send_if, after_ticks_if, after_ticks, t2_expired, t2_if, waits_if, t1_expired, t1_if, after_init_timer, init_expired, init_if, tick_open, tick_in, advance_if}
+use Rattle.spec_endpoint.specs.Timers.{Ticking, tick_ack, t3_if, tick_t3, tick_interval, tick_timeout, request_again, errs_if, requests_if, ticking, tick_timers, after_timers, abort_if, abort_or_send_if, after_ticks_if, after_ticks, t2_expired, t2_if, waits_if, t1_expired, t1_if, after_init_timer, init_expired, init_if, tick_open, tick_in, advance_if, is_owed}
 use Rattle.spec_endpoint.specs.Opening.{cookie_ack, connect_in, on_init_open, on_init_in, queue_anew, agreed_by, maker, echo_or_abort, cookie_in, on_init_ack_in, enter_connected, on_cookie_ack, CookieResolution, EstablishNew, RestartDetected, SimultaneousInit, MaintainExisting, Discard, InvalidTag, resolve_cookie, tcb_by, queue_for, identity_of, anew, maintain_existing, maintain_existing_in, restarts_in, on_resolution, on_read_cookie, on_cookie_echo}
 use Rattle.proof_awake.specs.Invariant.{StateHolds, HasLimits, WindowsHaveRoom}
 use Rattle.proof_awake.proofs.ItemsLemmas.{none_lost}
@@ -109,7 +109,7 @@ module _ {P : Type 0} where
   after_ticks_lined phase e t c h l =
       let x : Ticking P = tick_timers t c in
       let k = ticks phase t c (h.0, h.1.1) in
-      settles_if phase e x.has_expired x.tcb x.context (k.0, (h.1.0, k.1)) (quiet_ticks phase t c l)
+      settles_if phase e (x.has_expired || is_owed x.tcb x.context) x.tcb x.context (k.0, (h.1.0, k.1)) (quiet_ticks phase t c l)
 
   t2_lined : (phase : Phase) → Apart phase → (b running : Bool) (now : ℕ) (again : Tcb → Context P → Context P) → ((t : Tcb) (c : Context P) → Big c → Big (again t c)) → (t2 : Timer) (x : Ticking P) → Big x.context
       → EndLined (after_timers phase (t2_if b now again t2 x))
@@ -125,7 +125,7 @@ module _ {P : Type 0} where
       expired : (b : Bool) → EndLined (after_timers phase (t2_expired b again x.tcb x.context))
       expired true = goes (is_exhausted (again x.tcb x.context).errors) x.tcb (again x.tcb x.context) (f x.tcb x.context h)
       expired false = too_many_big
-  t2_lined phase a false running now again f t2 x h = settled x.has_expired
+  t2_lined phase a false running now again f t2 x h = settled (x.has_expired || is_owed x.tcb x.context)
     where
       goes : (b : Bool) → EndLined (after_timers phase (abort_or_send_if b x.tcb x.context))
       goes true = abort_lined (user_initiated_abort (codes "Too many retransmissions")) (OnAborted TooManyRetries (codes "Too many retransmissions")) x.tcb x.context h
@@ -265,7 +265,7 @@ module _ {P : Type 0} where
   restart_lined (Open phase t) k s o l = restarts_lined phase t k s o l
 
   resolved_lined : (r : CookieResolution) (k : Cookie) (s : Endpoint P) → HasLimits s.endpoint_state.context.options → EndHolds s.endpoint_state → EndLined s.endpoint_state → EndLined (on_resolution r k s).endpoint_state
-  resolved_lined EstablishNew k s o h l = opens_lined false k _ s.endpoint_state.context o l.0
+  resolved_lined EstablishNew k s o h l = opens_lined s.endpoint_state.context.options.avoid_stalls k _ s.endpoint_state.context o l.0
   resolved_lined RestartDetected k s o h l = restart_lined s.endpoint_state.state k s o l
   resolved_lined SimultaneousInit k s o h l = opens_lined true k _ s.endpoint_state.context o l.0
   resolved_lined MaintainExisting k s o h l = maintains_in_lined k s.endpoint_state.state s.endpoint_state.context h l

@@ -139,7 +139,7 @@ module _ {P : Type 0} where
   restart_by (Open phase t) k s b h = restarts_hold phase t k s b h
 
   resolved : (r : CookieResolution) (k : Cookie) (s : Endpoint P) → Beside false s.endpoint_state.context → Whole s → Whole (on_resolution r k s)
-  resolved EstablishNew k s b h = opens false false k _ s.endpoint_state.context b
+  resolved EstablishNew k s b h = opens false s.endpoint_state.context.options.avoid_stalls k _ s.endpoint_state.context b
   resolved RestartDetected k s b h = restart_by s.endpoint_state.state k s b h
   resolved SimultaneousInit k s b h = opens false true k _ s.endpoint_state.context b
   resolved MaintainExisting k s b h = maintains_in k s.endpoint_state.state s.endpoint_state.context h

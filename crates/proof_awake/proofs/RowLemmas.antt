@@ -1,5 +1,5 @@
 -- Rows that an end goes through with a control block: its timers run after each where they ran before.
-use Rattle.std.proofs.Common.{◌≡◌, ℕ, Bool, true, false, Option, None, List, [], ◌∷◌, length, refl, arith}
+use Rattle.std.proofs.Common.{◌≡◌, ℕ, Bool, true, false, Option, None, List, [], ◌∷◌, length, refl, arith, ◌&&◌, ◌==◌, sym, ap, ◌∙◌}
 use Rattle.std.specs.Prelude.{◌==◌, nat_lt}
 use Rattle.sctp_packet.specs.Chunk.{ChunkTree, FragmentTree, SackTree, abort_chunk, shutdown_complete_chunk}
 use Rattle.sctp_wire.specs.Cause.{CauseTree}
@@ -12,19 +12,23 @@ use Rattle.sctp_state.specs.Timer.{Timer, timer, start, set_duration}
 use Rattle.sctp_tracker.specs.DataTracker.{Tracker, number_of}
 use Rattle.sctp_reassembly.specs.ReassemblyQueue.{Reassembly}
 use Rattle.sctp_tx_outstanding.specs.Sack as sack
-use Rattle.sctp_tx.specs.RetransmissionQueue.{Sender, nothing_in_flight, answer_if, sender_if, emitted_if}
+use Rattle.sctp_tx.specs.RetransmissionQueue.{Sender, nothing_in_flight, answer_if, sender_if, emitted_if, Valid}
 use Rattle.spec_endpoint.specs.Association.{Tcb, Phase, CookieEchoed, Established, ShutdownPending, ShutdownSent, ShutdownReceived, ShutdownAckSent, State, Closed, CookieWait, Open, Context, EndpointState, where_open}
 use Rattle.spec_endpoint.specs.Packets.{add, packet_to, emit_chunk}
-use Rattle.spec_endpoint.specs.Sending.{AfterSending, is_before_cookie_ack, send_lost, send_in}
-use Rattle.spec_endpoint.specs.Shutdown.{close_with, PhaseStep, pending_next, received_next, maybe_send_shutdown_or_ack, shutdown_in_phase, shutdown_in, shut_by_peer, on_shutdown, on_shutdown_ack_open, on_shutdown_ack_in, on_shutdown_complete, abort, close_in}
-use Rattle.spec_endpoint.specs.Data.{fragment_if, accepts_tsn, handle_forward_tsn_if, accepts_point, on_no_data, on_data_in, on_data_if, on_data, on_forward}
-use Rattle.spec_endpoint.specs.Sack.{clean_blocks, sample_rtt, clear_errors_if, send_after_sack, after_sack, on_sack_in}
+use Rattle.spec_endpoint.specs.Sending.{AfterSending, is_before_cookie_ack, send_lost, send_in, force_ack}
+use Rattle.spec_endpoint.specs.Shutdown.{close_with, PhaseStep, pending_next, received_next, maybe_send_shutdown_or_ack, shutdown_in_phase, shutdown_in, shut_by_peer, on_shutdown, on_shutdown_ack_open, on_shutdown_ack_in, on_shutdown_complete, abort, close_in, is_quiet_if, is_quiet}
+use Rattle.spec_endpoint.specs.Data.{fragment_if, accepts_tsn, handle_forward_tsn_if, accepts_point, on_no_data, on_data_in, on_data_if, on_data, on_forward, has_room, told_of_drop}
+use Rattle.spec_endpoint.specs.Sack.{clean_blocks, sample_rtt, clear_errors_if, send_after_sack, after_sack, on_sack_in, is_late, sampled_unless}
+use Rattle.sctp_tracker.specs.declared.data_tracker.AckState.TheVariants.{Immediate}
+use Rattle.sctp_rx.specs.DataTracker.{acking}
+use Rattle.sctp_tx_outstanding.specs.OutstandingData.{number_of as item_number_of}
+use Rattle.sctp_tx_queue.specs.SendQueue.{is_empty}
 use Rattle.proof_awake.specs.Awake.{Runs}
 use Rattle.proof_awake.specs.Invariant.{TrackerHolds, BlockHolds, is_established, waits, PhaseRuns, OpenHolds, StateHolds}
 use Rattle.proof_awake.proofs.TimerLemmas.{started}
 use Rattle.proof_awake.proofs.ItemsLemmas.{some_flight}
 use Rattle.proof_awake.proofs.SenderLemmas.{sack_holds}
-use Rattle.proof_awake.proofs.BlockLemmas.{rto_least, observed_holds, forward_holds, with_sender, sampled_holds}
+use Rattle.proof_awake.proofs.BlockLemmas.{rto_least, observed_holds, forward_holds, with_sender, sampled_holds, with_tracker}
 use Rattle.proof_awake.proofs.SendingRowLemmas.{quieter, Beside, goes_out, chunk_goes_out, sends_buffered, lost_goes}
 
 -- ---- states
@@ -60,6 +64,15 @@ takes_if : (b takes : Bool) (tsn : ℕ) (immediate : Bool) (f : FragmentTree) (t
 takes_if b true tsn immediate f t h = reassembled b t _ _ (observed_holds (number_of t.tracker tsn) immediate t.tracker.tracker h.tracker) h
 takes_if b false tsn immediate f t h = h
 
+pub ack_forced : (b : Bool) (t : Tcb) → BlockHolds b t → BlockHolds b (force_ack t)
+ack_forced b t h =
+    with_tracker b t (acking Immediate t.tracker.tracker) (record { duration = h.tracker.duration; most_delay = h.tracker.most_delay; timed = tt }) h
+
+told_holds : (b avoids room : Bool) (t : Tcb) → BlockHolds b t → BlockHolds b (told_of_drop avoids room t)
+told_holds b true true t h = h
+told_holds b true false t h = ack_forced b t h
+told_holds b false room t h = h
+
 passes_if : (b takes : Bool) (tsn : ℕ) (skipped : List SkippedStream) (t : Tcb) → BlockHolds b t → BlockHolds b (handle_forward_tsn_if takes tsn skipped t)
 passes_if b true tsn skipped t h = reassembled b t _ _ (forward_holds (number_of t.tracker tsn) t.tracker.tracker h.tracker) h
 passes_if b false tsn skipped t h = h
@@ -93,21 +106,26 @@ module _ {P : Type 0} where
   abbrev pub Steps : Tcb → PhaseStep P → Type 0
   Steps t o = Going o.phase t o.context
 
-  pending_if : (b : Bool) (t : Tcb) (c : Context P) → nothing_in_flight t.sender.outstanding.items ≡ b → Beside false c → BlockHolds false t → Steps t (pending_next b t c)
-  pending_if true t c e h k = (chunk_goes_out false _ t c h, (t2_runs c.now c.options.max_retransmissions t k, k))
-  pending_if false t c e h k = (h, (tt, still_waits t e k))
+  -- without stalls avoided a shutdown waits for what is in flight
+  quiet_is : (t : Tcb) (c : Context P) → c.options.avoid_stalls ≡ false → is_quiet t c ≡ nothing_in_flight t.sender.outstanding.items
+  quiet_is t c off =
+      ap (λ (b : Bool). is_quiet_if b ((length t.sender.outstanding.items.kept == 0) && is_empty c.queue) (nothing_in_flight t.sender.outstanding.items)) off
 
-  received_if : (b : Bool) (t : Tcb) (c : Context P) → nothing_in_flight t.sender.outstanding.items ≡ b → Beside false c → BlockHolds false t → Steps t (received_next b t c)
+  pending_if : (b : Bool) (t : Tcb) (c : Context P) → is_quiet t c ≡ b → Beside false c → BlockHolds false t → Steps t (pending_next b t c)
+  pending_if true t c e h k = (chunk_goes_out false _ t c h, (t2_runs c.now c.options.max_retransmissions t k, k))
+  pending_if false t c e h k = (h, (tt, still_waits t (sym (quiet_is t c h.options.original) ∙ e) k))
+
+  received_if : (b : Bool) (t : Tcb) (c : Context P) → is_quiet t c ≡ b → Beside false c → BlockHolds false t → Steps t (received_next b t c)
   received_if true t c e h k = (chunk_goes_out false _ t c h, (t2_runs c.now c.options.max_retransmissions t k, k))
-  received_if false t c e h k = (h, (tt, still_waits t e k))
+  received_if false t c e h k = (h, (tt, still_waits t (sym (quiet_is t c h.options.original) ∙ e) k))
 
   pub shutdown_goes_on : (phase : Phase) (t : Tcb) (c : Context P) → Beside (is_established phase) c → PhaseRuns phase → BlockHolds false t
       → Steps t (maybe_send_shutdown_or_ack phase t c)
   shutdown_goes_on (CookieEchoed t1 cookie) t c h r k = (h, (r, k))
   shutdown_goes_on Established t c h r k = (h, (r, k))
-  shutdown_goes_on ShutdownPending t c h r k = pending_if (nothing_in_flight t.sender.outstanding.items) t c refl h k
+  shutdown_goes_on ShutdownPending t c h r k = pending_if (is_quiet t c) t c refl h k
   shutdown_goes_on (ShutdownSent t2) t c h r k = (h, (r, k))
-  shutdown_goes_on ShutdownReceived t c h r k = received_if (nothing_in_flight t.sender.outstanding.items) t c refl h k
+  shutdown_goes_on ShutdownReceived t c h r k = received_if (is_quiet t c) t c refl h k
   shutdown_goes_on (ShutdownAckSent t2) t c h r k = (h, (r, k))
 
   shuts : (phase : Phase) (t : Tcb) (c : Context P) → Going phase t c → Steps t (shutdown_in_phase phase t c)
@@ -175,7 +193,10 @@ module _ {P : Type 0} where
   data_in_holds : (s : State) (tsn : ℕ) (immediate : Bool) (f : FragmentTree) (c : Context P) → StateHolds s c.options c.heartbeats → EndHolds (on_data_in s tsn immediate f c)
   data_in_holds Closed tsn immediate f c h = h
   data_in_holds (CookieWait tag first t1) tsn immediate f c h = h
-  data_in_holds (Open phase t) tsn immediate f c h = (h.0, (h.1.0, takes_if (waits phase) (accepts_tsn tsn t) tsn immediate f t h.1.1))
+  data_in_holds (Open phase t) tsn immediate f c h =
+      let room : Bool = has_room c.options tsn t in
+      let u : Tcb = told_of_drop c.options.avoid_stalls room t in
+      (h.0, (h.1.0, takes_if (waits phase) (accepts_tsn c.options tsn t) tsn immediate f u (told_holds (waits phase) c.options.avoid_stalls room t h.1.1)))
 
   data_if_holds : (b : Bool) (tsn : ℕ) (immediate : Bool) (f : FragmentTree) (s : EndpointState P) → EndHolds s → EndHolds (on_data_if b tsn immediate f s)
   data_if_holds true tsn immediate f s h = no_data_holds tsn s.state s.context h
@@ -201,19 +222,26 @@ module _ {P : Type 0} where
       let l = sends_buffered (is_established o.phase) (waits o.phase) (is_before_cookie_ack o.phase) x.tcb x.context k in
       (l.0, (h.1.0, l.1))
 
-  clean_sack_by : (valid : Bool) (n a_rwnd : ℕ) (blocks : List GapAckBlock) (phase : Phase) (t : Tcb) (c : Context P) → Going phase t c → EndHolds (after_sack
-      (answer_if valid c.now n blocks t.sender) phase (record t { sender = sender_if valid c.now n a_rwnd blocks t.sender c.emitted }) (record c { emitted = emitted_if valid n blocks t.sender c.emitted }))
-  clean_sack_by true n a_rwnd blocks phase t c h =
+  -- a round trip may have been sampled
+  answered : (rtt : Option ℕ) (n a_rwnd : ℕ) (blocks : List GapAckBlock) (phase : Phase) (t : Tcb) (c : Context P) → Going phase t c → EndHolds (after_sack
+      (Valid rtt (nat_lt 0 (sack.acked_bytes n blocks t.sender.outstanding.items))) phase (record t { sender = sender_if true c.now n a_rwnd blocks t.sender c.emitted })
+      (record c { emitted = emitted_if true n blocks t.sender c.emitted }))
+  answered rtt n a_rwnd blocks phase t c h =
       let s : Sender = sender_if true c.now n a_rwnd blocks t.sender c.emitted in
       let u : Tcb = record t { sender = s } in
-      let rtt : Option ℕ = sack.sample c.now n t.sender.outstanding.items in
       let progress : Bool = nat_lt 0 (sack.acked_bytes n blocks t.sender.outstanding.items) in
       let d : Context P = clear_errors_if progress (record c { emitted = emitted_if true n blocks t.sender c.emitted }) in
       let k : BlockHolds false u = with_sender (waits phase) false t s (sack_holds c.now n a_rwnd blocks t.sender c.emitted (waits phase) true h.1.1.sender) h.1.1 in
       sends_after (sample_rtt rtt u) (maybe_send_shutdown_or_ack phase (sample_rtt rtt u) d) (shutdown_goes_on phase (sample_rtt rtt u) d h.0 h.1.0 (sampled_holds false rtt u k))
-  clean_sack_by false n a_rwnd blocks phase t c h = (h.0, (h.1.0, with_sender (waits phase) (waits phase) t t.sender h.1.1.sender h.1.1))
+
+  clean_sack_by : (late valid : Bool) (n a_rwnd : ℕ) (blocks : List GapAckBlock) (phase : Phase) (t : Tcb) (c : Context P) → Going phase t c → EndHolds (after_sack
+      (sampled_unless late (answer_if valid c.now n blocks t.sender)) phase (record t { sender = sender_if valid c.now n a_rwnd blocks t.sender c.emitted }) (record c { emitted = emitted_if valid n blocks t.sender c.emitted }))
+  clean_sack_by true true n a_rwnd blocks phase t c h = answered None n a_rwnd blocks phase t c h
+  clean_sack_by false true n a_rwnd blocks phase t c h = answered (sack.sample c.now n t.sender.outstanding.items) n a_rwnd blocks phase t c h
+  clean_sack_by true false n a_rwnd blocks phase t c h = (h.0, (h.1.0, with_sender (waits phase) (waits phase) t t.sender h.1.1.sender h.1.1))
+  clean_sack_by false false n a_rwnd blocks phase t c h = (h.0, (h.1.0, with_sender (waits phase) (waits phase) t t.sender h.1.1.sender h.1.1))
 
   pub on_sack_holds : (k : SackTree) (s : State) (c : Context P) → StateHolds s c.options c.heartbeats → EndHolds (on_sack_in s k c)
   on_sack_holds k Closed c h = h
   on_sack_holds k (CookieWait tag first t1) c h = h
-  on_sack_holds k (Open phase t) c h = clean_sack_by (sack.is_valid _ (clean_blocks k.gap_ack_blocks) t.sender.outstanding.items) _ k.a_rwnd (clean_blocks k.gap_ack_blocks) phase t c h
+  on_sack_holds k (Open phase t) c h = clean_sack_by (is_late c.options (item_number_of t.sender.outstanding k.cumulative_tsn_ack) t.sender.outstanding.items) (sack.is_valid _ (clean_blocks k.gap_ack_blocks) t.sender.outstanding.items) _ k.a_rwnd (clean_blocks k.gap_ack_blocks) phase t c h

@@ -72,11 +72,11 @@ runs_timed [] w v e h = subst AreTimed (sym e) h
 runs_timed (action ∷ actions) w v r h = runs_timed actions r.0 v r.2 (happens action w r.0 r.1 h)
 
 new_world : (options_a options_b : Options) (draws_a draws_b : Stream) (word_of_a word_of_b : List ℕ → ℕ) → IsValid options_a → IsValid options_b
-    → AreTimed (fresh_world options_a options_b draws_a draws_b word_of_a word_of_b)
-new_world options_a options_b draws_a draws_b word_of_a word_of_b a b A = new_ends options_a (writing word_of_a) draws_a a
-new_world options_a options_b draws_a draws_b word_of_a word_of_b a b B = new_ends options_b (writing word_of_b) draws_b b
+    → options_a.avoid_stalls ≡ false → options_b.avoid_stalls ≡ false → AreTimed (fresh_world options_a options_b draws_a draws_b word_of_a word_of_b)
+new_world options_a options_b draws_a draws_b word_of_a word_of_b a b off_a off_b A = new_ends options_a (writing word_of_a) draws_a a off_a
+new_world options_a options_b draws_a draws_b word_of_a word_of_b a b off_a off_b B = new_ends options_b (writing word_of_b) draws_b b off_b
 
 pub worlds_awake : WorldsAreAwake
-worlds_awake options_a options_b draws_a draws_b word_of_a word_of_b actions w a b r x =
+worlds_awake options_a options_b draws_a draws_b word_of_a word_of_b actions w a b off_a off_b r x =
     let first : World = fresh_world options_a options_b draws_a draws_b word_of_a word_of_b in
-    awake (side_of x w).socket.endpoint_state (runs_timed actions first w r (new_world options_a options_b draws_a draws_b word_of_a word_of_b a b) x)
+    awake (side_of x w).socket.endpoint_state (runs_timed actions first w r (new_world options_a options_b draws_a draws_b word_of_a word_of_b a b off_a off_b) x)

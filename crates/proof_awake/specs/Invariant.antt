@@ -17,7 +17,7 @@ pub record Lasts (t : Timer) : Type 0 where
   pub restarts : t.restarts ≡ None
   pub duration : 1 ≤ t.duration
 
--- of the options: valid ones have it
+-- of the options: valid ones have it, without stalls avoided
 pub record HasLimits (o : Options) : Type 0 where
   pub rto_range : o.rto_min ≤ o.rto_max
   pub rto_min : 2 ≤ o.rto_min
@@ -29,6 +29,7 @@ pub record HasLimits (o : Options) : Type 0 where
   pub mtu_most : o.mtu ≤ 65535
   pub cwnd_initial : 1 ≤ o.cwnd_mtus_initial
   pub cwnd_min : 1 ≤ o.cwnd_mtus_min
+  pub original : o.avoid_stalls ≡ false  -- with stalls avoided a shutdown may wait for the queue alone
 
 -- ---- the parts of a control block
 

@@ -1,18 +1,20 @@
 -- Progress, as laws of the table: between calls an end that owes something has a timer that runs.
-use Rattle.std.specs.Prelude.{◌≡◌, ℕ, ◌<◌, ◌==◌, true, false, Some, None, List}
+use Rattle.std.specs.Prelude.{◌≡◌, ℕ, ◌<◌, ◌≤◌, ◌==◌, max, true, false, Some, None, List}
 use Rattle.rand_core.specs.Stream.{Stream}
 use Rattle.sctp_serial.specs.Time.{forever}
 use Rattle.sctp_state.specs.Options.{Options, IsValid}
 use Rattle.sctp_state.specs.Timer.{Timer}
 use Rattle.spec_endpoint.specs.Association.{Tcb, Phase, CookieEchoed, Established, ShutdownPending, ShutdownSent, ShutdownReceived, ShutdownAckSent, State, Closed, CookieWait, Open, Heartbeats, Packing, EndpointState, Endpoint, fresh}
-use Rattle.spec_endpoint.specs.Timers.{poll_timeout}
+use Rattle.sctp_tx_outstanding.specs.Forward.{is_forward_due}
+use Rattle.spec_endpoint.specs.Sending.{is_before_cookie_ack}
+use Rattle.spec_endpoint.specs.Timers.{sends_owed, poll_timeout}
 use Rattle.spec_endpoint.specs.Laws.{Call, called}
 use Rattle.proof_awake.specs.Awake.{is_none, is_delayed, is_restore, IsAwake}
 use Rattle.proof_awake.specs.Invariant.{IsTimed}
 
 -- a new end with valid options; and what each call leaves, but the one that takes up a record, which starts no timer
 abbrev pub NewEndsAreTimed : Type 0
-NewEndsAreTimed = (o : Options) (pack : Packing (List ℕ)) (draws : Stream) → IsValid o → IsTimed (fresh o pack draws).endpoint_state
+NewEndsAreTimed = (o : Options) (pack : Packing (List ℕ)) (draws : Stream) → IsValid o → o.avoid_stalls ≡ false → IsTimed (fresh o pack draws).endpoint_state
 
 abbrev pub EachCallKeepsTimed : Type 0
 EachCallKeepsTimed = (call : Call) (s : Endpoint (List ℕ)) → is_restore call ≡ false → IsTimed s.endpoint_state → IsTimed (called call s).endpoint_state
@@ -58,6 +60,12 @@ abbrev pub StateIsQuiet : State → Heartbeats → Type 0
 StateIsQuiet Closed h = Unit {0}
 StateIsQuiet (CookieWait tag first t1) h = ⊥
 StateIsQuiet (Open phase t) h = IsQuiet phase t h
+
+-- with stalls avoided a forward point that is due has a moment, where packets may go out (RFC 3758 section 3.5)
+abbrev pub DuePointsHaveAMoment : Type 0
+DuePointsHaveAMoment =
+    (s : EndpointState (List ℕ)) (phase : Phase) (t : Tcb) → s.state ≡ Open phase t → is_before_cookie_ack phase ≡ false → sends_owed s.context ≡ true
+    → is_forward_due t.sender.outstanding.items ≡ true → poll_timeout s ≤ max s.context.forward_from s.context.now
 
 -- no moment is named only by an end that is closed or quiet
 abbrev pub OnlyQuietEndsNameNoMoment : Type 0

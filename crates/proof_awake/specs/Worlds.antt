@@ -1,5 +1,5 @@
 -- Each end of a world is awake between events, and has no stream in line while nothing is kept.
-use Rattle.std.specs.Prelude.{ℕ, ◌≤◌, List}
+use Rattle.std.specs.Prelude.{ℕ, ◌≤◌, ◌≡◌, false, List}
 use Rattle.rand_core.specs.Stream.{Stream}
 use Rattle.sctp_state.specs.Options.{Options, IsValid}
 use Rattle.spec_world.specs.Observations.{End}
@@ -15,6 +15,7 @@ EndsAreAwake w = (x : End) → IsAwake (side_of x w).socket.endpoint_state
 abbrev pub WorldsAreAwake : Type 0
 WorldsAreAwake =
     (options_a options_b : Options) (draws_a draws_b : Stream) (word_of_a word_of_b : List ℕ → ℕ) (actions : List Action) (w : World) → IsValid options_a → IsValid options_b
+    → options_a.avoid_stalls ≡ false → options_b.avoid_stalls ≡ false
     → Runs actions (fresh_world options_a options_b draws_a draws_b word_of_a word_of_b) w → EndsAreAwake w
 
 -- an end with bursts of two packets or more

@@ -3,7 +3,7 @@
 #![tactic(auto)]
 
 ghost use Rattle.proof_awake.specs.Asking.{OwnPacketsAskOnce};
-ghost use Rattle.proof_awake.specs.Laws.{EachCallKeepsTimed, NewEndsAreTimed, OnlyQuietEndsNameNoMoment, TimedEndsAreAwake};
+ghost use Rattle.proof_awake.specs.Laws.{DuePointsHaveAMoment, EachCallKeepsTimed, NewEndsAreTimed, OnlyQuietEndsNameNoMoment, TimedEndsAreAwake};
 ghost use Rattle.proof_awake.specs.LeftBehind.{ALineIsLeft, AResetIsLeftBehind, NumbersAreLeftBehind};
 ghost use Rattle.proof_awake.specs.Line.{EachCallKeepsLined, NewEndsAreLined, SendingCallsLeaveNoLine, SendingsLeaveNoLine};
 ghost use Rattle.proof_awake.specs.Restored.{EachPacketWithDataStartsTimers, EachSackStartsT3};
@@ -23,6 +23,11 @@ pub fn ends_are_awake()
 /// acknowledgement and no heartbeats.
 pub fn only_quiet_ends_name_no_moment()
     ensures quiet { OnlyQuietEndsNameNoMoment }
+{}
+
+/// With stalls avoided a forward point that is due goes out where its limit ends: `poll_timeout` names that moment.
+pub fn due_points_have_a_moment()
+    ensures point { DuePointsHaveAMoment }
 {}
 
 /// Each end of a world is awake between events, whatever led it there.

@@ -28,7 +28,7 @@ use Rattle.spec_endpoint.specs.StreamReset.{on_outcome}
 use Rattle.spec_endpoint.specs.Sending.{fast_most}
 use Rattle.spec_endpoint.specs.Laws.{Call, ResetStreams, Restore}
 use Rattle.proof_endpoint.specs.Mapped.{Carried}
-use Rattle.proof_endpoint.specs.Acts.{EndWithPacket, IsOffered, point_of, fragments_of, PacketAct, begins, adds_plain, emits, emits_error, counts, before_packets, after_packets, OpeningAct, connects, adds_init, answers_new, answers_waiting, answers_echoed, answers_again, echoes, adds_cookie, establishes, opens, restarts, opens_again, maintains, adds_cookie_ack, before_opening, after_opening, ClosingAct, closes, shuts, shuts_on, before_closing, after_closing, DataAct, takes_data, takes_idata, takes_forward, takes_iforward, before_data, after_data, SackAct, takes_sack, samples, counts_errors, before_sack, after_sack, SendingAct, asks, adds_ack, expires, adds_forward, forwards_later, asks_no_reset, asks_reset, adds_request, sends, sends_fast, before_sending, after_sending, TimeAct, advances, delay_ends, times_out, beats, times_init, times_cookie, times_request, wakes_request, before_time, after_time, CallAct, accepts, refuses, takes_message, sets_low_threshold, sets_priority, sets_max_message_size, before_call, after_call, ResetAct, prepares, defers, performs, processes, takes_response, adds_responses, before_reset, after_reset, HandoverAct, leaves, takes_up, before_handover, after_handover, InputAct, ends_packet, before_input, after_input, Preserves}
+use Rattle.proof_endpoint.specs.Acts.{EndWithPacket, IsOffered, point_of, fragments_of, PacketAct, begins, adds_plain, emits, emits_error, counts, before_packets, after_packets, OpeningAct, connects, adds_init, answers_new, answers_waiting, answers_echoed, answers_again, echoes, adds_cookie, establishes, opens, restarts, opens_again, maintains, adds_cookie_ack, before_opening, after_opening, ClosingAct, closes, shuts, shuts_on, before_closing, after_closing, DataAct, takes_data, takes_idata, takes_forward, takes_iforward, before_data, after_data, SackAct, takes_sack, samples, counts_errors, before_sack, after_sack, SendingAct, asks, forces_ack, adds_ack, expires, adds_forward, forwards_later, asks_no_reset, asks_reset, adds_request, sends, sends_fast, before_sending, after_sending, TimeAct, advances, delay_ends, times_out, beats, times_init, times_cookie, times_request, times_items, wakes_request, before_time, after_time, CallAct, accepts, refuses, takes_message, sets_low_threshold, sets_priority, sets_max_message_size, before_call, after_call, ResetAct, prepares, defers, performs, processes, takes_response, adds_responses, before_reset, after_reset, HandoverAct, leaves, takes_up, before_handover, after_handover, InputAct, ends_packet, before_input, after_input, Preserves}
 use Rattle.proof_delivery.specs.Justified.{Acceptance, limit_of, HasExpired, IsRight, dated_record, IsJustified}
 use Rattle.proof_delivery.specs.GivenUp.{kept_in}
 use Rattle.proof_delivery.proofs.JustifiedQueueLemmas.{Holds, holds_mode, holds_reset, holds_priority, holds_threshold, holds_prepared, holds_each_stepped, stream_stands, waits_right}
@@ -177,7 +177,7 @@ module _ (accepted : List Acceptance) (resets : List ℕ) where
     sound_opening (establishes tag t1 cookie t m received) h = h
     sound_opening (opens tag k m echoed none own) h =
         anew (kept_in m.state) m.context.now m.context.queue _ m.context.emitted.given_up
-        (holds_for false (negotiate m.context.options k.peer_capabilities).message_interleaving m.context.queue) h
+        (holds_for m.context.options.avoid_stalls (negotiate m.context.options k.peer_capabilities).message_interleaving m.context.queue) h
     sound_opening (restarts tag k phase t m echoed verdict) h =
         anew t.sender.outstanding.items.kept m.context.now m.context.queue _ m.context.emitted.given_up
         (holds_for true (negotiate m.context.options k.peer_capabilities).message_interleaving m.context.queue) h
@@ -208,6 +208,7 @@ module _ (accepted : List Acceptance) (resets : List ℕ) where
 
     sound_sending : (act : SendingAct Carried call) → Onward (before_sending act) (after_sending act)
     sound_sending (asks also_if_delayed phase t m) h = h
+    sound_sending (forces_ack phase t m) h = h
     sound_sending (adds_ack phase t m) h = h
     sound_sending (expires phase t m) h =
         onward t.sender _ m.context.now m.context.queue m.context.emitted _
@@ -240,6 +241,7 @@ module _ (accepted : List Acceptance) (resets : List ℕ) where
     sound_time (times_init tag first old new m) h = h
     sound_time (times_cookie old new cookie t m) h = h
     sound_time (times_request timer phase t m) h = h
+    sound_time (times_items timer phase t m) h = h
     sound_time (wakes_request phase t m) h = h
 
     sound_calls : (act : CallAct Carried call) → Onward (before_call act) (after_call act)

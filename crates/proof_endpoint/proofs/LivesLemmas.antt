@@ -100,7 +100,7 @@ module _ {P : Type 0} (l : ℕ) where
     lives_opening (echoes tag i cookie my_tag first t1 m received brought) =
         requeued (queue_anew (agreed_by m.context.options i).message_interleaving m.context.queue) (in_state Closed m) (waiting_reset l m.context.queue)
     lives_opening (establishes tag t1 cookie t m received) = said OnConnected (in_open Established t m) refl
-    lives_opening (opens tag k m echoed none own) = opened false k m
+    lives_opening (opens tag k m echoed none own) = opened m.context.options.avoid_stalls k m
     lives_opening (restarts tag k phase t m echoed resolution) =
         let a : EndWithPacket P = in_open phase t m in
         spends_then l (said OnConnectionRestarted a refl) (opened true k (with_context (emit_event_in OnConnectionRestarted m.context) a))

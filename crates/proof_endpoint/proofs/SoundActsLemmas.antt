@@ -35,10 +35,10 @@ use Rattle.proof_endpoint.proofs.GoesLemmas.{small_empty}
 use Rattle.proof_endpoint.specs.Sound.{OptionsFit, FitsQueue, FitsRequest, FitsPhase, FitsState, FitsMessage, HasBytes, ArgumentFits}
 use Rattle.proof_endpoint.specs.ReadBack.{CanBeRead}
 use Rattle.proof_endpoint.specs.Fair.{IsFairParameter}
-use Rattle.proof_endpoint.specs.Acts.{EndWithPacket, end_of, in_open, with_context, drawn_tag, drawn_first, opened_by, point_of, fragments_of, IsOffered, alone, among, Fitting, HasRequest, for_outgoing, for_incoming, Answers, PacketAct, begins, adds_plain, emits, emits_error, counts, before_packets, after_packets, OpeningAct, connects, adds_init, answers_new, answers_waiting, answers_echoed, answers_again, echoes, adds_cookie, establishes, opens, restarts, opens_again, maintains, adds_cookie_ack, before_opening, after_opening, ClosingAct, closes, shuts, shuts_on, before_closing, after_closing, DataAct, takes_data, takes_idata, takes_forward, takes_iforward, before_data, after_data, SackAct, takes_sack, samples, counts_errors, before_sack, after_sack, SendingAct, asks, adds_ack, expires, adds_forward, forwards_later, asks_no_reset, asks_reset, adds_request, sends, sends_fast, before_sending, after_sending, TimeAct, advances, delay_ends, times_out, beats, times_init, times_cookie, times_request, wakes_request, timeout_of, before_time, after_time, CallAct, accepts, refuses, takes_message, sets_low_threshold, sets_priority, sets_max_message_size, before_call, after_call, ResetAct, prepares, defers, performs, processes, takes_response, adds_responses, before_reset, after_reset, HandoverAct, leaves, takes_up, before_handover, after_handover, InputAct, ends_packet, before_input, after_input, Preserves}
+use Rattle.proof_endpoint.specs.Acts.{EndWithPacket, end_of, in_open, with_context, drawn_tag, drawn_first, opened_by, point_of, fragments_of, IsOffered, alone, among, Fitting, HasRequest, for_outgoing, for_incoming, Answers, PacketAct, begins, adds_plain, emits, emits_error, counts, before_packets, after_packets, OpeningAct, connects, adds_init, answers_new, answers_waiting, answers_echoed, answers_again, echoes, adds_cookie, establishes, opens, restarts, opens_again, maintains, adds_cookie_ack, before_opening, after_opening, ClosingAct, closes, shuts, shuts_on, before_closing, after_closing, DataAct, takes_data, takes_idata, takes_forward, takes_iforward, before_data, after_data, SackAct, takes_sack, samples, counts_errors, before_sack, after_sack, SendingAct, asks, forces_ack, adds_ack, expires, adds_forward, forwards_later, asks_no_reset, asks_reset, adds_request, sends, sends_fast, before_sending, after_sending, TimeAct, advances, delay_ends, times_out, beats, times_init, times_cookie, times_request, times_items, wakes_request, timeout_of, before_time, after_time, CallAct, accepts, refuses, takes_message, sets_low_threshold, sets_priority, sets_max_message_size, before_call, after_call, ResetAct, prepares, defers, performs, processes, takes_response, adds_responses, before_reset, after_reset, HandoverAct, leaves, takes_up, before_handover, after_handover, InputAct, ends_packet, before_input, after_input, Preserves}
 use Rattle.proof_endpoint.proofs.ReceivedLemmas.{FitsCookie}
 use Rattle.proof_endpoint.proofs.OpeningActsLemmas.{echoed_fits}
-use Rattle.proof_endpoint.proofs.SoundTrackerLemmas.{ack_fits, end_fits, timeout_fits, reported_fits}
+use Rattle.proof_endpoint.proofs.SoundTrackerLemmas.{ack_fits, forced_fits, end_fits, timeout_fits, reported_fits}
 use Rattle.proof_endpoint.proofs.SoundQueueLemmas.{added_fits, threshold_fits, priority_fits, reset_fits, prepare_fits, steps_fit, requested_fits, restore_fits}
 use Rattle.proof_endpoint.proofs.SoundItemsLemmas.{word_small, nack_all_fits}
 use Rattle.proof_endpoint.proofs.SoundTxLemmas.{received_fits, sender_expired_fits, resent_fast_fits, sent_fast_fits, FitsFilling, send_fits}
@@ -262,7 +262,7 @@ module _ {P : Type 0} (g : Start P) (call : Call) (a : Argument call) where
   goes_opening (adds_cookie t1 cookie t m to) h =
       with_the_packet h _ (good_add g.most m.packet (cookie_echo_chunk cookie) (own_cookie_echo cookie h.state.0) h.packet)
   goes_opening (establishes tag t1 cookie t m received) h = saying (in_the_state h (Open Established t) (tt, h.state.1)) OnConnected tt
-  goes_opening (opens tag k m echoed none own) h = opened g false k m (echoed_fits tag k echoed a.fitting) h
+  goes_opening (opens tag k m echoed none own) h = opened g m.context.options.avoid_stalls k m (echoed_fits tag k echoed a.fitting) h
   goes_opening (restarts tag k phase t m echoed resolution) h =
       opened g true k (with_context (emit_event_in OnConnectionRestarted m.context) (in_open phase t m)) (echoed_fits tag k echoed a.fitting) (saying h OnConnectionRestarted tt)
   goes_opening (opens_again tag k phase t m echoed resolution) h = opened g true k (in_open phase t m) (echoed_fits tag k echoed a.fitting) h
@@ -292,6 +292,7 @@ module _ {P : Type 0} (g : Start P) (call : Call) (a : Argument call) where
 
   goes_sending : (act : SendingAct P call) → Onward (before_sending act) (after_sending act)
   goes_sending (asks b phase t m) h = in_the_state h _ (h.state.0, with_tracker t _ (ack_fits b t.tracker.tracker h.state.1.tracker) h.state.1)
+  goes_sending (forces_ack phase t m) h = in_the_state h _ (h.state.0, with_tracker t _ (forced_fits t.tracker.tracker h.state.1.tracker) h.state.1)
   goes_sending (adds_ack phase t m) h =
       in_the_state (with_the_packet h _ (good_add g.most m.packet (selective_ack t) (own_sack t h.state.1) h.packet)) _
       (h.state.0, with_tracker t _ (reported_fits t.tracker.tracker h.state.1.tracker) h.state.1)
@@ -338,6 +339,7 @@ module _ {P : Type 0} (g : Start P) (call : Call) (a : Argument call) where
   goes_time (times_request timer phase t m) h =
       let r = h.state.1.requests in
       in_the_state h _ (h.state.0, with_requests t _ (record { next = r.next; current = r.current; result = r.result }) h.state.1)
+  goes_time (times_items timer phase t m) h = in_the_state h _ (h.state.0, with_sender t _ h.state.1.items h.state.1)
   goes_time (wakes_request phase t m) h = in_the_state h _ (h.state.0, with_requests t _ (woken_fits t.requests h.state.1.requests) h.state.1)
 
   message_fits : (m : Message) (o : SendOptions) → IsOffered call m o → FitsMessage m

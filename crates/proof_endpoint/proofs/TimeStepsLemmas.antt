@@ -1,5 +1,5 @@
 -- What the passing of time emits.
-use Rattle.std.proofs.Common.{ℕ, nat_lt, Bool, true, false, List, codes, refl}
+use Rattle.std.proofs.Common.{ℕ, nat_lt, Bool, true, false, List, codes, refl, ◌||◌}
 use Rattle.sctp_state.specs.declared.api.ErrorKind.TheVariants.{TooManyRetries}
 use Rattle.sctp_state.specs.TxErrorCounter.{is_exhausted}
 use Rattle.sctp_state.specs.RetransmissionTimeout.{rto}
@@ -11,7 +11,7 @@ use Rattle.spec_endpoint.specs.ResetRequests.{lasting, expire_reconfig_timer, cl
 use Rattle.spec_endpoint.specs.Sending.{AfterSending, add_request, send_cookie}
 use Rattle.spec_endpoint.specs.Shutdown.{send_shutdown, send_shutdown_ack}
 use Rattle.spec_endpoint.specs.Heartbeats.{counted_on, heartbeat_chunk, send_heartbeat_if, heartbeat_timeout_if}
-use Rattle.spec_endpoint.specs.Timers.{Ticking, tick_ack, t3_if, tick_t3, tick_interval, tick_timeout, request_again, errs_if, requests_again, reconfig_timeout, requests_if, ticking, tick_timers, TimerOutcome, closed_if, after_timers, abort_if, abort_if_exhausted, abort_or_send_if, abort_or_send, after_ticks_if, after_ticks, t2_expired, t2_if, tick_t2, waits_if, echoed_again, t1_expired, t1_if, tick_cookie, InitOutcome, waiting_if, init_expired, init_if, tick_init, tick_open, tick_in, advance_if, advance}
+use Rattle.spec_endpoint.specs.Timers.{Ticking, tick_ack, t3_if, tick_t3, tick_interval, tick_timeout, request_again, errs_if, requests_again, reconfig_timeout, requests_if, ticking, tick_timers, TimerOutcome, closed_if, after_timers, abort_if, abort_if_exhausted, abort_or_send_if, abort_or_send, after_ticks_if, after_ticks, t2_expired, t2_if, tick_t2, waits_if, echoed_again, t1_expired, t1_if, tick_cookie, InitOutcome, waiting_if, init_expired, init_if, tick_init, tick_open, tick_in, advance_if, advance, is_owed}
 use Rattle.spec_endpoint.specs.Laws.{ends}
 use Rattle.proof_endpoint.proofs.StepsLemmas.{most_bytes, Goes, Steps}
 use Rattle.proof_endpoint.proofs.EmitsLemmas.{emits_nack_all}
@@ -113,7 +113,7 @@ module _ {P : Type 0} where
   leaves_settled_if false t c = goes_same c
 
   leaves_settled : (c : Context P) (x : Ticking P) → Goes 0 c x.context → Leaves c (after_ticks x)
-  leaves_settled c x g = leaves_then c x.context (after_ticks x) g (leaves_settled_if x.has_expired x.tcb x.context)
+  leaves_settled c x g = leaves_then c x.context (after_ticks x) g (leaves_settled_if (x.has_expired || is_owed x.tcb x.context) x.tcb x.context)
 
   -- ---- T2-shutdown
 

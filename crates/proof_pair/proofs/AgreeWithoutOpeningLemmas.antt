@@ -9,7 +9,7 @@ use Rattle.sctp_state.specs.Events.{Event, SendPacket, OnConnected, OnError, OnC
 use Rattle.spec_endpoint.specs.Association.{State}
 use Rattle.spec_endpoint.specs.Laws.{Call, Restore, ending}
 use Rattle.proof_endpoint.specs.Mapped.{Carried}
-use Rattle.proof_endpoint.specs.Acts.{EndWithPacket, BringsChunk, IsEchoed, PacketAct, begins, adds_plain, emits, emits_error, counts, before_packets, after_packets, OpeningAct, connects, adds_init, answers_new, answers_waiting, answers_echoed, answers_again, echoes, adds_cookie, establishes, opens, restarts, opens_again, maintains, adds_cookie_ack, before_opening, after_opening, ClosingAct, closes, shuts, shuts_on, before_closing, after_closing, DataAct, takes_data, takes_idata, takes_forward, takes_iforward, before_data, after_data, SackAct, takes_sack, samples, counts_errors, before_sack, after_sack, SendingAct, asks, adds_ack, expires, adds_forward, forwards_later, asks_no_reset, asks_reset, adds_request, sends, sends_fast, before_sending, after_sending, TimeAct, advances, delay_ends, times_out, beats, times_init, times_cookie, times_request, wakes_request, before_time, after_time, CallAct, takes_message, before_call, after_call, ResetAct, prepares, defers, performs, processes, takes_response, adds_responses, before_reset, after_reset, HandoverAct, leaves, takes_up, before_handover, after_handover, InputAct, ends_packet, before_input, after_input, Preserves}
+use Rattle.proof_endpoint.specs.Acts.{EndWithPacket, BringsChunk, IsEchoed, PacketAct, begins, adds_plain, emits, emits_error, counts, before_packets, after_packets, OpeningAct, connects, adds_init, answers_new, answers_waiting, answers_echoed, answers_again, echoes, adds_cookie, establishes, opens, restarts, opens_again, maintains, adds_cookie_ack, before_opening, after_opening, ClosingAct, closes, shuts, shuts_on, before_closing, after_closing, DataAct, takes_data, takes_idata, takes_forward, takes_iforward, before_data, after_data, SackAct, takes_sack, samples, counts_errors, before_sack, after_sack, SendingAct, asks, forces_ack, adds_ack, expires, adds_forward, forwards_later, asks_no_reset, asks_reset, adds_request, sends, sends_fast, before_sending, after_sending, TimeAct, advances, delay_ends, times_out, beats, times_init, times_cookie, times_request, times_items, wakes_request, before_time, after_time, CallAct, takes_message, before_call, after_call, ResetAct, prepares, defers, performs, processes, takes_response, adds_responses, before_reset, after_reset, HandoverAct, leaves, takes_up, before_handover, after_handover, InputAct, ends_packet, before_input, after_input, Preserves}
 use Rattle.proof_pair.specs.Trace.{has_connected}
 use Rattle.proof_pair.specs.Agreement.{Association, Has, held_in}
 use Rattle.proof_pair.proofs.EmittedLemmas.{EmitsNoPacketOrStatus}
@@ -98,6 +98,7 @@ module _ (call : Call) (calm : BringsNoOpening call) where
 
   keeps_sending : (act : SendingAct Carried call) → RestsAt (before_sending act) (after_sending act)
   keeps_sending (asks also_if_delayed phase t m) = record { held = λ a h. h; emitted = refl }
+  keeps_sending (forces_ack phase t m) = record { held = λ a h. h; emitted = refl }
   keeps_sending (adds_ack phase t m) = record { held = λ a h. h; emitted = refl }
   keeps_sending (expires phase t m) =
       let act : SendingAct Carried call = expires phase t m in
@@ -122,6 +123,7 @@ module _ (call : Call) (calm : BringsNoOpening call) where
   keeps_time (times_init tag first old new m) = record { held = λ a h. h; emitted = refl }
   keeps_time (times_cookie old new cookie t m) = record { held = λ a h. h; emitted = refl }
   keeps_time (times_request timer phase t m) = record { held = λ a h. h; emitted = refl }
+  keeps_time (times_items timer phase t m) = record { held = λ a h. h; emitted = refl }
   keeps_time (wakes_request phase t m) = record { held = λ a h. h; emitted = refl }
 
   keeps_calls : (act : CallAct Carried call) → RestsAt (before_call act) (after_call act)

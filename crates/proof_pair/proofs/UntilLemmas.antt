@@ -9,7 +9,7 @@ use Rattle.spec_endpoint.specs.ResetRequests.{Outcome, Unsettled, Done, Denied, 
 use Rattle.spec_endpoint.specs.Packets.{room}
 use Rattle.spec_endpoint.specs.StreamReset.{on_outcome}
 use Rattle.spec_endpoint.specs.Laws.{Call, called, ending, endings}
-use Rattle.proof_endpoint.specs.Acts.{EndWithPacket, calm, PacketAct, begins, adds_plain, emits, emits_error, counts, before_packets, after_packets, OpeningAct, connects, adds_init, answers_new, answers_waiting, answers_echoed, answers_again, echoes, adds_cookie, establishes, opens, restarts, opens_again, maintains, adds_cookie_ack, before_opening, after_opening, ClosingAct, closes, shuts, shuts_on, before_closing, after_closing, DataAct, takes_data, takes_idata, takes_forward, takes_iforward, before_data, after_data, SackAct, takes_sack, samples, counts_errors, point_of, before_sack, after_sack, SendingAct, asks, adds_ack, expires, adds_forward, forwards_later, asks_no_reset, asks_reset, adds_request, sends, sends_fast, before_sending, after_sending, TimeAct, advances, delay_ends, times_out, beats, times_init, times_cookie, times_request, wakes_request, before_time, after_time, CallAct, accepts, refuses, takes_message, sets_low_threshold, sets_priority, sets_max_message_size, before_call, after_call, ResetAct, prepares, defers, performs, processes, takes_response, adds_responses, before_reset, after_reset, HandoverAct, leaves, takes_up, before_handover, after_handover, InputAct, ends_packet, before_input, after_input, Preserves, HasNoEnd, PreservesUntilEnd}
+use Rattle.proof_endpoint.specs.Acts.{EndWithPacket, calm, PacketAct, begins, adds_plain, emits, emits_error, counts, before_packets, after_packets, OpeningAct, connects, adds_init, answers_new, answers_waiting, answers_echoed, answers_again, echoes, adds_cookie, establishes, opens, restarts, opens_again, maintains, adds_cookie_ack, before_opening, after_opening, ClosingAct, closes, shuts, shuts_on, before_closing, after_closing, DataAct, takes_data, takes_idata, takes_forward, takes_iforward, before_data, after_data, SackAct, takes_sack, samples, counts_errors, point_of, before_sack, after_sack, SendingAct, asks, forces_ack, adds_ack, expires, adds_forward, forwards_later, asks_no_reset, asks_reset, adds_request, sends, sends_fast, before_sending, after_sending, TimeAct, advances, delay_ends, times_out, beats, times_init, times_cookie, times_request, times_items, wakes_request, before_time, after_time, CallAct, accepts, refuses, takes_message, sets_low_threshold, sets_priority, sets_max_message_size, before_call, after_call, ResetAct, prepares, defers, performs, processes, takes_response, adds_responses, before_reset, after_reset, HandoverAct, leaves, takes_up, before_handover, after_handover, InputAct, ends_packet, before_input, after_input, Preserves, HasNoEnd, PreservesUntilEnd}
 use Rattle.proof_pair.proofs.EmittedLemmas.{is_no_packet_or_status, EmitsNoPacketOrStatus, emits_same, emits_all, emits_nack_all, emits_expired, emits_sack, emits_threshold, emits_sent, emits_prepared, emits_refused}
 use Rattle.proof_endpoint.proofs.ActsLemmas.{keeps_call}
 use Rattle.proof_endpoint.proofs.EmitsLemmas.{endings_append}
@@ -40,6 +40,7 @@ module _ {P : Type 0} {call : Call} where
   sending_act_emits_no_packet_or_status (expires phase t m) = emits_expired m.context.now t.sender.outstanding.items m.context.emitted
   sending_act_emits_no_packet_or_status (sends phase t m) = emits_sent m.context.now (room m.packet) t.sender m.context.queue m.context.emitted
   sending_act_emits_no_packet_or_status (asks also_if_delayed phase t m) = emits_same m.context.emitted
+  sending_act_emits_no_packet_or_status (forces_ack phase t m) = emits_same m.context.emitted
   sending_act_emits_no_packet_or_status (adds_ack phase t m) = emits_same m.context.emitted
   sending_act_emits_no_packet_or_status (adds_forward phase t m due) = emits_same m.context.emitted
   sending_act_emits_no_packet_or_status (forwards_later n m) = emits_same m.context.emitted
@@ -56,6 +57,7 @@ module _ {P : Type 0} {call : Call} where
   time_act_emits_no_packet_or_status (times_init tag first old new m) = emits_same m.context.emitted
   time_act_emits_no_packet_or_status (times_cookie old new cookie t m) = emits_same m.context.emitted
   time_act_emits_no_packet_or_status (times_request timer phase t m) = emits_same m.context.emitted
+  time_act_emits_no_packet_or_status (times_items timer phase t m) = emits_same m.context.emitted
   time_act_emits_no_packet_or_status (wakes_request phase t m) = emits_same m.context.emitted
 
   pub call_act_emits_no_packet_or_status : (act : CallAct P call) → ActEmitsNoPacketOrStatus (before_call act) (after_call act)
