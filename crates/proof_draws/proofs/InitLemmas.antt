@@ -9,7 +9,7 @@ use Rattle.sctp_state.specs.Options.{Options}
 use Rattle.sctp_state.specs.Timer.{Timer}
 use Rattle.spec_endpoint.specs.Association.{Tcb, Phase, CookieEchoed, Established, ShutdownPending, ShutdownSent, ShutdownReceived, ShutdownAckSent, State, Closed, CookieWait, Open, Context, Endpoint}
 use Rattle.spec_endpoint.specs.Opening.{tsn_from, tag_from, word, drew_word, cookie_for}
-use Rattle.spec_endpoint.specs.Input.{packet_refusal, count_packet_at, packet_if, on_accepted_packet, ack_if_due}
+use Rattle.spec_endpoint.specs.Input.{packet_refusal, count_packet_at, packet_if, on_accepted_packet, ack_if_due, shut_if}
 use Rattle.spec_endpoint.specs.Laws.{Call, ReceivePacket, called, is_closed}
 use Rattle.proof_endpoint.specs.Mapped.{Carried}
 use Rattle.proof_pair.specs.Trace.{Side, AreValidOptions, as_carried, as_received, state_of}
@@ -31,9 +31,11 @@ use Rattle.proof_draws.proofs.EchoLemmas.{cookie_made}
 
 -- ---- an end that receives an INIT alone keeps its state
 
-pub ended_stays : (b : Bool) (phase : Phase) (t : Tcb) (c : Context Carried) → is_closed (ack_if_due b phase t c).state ≡ false
-ended_stays true phase t c = refl
-ended_stays false phase t c = refl
+pub ended_stays : (avoids b : Bool) (phase : Phase) (t : Tcb) (c : Context Carried) → is_closed (shut_if avoids (ack_if_due b phase t c)).state ≡ false
+ended_stays true true phase t c = refl
+ended_stays true false phase t c = refl
+ended_stays false true phase t c = refl
+ended_stays false false phase t c = refl
 
 abbrev pub at_state : State → Context Carried → Stream → Endpoint Carried
 at_state s c w = record { endpoint_state = record { state = s; context = c }; draws = w }
@@ -43,12 +45,12 @@ module _ (tag : ℕ) (i : InitTree) where
       → is_closed (on_accepted_packet tag (init_chunk i ∷ []) (at_state s c w)).endpoint_state.state ≡ false
   init_leaves Closed c w h = cc
   init_leaves (CookieWait own first t1) c w h = refl
-  init_leaves (Open (CookieEchoed t1 cookie) t) c w h = ended_stays _ _ _ _
-  init_leaves (Open Established t) c w h = ended_stays _ _ _ _
-  init_leaves (Open ShutdownPending t) c w h = ended_stays _ _ _ _
-  init_leaves (Open (ShutdownSent t2) t) c w h = ended_stays _ _ _ _
-  init_leaves (Open ShutdownReceived t) c w h = ended_stays _ _ _ _
-  init_leaves (Open (ShutdownAckSent t2) t) c w h = ended_stays _ _ _ _
+  init_leaves (Open (CookieEchoed t1 cookie) t) c w h = ended_stays _ _ _ _ _
+  init_leaves (Open Established t) c w h = ended_stays _ _ _ _ _
+  init_leaves (Open ShutdownPending t) c w h = ended_stays _ _ _ _ _
+  init_leaves (Open (ShutdownSent t2) t) c w h = ended_stays _ _ _ _ _
+  init_leaves (Open ShutdownReceived t) c w h = ended_stays _ _ _ _ _
+  init_leaves (Open (ShutdownAckSent t2) t) c w h = ended_stays _ _ _ _ _
 
 -- the one chunk of such a packet
 abbrev pub IsThat : ChunkTree → Type 0

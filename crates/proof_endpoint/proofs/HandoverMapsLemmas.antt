@@ -10,7 +10,7 @@ use Rattle.spec_endpoint.specs.Packets.{emit_event_in}
 use Rattle.spec_endpoint.specs.Sending.{AfterSending, open_with, send_buffered}
 use Rattle.spec_endpoint.specs.Handover.{readiness_open, readiness, left_in, left_if, hand_over, tcb_from, queue_restored, take_up, restore_refusal_in, restored_as, restored_unless, restore, woken_if, goes_on}
 use Rattle.proof_endpoint.specs.Mapped.{Mapping, map_context, map_endpoint_state}
-use Rattle.proof_endpoint.proofs.SendingMapsLemmas.{maps_say, maps_send_buffered}
+use Rattle.proof_endpoint.proofs.SendingMapsLemmas.{map_sent, maps_say, maps_send_buffered}
 use Rattle.proof_endpoint.proofs.RowMapsLemmas.{maps_in_state}
 
 module _ {P Q : Type 0} (f : Mapping P Q) where

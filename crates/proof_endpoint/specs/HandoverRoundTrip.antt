@@ -29,8 +29,8 @@ use Rattle.sctp_tx_queue.specs.Readiness.{has_reset_pending}
 use Rattle.sctp_tx_queue.specs.Again.{again, entries_again}
 use Rattle.spec_endpoint.specs.Association.{Identity, Tcb, tcb, Established, Closed, Open, Context, context, EndpointState, fresh, Packing}
 use Rattle.spec_endpoint.specs.Packets.{emit_event_in}
-use Rattle.spec_endpoint.specs.Sending.{open_with, send_buffered}
-use Rattle.spec_endpoint.specs.Handover.{readiness, handover_state, handed_over, hand_over, method_if, tcb_from, queue_restored, restore}
+use Rattle.spec_endpoint.specs.Sending.{AfterSending}
+use Rattle.spec_endpoint.specs.Handover.{readiness, handover_state, handed_over, hand_over, method_if, tcb_from, queue_restored, woken_if, goes_on, restore}
 use Rattle.proof_endpoint.specs.Lifecycles.{one_if}
 
 -- ---- what each end with an association has
@@ -113,6 +113,11 @@ block_again t c = tcb_from c.now c.options (handover_state t c)
 abbrev pub context_again : Tcb → Context (List ℕ) → Packing (List ℕ) → Words → Context (List ℕ)
 context_again t c pack draws = emit_event_in OnConnected (queue_restored (handover_state t c) (successor c pack draws).context)
 
+-- and with stalls avoided, its timers started
+abbrev pub woken_again : Tcb → Context (List ℕ) → Packing (List ℕ) → Words → AfterSending (List ℕ)
+woken_again t c pack draws =
+    woken_if c.options.avoid_stalls (block_again t c) (queue_restored (handover_state t c) (successor c pack draws).context)
+
 -- The items come back under their TSNs, with what the record doesn't hold read anew.
 pub record ItemsComeBack (now : ℕ) (d after : Outstanding) : Type 0 where
   pub kept : after.items.kept ≡ items_again now d.items.kept
@@ -157,8 +162,7 @@ pub record GoesOn (t : Tcb) (c : Context (List ℕ)) (pack : Packing (List ℕ))
   pub left : hand_over (established_state t c) ≡ record { state = Closed; context = emit_event_in OnClosed c }
   pub nothing : NothingWaits t c.queue
   pub valid : is_valid_state (handed_over (established_state t c)) ≡ true
-  pub taken : restore (handed_over (established_state t c)) (successor c pack draws)
-      ≡ open_with Established (send_buffered false (block_again t c) (context_again t c pack draws))
+  pub taken : restore (handed_over (established_state t c)) (successor c pack draws) ≡ goes_on (woken_again t c pack draws)
   pub association : (block_again t c).identity ≡ t.identity
   pub capabilities : (block_again t c).capabilities ≡ t.capabilities
   pub items : ItemsComeBack c.now t.sender.outstanding (block_again t c).sender.outstanding

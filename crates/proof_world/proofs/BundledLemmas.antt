@@ -93,7 +93,7 @@ module _ (call : Call) where
 
   b_opening : (act : OpeningAct Carried call) → Onward (before_opening act) (after_opening act)
   b_opening (establishes tag t1 cookie t m received) h = saying m.context.pack m.context.emitted.events OnConnected tt h
-  b_opening (opens tag k m echoed none own) h = opened false k m h
+  b_opening (opens tag k m echoed none own) h = opened m.context.options.avoid_stalls k m h
   b_opening (restarts tag k phase t m echoed resolution) h =
       let a : EndWithPacket Carried = in_open phase t m in
       opened true k (with_context (emit_event_in OnConnectionRestarted m.context) a) (saying m.context.pack m.context.emitted.events OnConnectionRestarted tt h)

@@ -32,7 +32,7 @@ use Rattle.spec_endpoint.specs.Sack.{clean_blocks}
 use Rattle.spec_endpoint.specs.Sending.{fast_most}
 use Rattle.spec_endpoint.specs.StreamReset.{on_outcome}
 use Rattle.spec_endpoint.specs.Laws.{Call, Restore}
-use Rattle.proof_endpoint.specs.Acts.{EndWithPacket, point_of, fragments_of, IsOffered, PacketAct, begins, adds_plain, emits, emits_error, counts, before_packets, after_packets, OpeningAct, connects, adds_init, answers_new, answers_waiting, answers_echoed, answers_again, echoes, adds_cookie, establishes, opens, restarts, opens_again, maintains, adds_cookie_ack, before_opening, after_opening, ClosingAct, closes, shuts, shuts_on, before_closing, after_closing, DataAct, takes_data, takes_idata, takes_forward, takes_iforward, before_data, after_data, SackAct, takes_sack, samples, counts_errors, before_sack, after_sack, SendingAct, asks, adds_ack, expires, adds_forward, forwards_later, asks_no_reset, asks_reset, adds_request, sends, sends_fast, before_sending, after_sending, TimeAct, advances, delay_ends, times_out, beats, times_init, times_cookie, times_request, wakes_request, before_time, after_time, CallAct, accepts, refuses, takes_message, sets_low_threshold, sets_priority, sets_max_message_size, before_call, after_call, ResetAct, prepares, defers, performs, processes, takes_response, adds_responses, before_reset, after_reset, HandoverAct, leaves, takes_up, before_handover, after_handover, InputAct, ends_packet, before_input, after_input, Preserves}
+use Rattle.proof_endpoint.specs.Acts.{EndWithPacket, point_of, fragments_of, IsOffered, PacketAct, begins, adds_plain, emits, emits_error, counts, before_packets, after_packets, OpeningAct, connects, adds_init, answers_new, answers_waiting, answers_echoed, answers_again, echoes, adds_cookie, establishes, opens, restarts, opens_again, maintains, adds_cookie_ack, before_opening, after_opening, ClosingAct, closes, shuts, shuts_on, before_closing, after_closing, DataAct, takes_data, takes_idata, takes_forward, takes_iforward, before_data, after_data, SackAct, takes_sack, samples, counts_errors, before_sack, after_sack, SendingAct, asks, forces_ack, adds_ack, expires, adds_forward, forwards_later, asks_no_reset, asks_reset, adds_request, sends, sends_fast, before_sending, after_sending, TimeAct, advances, delay_ends, times_out, beats, times_init, times_cookie, times_request, times_items, wakes_request, before_time, after_time, CallAct, accepts, refuses, takes_message, sets_low_threshold, sets_priority, sets_max_message_size, before_call, after_call, ResetAct, prepares, defers, performs, processes, takes_response, adds_responses, before_reset, after_reset, HandoverAct, leaves, takes_up, before_handover, after_handover, InputAct, ends_packet, before_input, after_input, Preserves}
 use Rattle.proof_world.proofs.UsedQueueLemmas.{IsCost, of_messages, of_entries, of_queue, of_threshold, of_priority, of_each_stepped, of_prepared, of_reset, of_discards, taken, of_produced}
 use Rattle.proof_world.proofs.UsedStreamLemmas.{HasOrdered, keeps_ordered, InQueue, stands_priority, stands_threshold, stands_prepared, stands_each_stepped, stands_reset, stands_discards, stands_produced}
 use Rattle.proof_world.proofs.UsedItemsLemmas.{count, unsent_grow, produced_grow, discards_grow, Numbers, numbers_nack_all, numbers_expired, numbers_sack, numbers_fast, numbers_resent, numbers_timed}
@@ -250,7 +250,7 @@ module _ (all : ℕ) (most : ℕ → ℕ) where
       uses_opening (adds_cookie t1 cookie t m to) h = h
       uses_opening (establishes tag t1 cookie t m received) h = h
       uses_opening (opens tag k m echoed none own) h =
-          for_opened false (negotiate m.context.options k.peer_capabilities).message_interleaving (next_in m.state) (point_in m.state) m.context.queue (count m.context.emitted) h
+          for_opened m.context.options.avoid_stalls (negotiate m.context.options k.peer_capabilities).message_interleaving (next_in m.state) (point_in m.state) m.context.queue (count m.context.emitted) h
       uses_opening (restarts tag k phase t m echoed verdict) h =
           for_opened true (negotiate m.context.options k.peer_capabilities).message_interleaving (next_in (Open phase t)) (point_in (Open phase t)) m.context.queue (count m.context.emitted) h
       uses_opening (opens_again tag k phase t m echoed verdict) h =
@@ -278,6 +278,7 @@ module _ (all : ℕ) (most : ℕ → ℕ) where
 
       uses_sending : (act : SendingAct P call) → Onward (before_sending act) (after_sending act)
       uses_sending (asks also_if_delayed phase t m) h = h
+      uses_sending (forces_ack phase t m) h = h
       uses_sending (adds_ack phase t m) h = h
       uses_sending (expires phase t m) h =
           numbered t.sender.outstanding.items _ m.context.queue (count m.context.emitted) _ (numbers_expired m.context.now t.sender.outstanding.items m.context.emitted) h
@@ -307,6 +308,7 @@ module _ (all : ℕ) (most : ℕ → ℕ) where
       uses_time (times_init tag first old new m) h = h
       uses_time (times_cookie old new cookie t m) h = h
       uses_time (times_request timer phase t m) h = h
+      uses_time (times_items timer phase t m) h = h
       uses_time (wakes_request phase t m) h = h
 
       uses_calls : (act : CallAct P call) → Onward (before_call act) (after_call act)
