@@ -1,8 +1,8 @@
 -- Two runs of worlds in which both ends connect: their traces, computed, are those of worlds, and no tag is drawn twice.
-use Rattle.std.proofs.Common.{◌≡◌, ℕ, ◌==◌, ◌||◌, ◌+◌, ◌≤◌, ◌<◌, not, Bool, true, false, List, [], ◌∷◌, ◌++◌, length, map, drop, arith, refl, sym, ap, subst, ◌∙◌, append_assoc, inl, inr}
+use Rattle.std.proofs.Common.{◌≡◌, ◌⊎◌, ℕ, ◌+◌, ◌≤◌, ◌<◌, Bool, true, List, [], ◌∷◌, length, map, drop, arith, refl, sym, ap, subst, ◌∙◌, inl, inr}
 use Rattle.std.specs.Prelude.{All}
 use Rattle.std.specs.List.{list_any}
-use Rattle.std.proofs.lemmas.Bool.{and_parts, or_parts, or_right, eq-eqb}
+use Rattle.std.proofs.lemmas.Bool.{or_parts}
 use Rattle.rand_core.specs.Stream.{Call, u32_call, Stream, next_u32, next_u64}
 use Rattle.sctp_wire.specs.Field.{be16, be32, be64}
 use Rattle.sctp_wire.specs.Serialize.{padded_item, inner_items}
@@ -17,7 +17,7 @@ use Rattle.sctp_state.specs.Options.{defaults}
 use Rattle.spec_endpoint.specs.Pair.{counting_from}
 use Rattle.spec_endpoint.specs.Timers.{tick_timers}
 use Rattle.proof_endpoint.specs.Mapped.{as_written}
-use Rattle.proof_pair.specs.Trace.{Pair, EndAction, emitted_packets, goes, run, start}
+use Rattle.proof_pair.specs.Trace.{Pair, EndAction, emitted_packets, run, start}
 use Rattle.proof_pair.specs.Opens.{one_connects}
 use Rattle.proof_pair.proofs.OpensLemmas.{given_defaults}
 use Rattle.spec_endpoint.specs.Opening.{tag_from}
@@ -217,51 +217,42 @@ begins n m B = m
 counted : (x : End) (w u : World) (n : ℕ) → w ≡ u → Counts (draws x u) n → Counts (draws x w) n
 counted x w u n e h = subst (λ (z : World). Counts (draws x z) n) (sym e) h
 
-module _ (n m : ℕ) (low : n + 3 < 1000) (high : m + 3 < 4000) where
-  abbrev from_new : World
-  from_new = initial_world (origin defaults defaults (counting_from n) (counting_from m) no_sum no_sum)
+abbrev from_new : (n m : ℕ) → World
+from_new n m = initial_world (origin defaults defaults (counting_from n) (counting_from m) no_sum no_sum)
 
-  module _ (v : World) (r : Runs opening from_new v) where
-    abbrev a : Stream
-    a = counting_from n
+module _ (n m : ℕ) (low : n + 3 < 1000) (high : m + 3 < 4000) (v : World) (r : Runs opening (from_new n m) v) where
+  abbrev a : Stream
+  a = counting_from n
 
-    abbrev b : Stream
-    b = counting_from m
+  abbrev b : Stream
+  b = counting_from m
 
-    one : r.0 ≡ first a b no_sum
-    one = to_first a b no_sum r.0 r.1
+  one : r.0 ≡ first a b no_sum
+  one = to_first a b no_sum r.0 r.1
 
-    two : r.2.0 ≡ second a b no_sum
-    two = to_second a b no_sum r.2.0 (subst (λ (w : World). Gives B 0 w r.2.0) one r.2.1)
+  two : r.2.0 ≡ second a b no_sum
+  two = to_second a b no_sum r.2.0 (subst (λ (w : World). Gives B 0 w r.2.0) one r.2.1)
 
-    three : r.2.2.0 ≡ third a b no_sum
-    three = to_third a b no_sum r.2.2.0 (subst (λ (w : World). Gives A 0 w r.2.2.0) two r.2.2.1)
+  three : r.2.2.0 ≡ third a b no_sum
+  three = to_third a b no_sum r.2.2.0 (subst (λ (w : World). Gives A 0 w r.2.2.0) two r.2.2.1)
 
-    four : r.2.2.2.0 ≡ fourth a b no_sum
-    four = to_fourth a b no_sum r.2.2.2.0 (subst (λ (w : World). Gives B 1 w r.2.2.2.0) three r.2.2.2.1)
+  four : r.2.2.2.0 ≡ fourth a b no_sum
+  four = to_fourth a b no_sum r.2.2.2.0 (subst (λ (w : World). Gives B 1 w r.2.2.2.0) three r.2.2.2.1)
 
-    five : r.2.2.2.2.0 ≡ opened a b no_sum
-    five = to_opened a b no_sum r.2.2.2.2.0 (subst (λ (w : World). Gives A 1 w r.2.2.2.2.0) four r.2.2.2.2.1)
+  five : r.2.2.2.2.0 ≡ opened a b no_sum
+  five = to_opened a b no_sum r.2.2.2.2.0 (subst (λ (w : World). Gives A 1 w r.2.2.2.2.0) four r.2.2.2.2.1)
 
-    opening_counts : (x : End) → CountsAlong x (limit x) opening from_new v r (begins n m x)
-    unfolding next_u32 next_u64
-    opening_counts A = ((λ calls. refl), n + 2, omega arith, counted A r.0 (first a b no_sum) (n + 2) one (λ calls. omega arith),
-        n + 2, omega arith, counted A r.2.0 (second a b no_sum) (n + 2) two (λ calls. omega arith),
-        n + 3, omega arith, counted A r.2.2.0 (third a b no_sum) (n + 3) three (λ calls. omega arith),
-        n + 3, omega arith, counted A r.2.2.2.0 (fourth a b no_sum) (n + 3) four (λ calls. omega arith),
-        n + 3, omega arith, counted A r.2.2.2.2.0 (opened a b no_sum) (n + 3) five (λ calls. omega arith), low)
-    opening_counts B = ((λ calls. refl), m, omega arith, counted B r.0 (first a b no_sum) m one (λ calls. omega arith),
-        m + 2, omega arith, counted B r.2.0 (second a b no_sum) (m + 2) two (λ calls. omega arith),
-        m + 2, omega arith, counted B r.2.2.0 (third a b no_sum) (m + 2) three (λ calls. omega arith),
-        m + 3, omega arith, counted B r.2.2.2.0 (fourth a b no_sum) (m + 3) four (λ calls. omega arith),
-        m + 3, omega arith, counted B r.2.2.2.2.0 (opened a b no_sum) (m + 3) five (λ calls. omega arith), high)
+  opening_counts : (x : End) → CountsAlong x (limit x) opening (from_new n m) v r (begins n m x)
+  unfolding next_u32 next_u64
+  opening_counts A = ((λ calls. refl), (n + 2, omega arith, (counted A r.0 (first a b no_sum) (n + 2) one (λ calls. omega arith), (n + 2, omega arith, (counted A r.2.0 (second a b no_sum) (n + 2) two (λ calls. omega arith), (n + 3, omega arith, (counted A r.2.2.0 (third a b no_sum) (n + 3) three (λ calls. omega arith), (n + 3, omega arith, (counted A r.2.2.2.0 (fourth a b no_sum) (n + 3) four (λ calls. omega arith), (n + 3, omega arith, (counted A r.2.2.2.2.0 (opened a b no_sum) (n + 3) five (λ calls. omega arith), low)))))))))))
+  opening_counts B = ((λ calls. refl), (m, omega arith, (counted B r.0 (first a b no_sum) (m) one (λ calls. omega arith), (m + 2, omega arith, (counted B r.2.0 (second a b no_sum) (m + 2) two (λ calls. omega arith), (m + 2, omega arith, (counted B r.2.2.0 (third a b no_sum) (m + 2) three (λ calls. omega arith), (m + 3, omega arith, (counted B r.2.2.2.0 (fourth a b no_sum) (m + 3) four (λ calls. omega arith), (m + 3, omega arith, (counted B r.2.2.2.2.0 (opened a b no_sum) (m + 3) five (λ calls. omega arith), high)))))))))))
 
-    each_end : EachEndDrawsDistinctTags opening from_new v r
-    each_end A = counts_once A 1000 (omega arith) opening from_new v r n (opening_counts A)
-    each_end B = counts_once B 4000 (omega arith) opening from_new v r m (opening_counts B)
+  each_end : EachEndDrawsDistinctTags opening (from_new n m) v r
+  each_end A = counts_once A 1000 (omega arith) opening (from_new n m) v r n (opening_counts A)
+  each_end B = counts_once B 4000 (omega arith) opening (from_new n m) v r m (opening_counts B)
 
-    both_ends : (w z : World) (s : Runs opening w z) → 1000 ≤ m → DrawsTagsOnceUpToEnd opening w z from_new v s r
-    both_ends w z s apart = both_once opening w z from_new v s r n m (record { a = opening_counts A; b = opening_counts B; apart = apart })
+  both_ends : (w z : World) (s : Runs opening w z) → 1000 ≤ m → DrawsTagsOnceUpToEnd opening w z (from_new n m) v s r
+  both_ends w z s apart = both_once opening w z (from_new n m) v s r n m (record { a = opening_counts A; b = opening_counts B; apart = apart })
 
 -- ---- computed
 
@@ -295,10 +286,10 @@ first_world = world (counting_from 456) (counting_from 1000) there_one small_one
 abbrev second_world : World
 second_world = world (counting_from 789) (counting_from 2000) there_two small_two_a small_two_b
 
-abbrev first_led : IsReachable (new (counting_from 456) (counting_from 1000)) opening first_world
+abbrev first_led : IsReachable (origin defaults defaults (counting_from 456) (counting_from 1000) no_sum no_sum) opening first_world
 first_led = led (counting_from 456) (counting_from 1000) there_one small_one_a small_one_b
 
-abbrev second_led : IsReachable (new (counting_from 789) (counting_from 2000)) opening second_world
+abbrev second_led : IsReachable (origin defaults defaults (counting_from 789) (counting_from 2000) no_sum no_sum) opening second_world
 second_led = led (counting_from 789) (counting_from 2000) there_two small_two_a small_two_b
 
 pub ends_connect : EndsConnect

@@ -1,6 +1,5 @@
 -- Where a run draws no tag twice until an association is over, both ends' draws taken together, its trace doesn't either.
-use Rattle.std.proofs.Common.{◌≡◌, ◌⊎◌, inl, inr, ℕ, Bool, List, [], ◌∷◌, ◌++◌, refl, sym, ap, subst, ◌∙◌, append-nil, append_assoc}
-use Rattle.rand_core.specs.Stream.{Stream}
+use Rattle.std.proofs.Common.{◌≡◌, ◌⊎◌, inl, inr, ℕ, Bool, true, false, List, [], ◌∷◌, ◌++◌, refl, sym, ap, subst, ◌∙◌, append-nil, append_assoc}
 use Rattle.proof_pair.specs.Trace.{Pair, EndAction, act, goes, run}
 use Rattle.proof_pair.specs.Agreement.{Draw, Has, AreDistinct, drawn_in}
 use Rattle.proof_draws.specs.Pairing.{drawn, drawn_at}
