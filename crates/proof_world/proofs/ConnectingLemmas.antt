@@ -23,14 +23,14 @@ use Rattle.proof_pair.proofs.OpensLemmas.{given_defaults}
 use Rattle.spec_endpoint.specs.Opening.{tag_from}
 use Rattle.spec_world.specs.Observations.{End, A, B}
 use Rattle.spec_world.specs.World.{World, Action, Gives, Runs}
-use Rattle.proof_world.specs.Draws.{draws, DrawsTag, IsDrawn, DrawsTagsOnce, IsDrawnUpToEnd, DrawsTagsOnceUpToEnd}
+use Rattle.proof_world.specs.Draws.{draws, DrawsTag, IsDrawn, DrawsTagsOnce}
 use Rattle.proof_world.specs.FirstRun.{opening, IsOpen}
 use Rattle.proof_world.specs.Reachable.{ActionFits, Origin, origin, initial_world, IsReachable}
 use Rattle.proof_world.specs.Traces.{end_of, AreActionsOf}
 use Rattle.proof_world.specs.Consistent.{WorldKeepsRules}
 use Rattle.proof_world.specs.Worlds.{is_foreign, NoneIsForeign, BothEmitBytes}
 use Rattle.proof_world.specs.Agreed.{EachEndDrawsDistinctTags}
-use Rattle.proof_world.specs.Alike.{NoneComesFromElsewhere}
+use Rattle.proof_world.specs.Alike.{NoneComesFromElsewhere, IsDrawnUpToEnd, DrawsTagsOnceUpToEnd}
 use Rattle.proof_world.specs.Connecting.{EndsConnect, TwoWorldsConnect}
 use Rattle.proof_world.proofs.FirstRunLemmas.{it_opens, first, second, third, fourth, opened, to_first, to_second, to_third, to_fourth, to_opened}
 use Rattle.proof_world.proofs.ShownLemmas.{there, reachable}

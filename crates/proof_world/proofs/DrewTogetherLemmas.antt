@@ -6,7 +6,8 @@ use Rattle.proof_draws.specs.Pairing.{drawn, drawn_at}
 use Rattle.spec_world.specs.Observations.{End, A, B}
 use Rattle.spec_world.specs.World.{World, Action, Runs}
 use Rattle.proof_world.specs.Consistent.{NoEndingIsLogged}
-use Rattle.proof_world.specs.Draws.{draws, DrawsTag, IsDrawnUpToEnd, DrawsTagsOnceUpToEnd}
+use Rattle.proof_world.specs.Alike.{IsDrawnUpToEnd, DrawsTagsOnceUpToEnd}
+use Rattle.proof_world.specs.Draws.{draws, DrawsTag}
 use Rattle.proof_world.specs.Traces.{is_a, end_of}
 use Rattle.proof_world.proofs.AgreedLemmas.{draws_a, draws_b, moved}
 use Rattle.proof_world.proofs.BundledLemmas.{SideIsBundled, act_bundled}

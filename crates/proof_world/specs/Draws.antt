@@ -4,8 +4,6 @@ use Rattle.rand_core.specs.Stream.{Stream, next_u32}
 use Rattle.spec_endpoint.specs.Opening.{tag_from}
 use Rattle.spec_world.specs.Observations.{End}
 use Rattle.spec_world.specs.World.{World, Action, Runs, side_of}
-use Rattle.proof_world.specs.Consistent.{NoEndingIsLogged}
-use Rattle.proof_world.specs.Traces.{end_of}
 
 -- what the generator of an end will answer
 abbrev pub draws : End → World → Stream
@@ -26,21 +24,3 @@ abbrev pub DrawsTagsOnce : (x : End) (actions : List Action) (w v : World) → R
 DrawsTagsOnce x [] w v r = ⊤
 DrawsTagsOnce x (action ∷ actions) w v r =
     ((tag : ℕ) → DrawsTag (draws x w) (draws x r.0) tag → IsDrawn x tag actions r.0 v r.2 → ⊥) × DrawsTagsOnce x actions r.0 v r.2
-
--- ---- both ends' draws taken together, in the second of two runs of the same actions: at events that begin before an end of the first one
--- emits that an association is over
-
--- this event draws it
-abbrev pub EventDrawsTag : Action → (w v : World) → (tag : ℕ) → Type 0
-EventDrawsTag action w v tag = DrawsTag (draws (end_of action) w) (draws (end_of action) v) tag
-
--- one of these events does
-abbrev pub IsDrawnUpToEnd : (tag : ℕ) (actions : List Action) (w v x y : World) → Runs actions w v → Runs actions x y → Type 0
-IsDrawnUpToEnd tag [] w v x y r s = ⊥
-IsDrawnUpToEnd tag (action ∷ actions) w v x y r s = NoEndingIsLogged w.log × (EventDrawsTag action x s.0 tag ⊎ IsDrawnUpToEnd tag actions r.0 v s.0 y r.2 s.2)
-
--- none is drawn twice
-abbrev pub DrawsTagsOnceUpToEnd : (actions : List Action) (w v x y : World) → Runs actions w v → Runs actions x y → Type 0
-DrawsTagsOnceUpToEnd [] w v x y r s = ⊤
-DrawsTagsOnceUpToEnd (action ∷ actions) w v x y r s =
-    NoEndingIsLogged w.log → ((tag : ℕ) → EventDrawsTag action x s.0 tag → IsDrawnUpToEnd tag actions r.0 v s.0 y r.2 s.2 → ⊥) × DrawsTagsOnceUpToEnd actions r.0 v s.0 y r.2 s.2
