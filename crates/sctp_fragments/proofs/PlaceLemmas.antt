@@ -9,6 +9,7 @@ use Rattle.sctp_fragments.specs.Runs.{end_of, last_of, IsBelow, is_next, joins_l
 use Rattle.sctp_fragments.specs.Held.{Held, rank_of, goes_on, bytes_of, payload_of}
 use Rattle.sctp_fragments.specs.Interval.{run_of, lists_of, starts_upto, EndsFrom}
 use Rattle.sctp_fragments.proofs.RunLemmas.{end_of_append}
+use Rattle.sctp_fragments.specs.Entries.{items_of}
 
 pub last_read : {E : Type 0} (e d : E) (es : List E) → get_or (e ∷ es) (length es) d ≡ last_of e es
 last_read e d [] = refl
@@ -40,7 +41,7 @@ module _ {K : Type 0} (f : Entry K → Held) where
   some_mapped (e ∷ es) h = omega arith
 
   pub some_run : (i : Interval K) → 0 < length (run_of f i)
-  some_run i = some_mapped i.entries.items i.some
+  some_run i = some_mapped (items_of i.entries.value) i.some
 
   last_mapped : (e : Entry K) (es : List (Entry K)) → last_of (f e) (map f es) ≡ f (last_of e es)
   last_mapped e [] = refl
@@ -87,10 +88,10 @@ module _ {K : Type 0} (f : Entry K → Held) where
       rw (← up) (ap (λ (t : List ℕ). t ++ payload_of (drop (suc i) (map f es))) made ∙ (append_assoc old (f d).fragment.payload (payload_of (drop (suc i) (map f es))) ∙ (ap (λ (t : List ℕ). old ++ t) (sym (payload_suc es i d h read)) ∙ before)))
 
   -- an entry at an interval's end, or in front of it
-  pub run_back : (new old : List (Entry K)) (i : Interval K) (x : Entry K) → new ≡ old ++ x ∷ [] → old ≡ i.entries.items → map f new ≡ run_of f i ++ f x ∷ []
+  pub run_back : (new old : List (Entry K)) (i : Interval K) (x : Entry K) → new ≡ old ++ x ∷ [] → old ≡ (items_of i.entries.value) → map f new ≡ run_of f i ++ f x ∷ []
   run_back new old i x made is = ap (map f) made ∙ (map-append f old (x ∷ []) ∙ ap (λ (t : List (Entry K)). map f t ++ f x ∷ []) is)
 
-  pub run_front : (new old : List (Entry K)) (i : Interval K) (x : Entry K) → new ≡ x ∷ old → old ≡ i.entries.items → map f new ≡ f x ∷ run_of f i
+  pub run_front : (new old : List (Entry K)) (i : Interval K) (x : Entry K) → new ≡ x ∷ old → old ≡ (items_of i.entries.value) → map f new ≡ f x ∷ run_of f i
   run_front new old i x made is = ap (map f) made ∙ ap (λ (t : List (Entry K)). f x ∷ map f t) is
 
   -- a vector of intervals in two parts, and what is at the border

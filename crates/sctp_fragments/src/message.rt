@@ -20,10 +20,7 @@ fn into_payload<K: ReassemblyKey>(
     if interval.entries.len() != 1 {
         return interval.collect_payload(alloc);
     }
-    let mut entries = interval.entries;
-    let Some(entry) = entries.pop_front() else {
-        unreachable!();
-    };
+    let entry = Box::into_inner(interval.entries).into_first();
     Ok(entry.fragment.payload)
 }
 

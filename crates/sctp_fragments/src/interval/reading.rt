@@ -15,14 +15,14 @@ impl<K: ReassemblyKey> Interval<K> {
     pub fn first(&self) -> &Entry<K>
         ensures { (h : Held) (hs : List Held) → run_of (held_of K.number K.index) self.now ≡ h ∷ hs → held_of K.number K.index result.now ≡ h }
     {
-        &self.entries[0]
+        self.entries.at(0)
     }
 
     /// The fragment with its greatest key.
     pub fn last(&self) -> &Entry<K>
         ensures { (h : Held) (hs : List Held) → run_of (held_of K.number K.index) self.now ≡ h ∷ hs → held_of K.number K.index result.now ≡ last_of h hs }
     {
-        &self.entries[self.entries.len() - 1]
+        self.entries.at(self.entries.len() - 1)
     }
 
     /// How many bytes of payload it holds.
@@ -32,7 +32,7 @@ impl<K: ReassemblyKey> Interval<K> {
     {
         let mut bytes = 0;
         for index in 0..self.entries.len() {
-            bytes += self.entries[index].fragment.payload.len();
+            bytes += self.entries.at(index).fragment.payload.len();
         }
         bytes
     }
@@ -41,7 +41,7 @@ impl<K: ReassemblyKey> Interval<K> {
     fn room(&self) -> usize {
         let mut bytes = 0_usize;
         for index in 0..self.entries.len() {
-            bytes = bytes.saturating_add(self.entries[index].fragment.payload.len());
+            bytes = bytes.saturating_add(self.entries.at(index).fragment.payload.len());
         }
         bytes
     }
@@ -53,7 +53,7 @@ impl<K: ReassemblyKey> Interval<K> {
     {
         let mut payload = Vec::with_capacity(alloc, self.room())?;
         for index in 0..self.entries.len() {
-            payload.extend_from_slice(&self.entries[index].fragment.payload)?;
+            payload.extend_from_slice(&self.entries.at(index).fragment.payload)?;
         }
         Ok(payload)
     }
