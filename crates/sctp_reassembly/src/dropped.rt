@@ -95,7 +95,7 @@ fn sums_of<K: ReassemblyKey>(later: &BTreeMap<K, Interval<K>>) -> (usize, usize)
     let mut fragments = 0;
     for interval in later.values() {
         bytes += interval.total_bytes();
-        fragments += interval.entries.len();
+        fragments += interval.len();
     }
     (bytes, fragments)
 }
@@ -111,7 +111,7 @@ pub(crate) fn all_sums_of<K: ReassemblyKey>(low: &Low<K>) -> (usize, usize)
     match &low.first {
         Some(interval) => (
             bytes + interval.total_bytes(),
-            fragments + interval.entries.len(),
+            fragments + interval.len(),
         ),
         None => (bytes, fragments),
     }

@@ -66,12 +66,12 @@ pub(crate) fn drop_first<K: ReassemblyKey>(
     let Some(interval) = first else {
         return 0;
     };
-    if interval.entries.len() == 1 {
-        let bytes = interval.entries.at(0).fragment.payload.len();
+    if interval.len() == 1 {
+        let bytes = interval.at(0).fragment.payload.len();
         drop(take_first(first, later));
         return bytes;
     }
-    let Some(entry) = interval.entries.pop_front() else {
+    let Some(entry) = interval.pop_front() else {
         return 0;
     };
     entry.fragment.payload.len()
@@ -354,7 +354,7 @@ fn put_ahead<K: ReassemblyKey>(
     ensures later { OnErr result (later.new.entries ≡ later.old.entries) }
 {
     if goes_on_to(&entry, first.first()) {
-        first.entries.push_front(entry)?;
+        first.push_front(entry)?;
         return Ok(());
     }
     let new = alone(alloc, entry)?;
@@ -504,7 +504,7 @@ fn extend_first<K: ReassemblyKey>(
     ensures later { OnErr result (IsSame K.is_key K.number K.index later.old.entries later.new.entries) }
 {
     let Some(next) = joined.behind else {
-        first.entries.push_back(entry)?;
+        first.push_back(entry)?;
         return Ok(());
     };
     join_first(first, later, next, entry)
@@ -545,7 +545,7 @@ fn push_front_at<K: ReassemblyKey>(
     let Some(interval) = later.get_mut(&place) else {
         return Err(AllocError);
     };
-    interval.entries.push_front(entry)?;
+    interval.push_front(entry)?;
     Ok(())
 }
 
@@ -578,7 +578,7 @@ fn push_back_at<K: ReassemblyKey>(
     let Some(interval) = later.get_mut(&place) else {
         return Err(AllocError);
     };
-    interval.entries.push_back(entry)?;
+    interval.push_back(entry)?;
     Ok(())
 }
 
@@ -589,7 +589,7 @@ fn count_at<K: ReassemblyKey>(later: &BTreeMap<K, Interval<K>>, place: K) -> usi
 {
     place.known();
     match later.get(&place) {
-        Some(interval) => interval.entries.len(),
+        Some(interval) => interval.len(),
         None => 0,
     }
 }
@@ -600,6 +600,7 @@ fn reserve_at<K: ReassemblyKey>(
     place: K,
     count: usize,
 ) -> Result<(), AllocError>
+    requires { count ≤ 2 ^ 63 }
     ensures ok { OnOk result ((ps qs : List (K × Interval K)) (i : Interval K) → later.old.entries ≡ ps ++ (place, i) ∷ qs → AreLow K.is_key (rank_at K.number K.index) (rank_at K.number K.index place) ps → HasRoom K.number K.index ps qs place (run_of (held_of K.number K.index) i) count later.new.entries) }
     ensures kept { (ps qs : List (K × Interval K)) (i : Interval K) → later.old.entries ≡ ps ++ (place, i) ∷ qs → AreLow K.is_key (rank_at K.number K.index) (rank_at K.number K.index place) ps → IsChanged K.number K.index ps qs place (run_of (held_of K.number K.index) i) later.new.entries }
 {
@@ -607,7 +608,7 @@ fn reserve_at<K: ReassemblyKey>(
     let Some(interval) = later.get_mut(&place) else {
         return Err(AllocError);
     };
-    interval.entries.reserve(count)
+    interval.reserve(count)
 }
 
 /// Makes one interval of the first and the next one with the entry between them. The shorter one's entries move, so that an
@@ -623,7 +624,7 @@ fn join_first<K: ReassemblyKey>(
     ensures first { OnErr result (run_of (held_of K.number K.index) first.new ≡ run_of (held_of K.number K.index) first.old) }
     ensures later { OnErr result ((j : Interval K) (qs : List (K × Interval K)) → later.old.entries ≡ (place, j) ∷ qs → IsChanged K.number K.index [] qs place (run_of (held_of K.number K.index) j) later.new.entries) }
 {
-    if first.entries.len() < count_at(later, place) {
+    if first.len() < count_at(later, place) {
         return join_first_to_second(first, later, place, entry);
     }
     join_second_to_first(first, later, place, entry)
@@ -643,11 +644,11 @@ fn join_second_to_first<K: ReassemblyKey>(
 {
     place.known();
     let count = count_at(later, place);
-    first.entries.reserve(count + 1)?;
+    first.reserve(count + 1)?;
     let Some(moved) = later.remove(&place) else {
         return Err(AllocError);
     };
-    first.entries.append(entry, moved.entries);
+    first.append(entry, moved);
     Ok(())
 }
 
@@ -664,13 +665,13 @@ fn join_first_to_second<K: ReassemblyKey>(
     ensures later { OnErr result ((j : Interval K) (qs : List (K × Interval K)) → later.old.entries ≡ (place, j) ∷ qs → IsChanged K.number K.index [] qs place (run_of (held_of K.number K.index) j) later.new.entries) }
 {
     place.known();
-    let count = first.entries.len();
+    let count = first.len();
     reserve_at(later, place, count + 1)?;
     let Some(next) = later.remove(&place) else {
         return Err(AllocError);
     };
     let moved = std::mem::replace(first, next);
-    first.entries.prepend(entry, moved.entries);
+    first.prepend(entry, moved);
     Ok(())
 }
 
@@ -714,7 +715,7 @@ fn join_to_first<K: ReassemblyKey>(
     let Some(interval) = later.get_mut(&place) else {
         return Err(AllocError);
     };
-    interval.entries.append(entry, moved.entries);
+    interval.append(entry, moved);
     Ok(())
 }
 
@@ -739,6 +740,6 @@ fn join_to_second<K: ReassemblyKey>(
     let Some(interval) = later.get_mut(&next) else {
         return Err(AllocError);
     };
-    interval.entries.prepend(entry, moved.entries);
+    interval.prepend(entry, moved);
     Ok(())
 }

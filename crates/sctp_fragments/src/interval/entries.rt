@@ -5,7 +5,8 @@ ghost use Rattle.std.specs.Option.{option_to_list};
 ghost use Rattle.std.specs.VecDeque.{deque_len, deque_capacity};
 ghost use Rattle.sctp_fragments.specs.Entries.{items_of, room_of, IsOne, IsMany};
 
-use crate::interval::Entry;
+use crate::interval::{Entry, Interval};
+use crate::reassembly_key::ReassemblyKey;
 use std::alloc::{AllocError, Global};
 use std::collections::VecDeque;
 
@@ -197,5 +198,55 @@ impl<K: Copy> Entries<K> {
             }
             Entries::Many(others) => prepend_to(entries, entry, others),
         }
+    }
+}
+
+impl<K: ReassemblyKey> Interval<K> {
+    /// Adds an entry at the back. Without memory nothing changes.
+    pub fn push_back(&mut self, entry: Entry<K>) -> Result<(), AllocError>
+        ensures items { items_of self.new.entries.value ≡ (if is_ok result then items_of self.old.entries.value ++ entry ∷ [] else items_of self.old.entries.value) }
+    {
+        self.entries.push_back(entry)
+    }
+
+    /// Adds an entry in front. Without memory nothing changes.
+    pub fn push_front(&mut self, entry: Entry<K>) -> Result<(), AllocError>
+        ensures items { items_of self.new.entries.value ≡ (if is_ok result then entry ∷ items_of self.old.entries.value else items_of self.old.entries.value) }
+    {
+        self.entries.push_front(entry)
+    }
+
+    /// Takes out the first entry, which isn't the only one.
+    pub fn pop_front(&mut self) -> Option<Entry<K>>
+        requires { 1 < length (items_of self.old.entries.value) }
+        ensures items { items_of self.old.entries.value ≡ option_to_list result ++ items_of self.new.entries.value }
+        ensures some { IsSome result }
+    {
+        self.entries.pop_front()
+    }
+
+    /// Makes room for more entries. Without memory nothing changes.
+    pub fn reserve(&mut self, more: usize) -> Result<(), AllocError>
+        requires { more ≤ 2 ^ 63 }
+        ensures items { items_of self.new.entries.value ≡ items_of self.old.entries.value }
+        ensures ok { OnOk result (length (items_of self.new.entries.value) + more ≤ room_of self.new.entries.value) }
+    {
+        self.entries.reserve(more)
+    }
+
+    /// Puts the entry and then the others at the back, where there is room.
+    pub fn append(&mut self, entry: Entry<K>, others: Interval<K>)
+        requires { length (items_of self.old.entries.value) + (length (items_of others.entries.value) + 1) ≤ room_of self.old.entries.value }
+        ensures { items_of self.new.entries.value ≡ items_of self.old.entries.value ++ entry ∷ items_of others.entries.value }
+    {
+        self.entries.append(entry, others.entries)
+    }
+
+    /// Puts the others and then the entry in front, where there is room.
+    pub fn prepend(&mut self, entry: Entry<K>, others: Interval<K>)
+        requires { length (items_of self.old.entries.value) + (length (items_of others.entries.value) + 1) ≤ room_of self.old.entries.value }
+        ensures { items_of self.new.entries.value ≡ items_of others.entries.value ++ entry ∷ items_of self.old.entries.value }
+    {
+        self.entries.prepend(entry, others.entries)
     }
 }
