@@ -6,7 +6,7 @@ use Rattle.std.proofs.lemmas.List.{take_more, map-append}
 use Rattle.sctp_fragments.specs.declared.interval.Entry.{Entry}
 use Rattle.sctp_fragments.specs.declared.interval.Interval.{Interval}
 use Rattle.sctp_fragments.specs.Runs.{end_of, last_of, IsBelow, is_next, joins_left, joins_right}
-use Rattle.sctp_fragments.specs.Held.{Held, rank_of, goes_on, bytes_of, payload_of}
+use Rattle.sctp_fragments.specs.Held.{Held, rank_of, goes_on, bytes_of, payload_of, is_complete}
 use Rattle.sctp_fragments.specs.Interval.{run_of, lists_of, starts_upto, EndsFrom}
 use Rattle.sctp_fragments.proofs.RunLemmas.{end_of_append}
 use Rattle.sctp_fragments.specs.Entries.{items_of}
@@ -34,6 +34,12 @@ pub record IsCons {E : Type 0} (xs : List E) : Type 0 where
 pub cons : {E : Type 0} (xs : List E) → 0 < length xs → IsCons xs
 cons [] h = absurd (omega arith)
 cons (x ∷ xs) h = record { head = x; tail = xs; is = refl }
+
+-- what the first and the last item say of a whole run
+pub whole_run : (r : List Held) (first last : Held) → 0 < length r → ((h : Held) (hs : List Held) → r ≡ h ∷ hs → first ≡ h) → ((h : Held) (hs : List Held) → r ≡ h ∷ hs → last ≡ last_of h hs)
+    → first.fragment.is_beginning ≡ true → last.fragment.is_end ≡ is_complete r
+whole_run [] first last some f l on = absurd (omega arith)
+whole_run (h ∷ hs) first last some f l on = rw (← l h hs refl) (rw (← f h hs refl) (rw on refl))
 
 module _ {K : Type 0} (f : Entry K → Held) where
   some_mapped : (es : List (Entry K)) → 0 < length es → 0 < length (map f es)

@@ -109,10 +109,7 @@ pub(crate) fn all_sums_of<K: ReassemblyKey>(low: &Low<K>) -> (usize, usize)
 {
     let (bytes, fragments) = sums_of(&low.later);
     match &low.first {
-        Some(interval) => (
-            bytes + interval.total_bytes(),
-            fragments + interval.len(),
-        ),
+        Some(interval) => (bytes + interval.total_bytes(), fragments + interval.len()),
         None => (bytes, fragments),
     }
 }
