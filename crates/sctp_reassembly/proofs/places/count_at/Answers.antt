@@ -1,4 +1,4 @@
-use Rattle.std.proofs.Common.{ap, ◌∙◌}
+use Rattle.std.proofs.Common.{ap, ◌∙◌, length}
 use Rattle.sctp_reassembly.proofs.MapLemmas.{read_there, not_absent}
 use Rattle.sctp_fragments.specs.Entries.{items_of}
 use Rattle.sctp_reassembly.proofs.places.count_at.Goals as goal

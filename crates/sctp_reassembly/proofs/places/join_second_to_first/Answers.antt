@@ -1,4 +1,4 @@
-use Rattle.std.proofs.Common.{ap, refl, ◌++◌, ◌∙◌, ◌∷◌, [], arith}
+use Rattle.std.proofs.Common.{ap, refl, ◌++◌, ◌∙◌, ◌∷◌, [], arith, length}
 use Rattle.std.proofs.lemmas.Result.{err_from_is_err_and}
 use Rattle.sctp_fragments.specs.Interval.{held_of, run_of}
 use Rattle.sctp_reassembly.proofs.MapLemmas.{read_there, removed_at, run_joined}

@@ -1,4 +1,4 @@
-use Rattle.std.proofs.Common.{ap, ◌∙◌, ◌∷◌, ◌++◌, [], arith}
+use Rattle.std.proofs.Common.{ap, ◌∙◌, ◌∷◌, ◌++◌, [], arith, length}
 use Rattle.std.proofs.lemmas.Result.{err_from_is_err_and}
 use Rattle.sctp_fragments.specs.Interval.{held_of, run_of}
 use Rattle.sctp_reassembly.proofs.MapLemmas.{changed_at, read_there, not_absent, low_second, second_is, second_gone, run_joined}

@@ -1,4 +1,4 @@
-use Rattle.std.proofs.Common.{ap, ◌∙◌, ◌∷◌, ◌++◌, [], arith, append_assoc}
+use Rattle.std.proofs.Common.{ap, ◌∙◌, ◌∷◌, ◌++◌, [], arith, append_assoc, length}
 use Rattle.std.proofs.lemmas.Result.{err_from_is_err_and}
 use Rattle.sctp_fragments.specs.Interval.{held_of, run_of}
 use Rattle.sctp_reassembly.proofs.MapLemmas.{changed_at, read_there, not_absent, low_second, low_b, second_is, first_gone, run_joined}
