@@ -1,6 +1,6 @@
 use Rattle.std.proofs.Common.{◌≡◌, ◌+◌, ◌≤◌, ◌++◌, ◌∷◌}
 use Rattle.std.specs.VecDeque.{deque_len, deque_capacity}
-use Rattle.sctp_reassembly.proofs.places.append_to.Given as goal
+use Rattle.sctp_fragments.proofs.interval.entries.append_to.Given as goal
 
 abbrev pub invariant-loop-next : goal.invariant-loop-next
 invariant-loop-next g l = record {

@@ -1,5 +1,5 @@
 use Rattle.std.proofs.Common.{◌++◌, ◌∷◌, [], ap, sym, ◌∙◌, append_assoc, arith}
-use Rattle.sctp_reassembly.proofs.places.prepend_to.Goals as goal
+use Rattle.sctp_fragments.proofs.interval.entries.prepend_to.Goals as goal
 
 pub loop-last-init : goal.loop-last-init
 loop-last-init g c = record {

@@ -1,6 +1,6 @@
 use Rattle.std.proofs.Common.{◌≡◌, ◌+◌, ◌≤◌, ◌++◌, ◌∷◌}
 use Rattle.std.specs.VecDeque.{deque_len, deque_capacity}
-use Rattle.sctp_reassembly.proofs.places.prepend_to.Given as goal
+use Rattle.sctp_fragments.proofs.interval.entries.prepend_to.Given as goal
 
 abbrev pub invariant-loop-last : goal.invariant-loop-last
 invariant-loop-last g l = record {

@@ -1,5 +1,5 @@
 use Rattle.std.proofs.Common.{◌++◌, ◌∷◌, [], ap, sym, ◌∙◌, append_assoc, arith}
-use Rattle.sctp_reassembly.proofs.places.append_to.Goals as goal
+use Rattle.sctp_fragments.proofs.interval.entries.append_to.Goals as goal
 
 pub loop-next-init : goal.loop-next-init
 loop-next-init g c = record {
