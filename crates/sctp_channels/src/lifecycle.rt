@@ -98,40 +98,28 @@ impl Lifecycle {
     pub fn is_connecting(&self) -> bool
         ensures { result ≡ is_connecting self.now }
     {
-        match self.opening {
-            Opening::Connecting => true,
-            _ => false,
-        }
+        matches!(self.opening, Opening::Connecting)
     }
 
     /// Whether messages of the owner are accepted.
     pub fn may_send(&self) -> bool
         ensures { result ≡ may_send self.now }
     {
-        match self.outgoing {
-            Outgoing::Sending => true,
-            _ => false,
-        }
+        matches!(self.outgoing, Outgoing::Sending)
     }
 
     /// Whether what comes on the stream is of this channel.
     pub fn takes_data(&self) -> bool
         ensures { result ≡ takes_data self.now }
     {
-        match self.opening {
-            Opening::Refused => false,
-            _ => !self.is_incoming_reset,
-        }
+        !matches!(self.opening, Opening::Refused) && !self.is_incoming_reset
     }
 
     /// Whether both streams were reset: then the channel is closed, and its stream is free (RFC 8831 section 6.7).
     pub fn is_over(&self) -> bool
         ensures { result ≡ is_over self.now }
     {
-        match self.outgoing {
-            Outgoing::Stopped => self.is_incoming_reset,
-            _ => false,
-        }
+        matches!(self.outgoing, Outgoing::Stopped) && self.is_incoming_reset
     }
 
     /// Whether the peer may open a channel on this stream already. Both resets are under way here, and a peer that has performed this end's may
@@ -139,10 +127,9 @@ impl Lifecycle {
     pub fn may_reopen(&self) -> bool
         ensures { result ≡ may_reopen self.now }
     {
-        match self.outgoing {
-            Outgoing::Resetting => self.is_incoming_reset && !self.awaits_answer,
-            _ => false,
-        }
+        matches!(self.outgoing, Outgoing::Resetting)
+            && self.is_incoming_reset
+            && !self.awaits_answer
     }
 
     /// An answer or a message came.
