@@ -117,17 +117,12 @@ impl Channels {
         ensures none { IfNone result ((id : ℕ) → id < self.old.stream_count → is_own self.old.is_client id ≡ true → IsSome (channel_at id self.old.entries)) }
         ensures same { self.new ≡ self.old }
     {
-        if let Some(id) = self.free_stream_from(self.first_candidate) {
-            self.first_candidate = id.0;
-            return Some(id);
-        }
-        match self.first_free_stream() {
-            Some(id) => {
-                self.first_candidate = id.0;
-                Some(id)
-            }
-            None => None,
-        }
+        let id = match self.free_stream_from(self.first_candidate) {
+            Some(id) => id,
+            None => self.first_free_stream()?,
+        };
+        self.first_candidate = id.0;
+        Some(id)
     }
 
     /// The first one with this number or a greater one.
@@ -343,7 +338,7 @@ impl Channels {
         ensures err { OnErr result (Emits self.old self.new) }
     {
         let Some(channel) = self.entries.get(id.0) else {
-            return self.take_open(id, description, Lifecycle::accepted());
+            return self.take_open(id, description, Lifecycle::negotiated());
         };
         if !channel.lifecycle().may_reopen() {
             return self.turn_down(id, Refusal::StreamInUse);

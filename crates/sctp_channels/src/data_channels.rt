@@ -403,12 +403,18 @@ impl DataChannels {
     }
 
     /// Asks for the resets that are due, and carries out what is to be done.
-    #[tactic(auto, using(crate::proofs::FollowsLemmas::follows_then, crate::proofs::FollowsLemmas::follows_same, crate::proofs::FollowsLemmas::follows_drains, crate::proofs::FollowsLemmas::told_then, crate::proofs::FollowsLemmas::told_same))]
+    #[tactic(auto, using(crate::proofs::FollowsLemmas::follows_then, crate::proofs::FollowsLemmas::follows_same, crate::proofs::FollowsLemmas::follows_drains, crate::proofs::FollowsLemmas::told_then, crate::proofs::FollowsLemmas::told_same, crate::proofs::FollowsLemmas::no_outputs))]
     fn settle<S: DcSctpSocket>(&mut self, socket: &mut S) -> Result<(), CallError>
         ensures steps { OnOk result (Follows self.old self.new) }
         ensures done { OnOk result (self.new.channels.outputs ≡ []) }
         ensures told { StaysTold self.old self.new }
     {
+        if self.closing.is_empty()
+            && self.channels.output_count() == 0
+            && self.unanswered.is_empty()
+        {
+            return Ok(());
+        }
         for id in &self.closing_streams()? {
             self.drain(*id, socket.buffered_amount(*id))?;
         }

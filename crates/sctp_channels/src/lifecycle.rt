@@ -53,9 +53,11 @@ impl Lifecycle {
         }
     }
 
-    /// A channel that both ends have agreed on beforehand: nothing is sent.
+    /// A channel that both ends have agreed on beforehand: nothing is sent. So it is too with one that the peer has opened and this end takes, once
+    /// DATA_CHANNEL_ACK was sent.
     pub fn negotiated() -> Lifecycle
         ensures { result ≡ negotiated }
+        ensures accepted { result ≡ accepted }
     {
         Lifecycle {
             opening: Opening::Established,
@@ -63,13 +65,6 @@ impl Lifecycle {
             is_incoming_reset: false,
             awaits_answer: false,
         }
-    }
-
-    /// The peer has opened a channel, and this end takes it: DATA_CHANNEL_ACK is to be sent.
-    pub fn accepted() -> Lifecycle
-        ensures { result ≡ accepted }
-    {
-        Lifecycle::negotiated()
     }
 
     /// The peer has opened what this end doesn't take.
