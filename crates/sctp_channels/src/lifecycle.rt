@@ -1,7 +1,7 @@
 //! What a channel may do, and when its stream is free again.
 
 ghost use Rattle.std.specs.Prelude.{◌≡◌};
-ghost use Rattle.sctp_channels.specs.Lifecycle.{accepted, answer, asks_for_reset, close, confirm, deny, drain, finish, is_connecting, is_over, may_reopen, may_send, negotiated, opened, refused, reopened, stop_incoming, takes_data};
+ghost use Rattle.sctp_channels.specs.Lifecycle.{answer, asks_for_reset, close, confirm, deny, drain, finish, is_connecting, is_over, may_reopen, may_send, negotiated, opened, refused, reopened, stop_incoming, takes_data};
 
 /// Whether both ends have the channel.
 #[derive(Clone, Copy, Debug)]
@@ -57,7 +57,6 @@ impl Lifecycle {
     /// DATA_CHANNEL_ACK was sent.
     pub fn negotiated() -> Lifecycle
         ensures { result ≡ negotiated }
-        ensures accepted { result ≡ accepted }
     {
         Lifecycle {
             opening: Opening::Established,
