@@ -1,0 +1,38 @@
+-- A cookie that is in place of an association stands for another one.
+use Rattle.std.proofs.Common.{◌≡◌, ◌⊎◌, inl, inr, ℕ, Bool, true, false, Option, Some, None, not, ◌==◌, refl, ap, sym, ◌∙◌, arith, Result, Ok, Err, OnErr}
+use Rattle.std.proofs.lemmas.Bool.Decides.{nat_tests}
+use Rattle.sctp_capabilities.specs.StateCookie.{Cookie}
+use Rattle.spec_endpoint.specs.Association.{State, Closed, CookieWait, Open}
+use Rattle.spec_endpoint.specs.Calls.{ready_in}
+use Rattle.spec_endpoint.specs.Opening.{CookieResolution, by_tags, resolve_cookie}
+use Rattle.spec_endpoint.specs.Shown.{Association, association_in}
+use Rattle.sctp_endpoint.specs.KeepsReady.{KeepsReady}
+use Rattle.sctp_endpoint.proofs.KeepsReadyLemmas.{from_nothing, keeps_same}
+use Rattle.sctp_handshake.specs.Beginning.{association_by, begins_anew}
+
+other_peer : (o p same none : Bool) → begins_anew (by_tags o p same none) ≡ true → p ≡ true
+other_peer true true true none e = refl
+other_peer true true false none e = absurd (cc)
+other_peer false true same none e = refl
+other_peer true false same true e = absurd (cc)
+other_peer true false same false e = absurd (cc)
+other_peer false false same none e = absurd (cc)
+
+abbrev peer_in : Option Association → ℕ
+peer_in None = 0
+peer_in (Some a) = a.peer_tag
+
+not_same : (n m : ℕ) → not (n == m) ≡ true → n ≡ m → ⊥
+not_same n m other e = grind (arith, nat_tests)
+
+pub renewed : (tag : ℕ) (k : Cookie) (s t : State) → begins_anew (resolve_cookie tag k s) ≡ true → association_in t ≡ Some (association_by k) → KeepsReady s t
+renewed tag k Closed t r a = from_nothing Closed t refl
+renewed tag k (CookieWait own first t1) t r a = from_nothing (CookieWait own first t1) t refl
+renewed tag k (Open phase u) t r a = inr (λ e. not_same k.peer_tag u.identity.peer_tag (other_peer _ _ _ _ r) (ap peer_in (sym a ∙ e)))
+
+-- what a cookie left, where memory ran out
+pub left_by_cookie : {T F : Type 0} (result : Result T F) (resolution : CookieResolution) (tag : ℕ) (k : Cookie) (s t : State) → resolution ≡ resolve_cookie tag k s
+    → OnErr result ((ready_in t ≡ ready_in s) ⊎ ((begins_anew resolution ≡ true) × (association_in t ≡ Some (association_by k)))) → OnErr result (KeepsReady s t)
+left_by_cookie (Ok x) resolution tag k s t is left = tt
+left_by_cookie (Err x) resolution tag k s t is (inl same) = keeps_same s t same
+left_by_cookie (Err x) resolution tag k s t is (inr both) = renewed tag k s t (sym (ap begins_anew is) ∙ both.0) both.1
