@@ -1,5 +1,5 @@
 -- A socket: an end with its generator, which fails for good where memory is wanting.
-use Rattle.std.specs.Prelude.{◌≡◌, ℕ, Bool, true, false, Option, Some, None, Result, Ok, Err, List, []}
+use Rattle.std.specs.Prelude.{◌≡◌, ◌⊎◌, ℕ, Bool, true, false, Option, Some, None, Result, Ok, Err, List, []}
 use Rattle.rand_core.specs.Stream.{Stream}
 use Rattle.sctp_state.specs.declared.api.errors.CallError.{CallError}
 use Rattle.sctp_state.specs.declared.api.errors.CallError.TheVariants as calls
@@ -15,6 +15,7 @@ use Rattle.sctp_state.specs.declared.api.errors.RestoreError.{RestoreError}
 use Rattle.sctp_state.specs.declared.api.errors.RestoreError.TheVariants as restores
 use Rattle.sctp_state.specs.declared.api.handover.SocketHandoverState.{SocketHandoverState}
 use Rattle.sctp_state.specs.Events.{Grown}
+use Rattle.sctp_state.specs.Handover.{HandoverState}
 use Rattle.sctp_rx.specs.Delivery.{Extends}
 use Rattle.spec_endpoint.specs.Association.{State, Endpoint}
 use Rattle.sctp_endpoint.specs.declared.transmission_control_block.Association as given_association
@@ -111,6 +112,21 @@ Ends HadFailed before after = (before.has_failed ≡ true) × (after ≡ before)
 pub record LeavesAtMemory {R C : Type 0} (before after : SocketValue R C) : Type 0 where
   pub emitted : Grown before.context.emitted after.context.emitted
   pub association : association_in after.state ≡ association_in before.state
+  pub ready : Extends (ready_in before.state) (ready_in after.state)
+
+-- the association that a record stands for
+abbrev pub association_from : HandoverState → Association
+association_from h = record {
+  my_tag = h.my_verification_tag;
+  my_initial_tsn = h.my_initial_tsn;
+  peer_tag = h.peer_verification_tag;
+  peer_initial_tsn = h.peer_initial_tsn;
+}
+
+-- The same of a call that takes up a record: the association is the one before, or the record's.
+pub record LeavesRestoring {R C : Type 0} (h : HandoverState) (before after : SocketValue R C) : Type 0 where
+  pub emitted : Grown before.context.emitted after.context.emitted
+  pub association : (association_in after.state ≡ association_in before.state) ⊎ (association_in after.state ≡ Some (association_from h))
   pub ready : Extends (ready_in before.state) (ready_in after.state)
 
 abbrev pub refusal_in : Result (Unit {0}) SendError → Option SendError

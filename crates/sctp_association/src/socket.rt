@@ -9,7 +9,7 @@ ghost use Rattle.sctp_state.specs.Options.{IsValid, options_of, send_options_of}
 ghost use Rattle.spec_endpoint.specs.Association.{fresh, in_context};
 ghost use Rattle.spec_endpoint.specs.Input.{my_tag, in_endpoint_state};
 ghost use Rattle.sctp_calls.specs.Metrics.{metrics_in, metrics_of};
-ghost use Rattle.sctp_association.specs.Socket.{Ends, LeavesAtMemory, RanOut, Worked, association_of, batch_ending, ending_of, endpoint, handover_ending, readiness_in, refusal_in, refusals_in, reset_refusal_in, resetting_ending, restore_ending, restore_refusal_in, sending_ending};
+ghost use Rattle.sctp_association.specs.Socket.{Ends, LeavesAtMemory, LeavesRestoring, RanOut, Worked, association_of, batch_ending, ending_of, endpoint, handover_ending, readiness_in, refusal_in, refusals_in, reset_refusal_in, resetting_ending, restore_ending, restore_refusal_in, sending_ending};
 ghost use Rattle.spec_endpoint.specs.Receiving.{Receives, Judges};
 ghost use Rattle.spec_endpoint.specs.Shown.{association_in, is_at_rest};
 ghost use Rattle.spec_endpoint.specs.Wire.{writing};
@@ -454,6 +454,7 @@ impl<R: Rng, C: Checksum> DcSctpSocket for Socket<R, C> {
             → endpoint R.stream C.word_of self.new ≡ in_endpoint_state (handover.restore (handover_state_of state.now)) (endpoint R.stream C.word_of self.old) }
         ensures allowed { restore_ending result ≡ RanOut → handover.restore_refusal_in self.old.state (handover_state_of state.now) ≡ None }
         ensures stands { Grown self.old.context.emitted self.new.context.emitted }
+        ensures at_memory { OnErr result (LeavesRestoring (handover_state_of state.now) self.old self.new) }
     {
         if self.has_failed {
             return Err(RestoreError::Failed);

@@ -1,12 +1,13 @@
 //! A socket is handed over: its record is written and it closes, and another socket takes the record up and goes on in its
 //! place.
 
-ghost use Rattle.std.specs.Prelude.{◌≡◌, ◌⊎◌, None, IfOk, IsTrue, OnErr, OnOk};
+ghost use Rattle.std.specs.Prelude.{◌≡◌, ◌⊎◌, [], None, IfOk, IsTrue, OnErr, OnOk};
 ghost use Rattle.sctp_capabilities.specs.Capabilities.{capabilities_of};
 ghost use Rattle.sctp_state.specs.Events.{OnClosed};
 ghost use Rattle.sctp_state.specs.Handover.{handover_state_of};
 ghost use Rattle.sctp_state.specs.Validity.{is_valid_state};
 ghost use Rattle.spec_endpoint.specs.Association.{Closed, Established, Open};
+ghost use Rattle.spec_endpoint.specs.Calls.{ready_in};
 ghost use Rattle.spec_endpoint.specs.Shown.{association_in};
 ghost use Rattle.spec_endpoint.specs.Packets.{emit_event_in};
 ghost use Rattle.sctp_endpoint.specs.GoesOn.{GoesOn};
@@ -179,6 +180,8 @@ fn take_up<C: Checksum>(
     ensures goes_on { GoesOn context.old context.new }
     ensures held { OnErr result ((context.new.emitted ≡ context.old.emitted)
         ⊎ (association_in (state_of state.new) ≡ association_in (Open Established (table.tcb_from context.old.clock context.old.options (handover_state_of handed_over.now))))) }
+    ensures association { (association_in (state_of state.new) ≡ association_in (state_of state.old))
+        ⊎ (association_in (state_of state.new) ≡ association_in (Open Established (table.tcb_from context.old.clock context.old.options (handover_state_of handed_over.now)))) }
 {
     context
         .send_queue
@@ -200,6 +203,8 @@ fn restore_closed<C: Checksum>(
     ensures ok { OnOk result (endpoint_state_of C.word_of state.new context.new
         ≡ table.restored_as handed_over.now.socket_state (handover_state_of handed_over.now) (endpoint_state_of C.word_of state.old context.old)) }
     ensures goes_on { GoesOn context.old context.new }
+    ensures association { (association_in (state_of state.new) ≡ association_in (state_of state.old))
+        ⊎ (association_in (state_of state.new) ≡ association_in (Open Established (table.tcb_from context.old.clock context.old.options (handover_state_of handed_over.now)))) }
 {
     match handed_over.socket_state {
         HandoverSocketState::Closed => Ok(()),
@@ -219,6 +224,9 @@ pub fn restore<C: Checksum>(
         ≡ table.restore (handover_state_of handed_over.now) (endpoint_state_of C.word_of state.old context.old)) }
     ensures goes_on { GoesOn context.old context.new }
     ensures allowed { OnErr result (table.restore_refusal_in (state_of state.old) (handover_state_of handed_over.now) ≡ None) }
+    ensures association { (association_in (state_of state.new) ≡ association_in (state_of state.old))
+        ⊎ (association_in (state_of state.new) ≡ association_in (Open Established (table.tcb_from context.old.clock context.old.options (handover_state_of handed_over.now)))) }
+    ensures ready { (ready_in (state_of state.old) ≡ []) ⊎ (ready_in (state_of state.new) ≡ ready_in (state_of state.old)) }
 {
     match state {
         State::Closed => {

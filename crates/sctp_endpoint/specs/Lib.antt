@@ -4,3 +4,4 @@ pub mod WrittenView
 pub mod PacketView
 pub mod Views
 pub mod GoesOn
+pub mod KeepsReady

@@ -155,6 +155,7 @@ pub fn handle_shutdown<C: Checksum>(
 ) -> Result<(), AllocError>
     ensures ok { OnOk result (endpoint_state_of C.word_of state.new context.new ≡ where_open table.on_shutdown (endpoint_state_of C.word_of state.old context.old)) }
     ensures goes_on { GoesOn context.old context.new }
+    ensures received { ready_in (state_of state.new) ≡ ready_in (state_of state.old) }
 {
     match state {
         State::Closed | State::CookieWait(_) => Ok(()),
