@@ -48,6 +48,17 @@ follows_drains id buffered d e is = one_step (buffers id buffered) d e refl is
 pub follows_refuses : (ids : List ℕ) (d e : DataChannels) → e ≡ with_channels (each table.on_reset_denied ids d.channels) d → Follows d e
 follows_refuses ids d e is = one_step (refuses ids) d e refl is
 
+abbrev made_of : Channels → (peer_limit buffer_limit : ℕ) → List Event → List ℕ → DataChannels
+made_of cs peer_limit buffer_limit events waiting = record { channels = cs; peer_limit = peer_limit; buffer_limit = buffer_limit; events = events; unanswered = waiting }
+
+-- the same where the channels alone are looked at
+pub refuses_within : (ids : List ℕ) (old new : Channels) (peer_limit buffer_limit : ℕ) (events : List Event) (waiting : List ℕ) (d : DataChannels)
+    → made_of old peer_limit buffer_limit events waiting ≡ d → new ≡ each table.on_reset_denied ids old → Follows d (made_of new peer_limit buffer_limit events waiting)
+refuses_within ids old new peer_limit buffer_limit events waiting d is row =
+    subst (λ (x : DataChannels). Follows x (made_of new peer_limit buffer_limit events waiting)) is
+    (follows_refuses ids (made_of old peer_limit buffer_limit events waiting) (made_of new peer_limit buffer_limit events waiting)
+    (ap (λ (cs : Channels). made_of cs peer_limit buffer_limit events waiting) row))
+
 pub follows_carried : (d e : DataChannels) → e ≡ with_outputs d → Follows d e
 follows_carried d e is = one_step carries_out d e refl is
 
