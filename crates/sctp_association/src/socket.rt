@@ -90,7 +90,7 @@ impl<R: Rng + Drop, C: Checksum + Drop> Socket<R, C> {
         })
     }
 
-    /// The socket is let go. Another crate that owns one and says so is spared the proof of how each part of it goes.
+    /// The socket is let go: what a helper over any socket calls, which is then proved without its parts.
     pub fn let_go(self) {
         self.state.let_go();
         self.context.let_go();

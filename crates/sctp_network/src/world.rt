@@ -188,7 +188,7 @@ impl<R: Rng + Drop, C: Checksum + Drop> World<R, C> {
         })
     }
 
-    /// Lets the world go. Another crate that owns one and says so is spared the proof of how each part of it is let go.
+    /// Lets the world go.
     pub fn let_go(self) {
         self.a.let_go();
         self.b.let_go();
