@@ -1,4 +1,4 @@
-use Rattle.std.proofs.Common.{◌≡◌, ◌∷◌, [], Some, None, List, rules, sym, subst}
+use Rattle.std.proofs.Common.{◌≡◌, ◌∷◌, Some, None, List, rules, sym, subst}
 use Rattle.sctp_fragments.specs.ReassemblyKey.{rank_at}
 use Rattle.sctp_fragments.specs.Runs.{last_of, end_of, IsBelow}
 use Rattle.sctp_fragments.specs.Held.{Held, rank_of}
