@@ -275,7 +275,7 @@ impl Channels {
     }
 
     /// As `on_reset_performed`, for each of these streams.
-    pub fn on_resets_performed(&mut self, ids: &[StreamId]) -> Result<(), AllocError>
+    pub(crate) fn on_resets_performed(&mut self, ids: &[StreamId]) -> Result<(), AllocError>
         ensures { OnOk result (self.new ≡ each on_reset_performed (numbers_of ids.now) self.old) }
     {
         for id in ids {
@@ -406,7 +406,7 @@ impl Channels {
     }
 
     /// As `on_reset_denied`, for each of these streams.
-    pub fn on_resets_denied(&mut self, ids: &[StreamId]) -> Result<(), AllocError>
+    pub(crate) fn on_resets_denied(&mut self, ids: &[StreamId]) -> Result<(), AllocError>
         ensures { OnOk result (self.new ≡ each on_reset_denied (numbers_of ids.now) self.old) }
     {
         for id in ids {
