@@ -170,7 +170,6 @@ class Pair:
         self.boxes: dict[str, Box] = {}
         self.closed: list[str] = []
         self.end = aiortc.RTCPeerConnection(aiortc.RTCConfiguration(iceServers=[]))
-        self.end._sctpLegacySdp = False  # else Chromium answers without a=max-message-size, which means 65,536
         self.end.on("datachannel", lambda channel: self.take(channel.label, channel, "echo"))
 
     def take(self, name: str, channel, mode: str) -> Box:

@@ -6,6 +6,7 @@
 from __future__ import annotations
 
 import asyncio
+import functools
 import logging
 from collections import deque
 from dataclasses import dataclass, field
@@ -271,7 +272,19 @@ class SctpTransport(RTCSctpTransport):
 
 
 def use_for(aiortc: ModuleType, **settings) -> None:
-    """Has peer connections that are made from now on use this library, with these `Settings`."""
+    """Has peer connections that are made from now on use this library, with these `Settings`. They offer it by RFC 8841: in answer to aiortc's older form
+    Chromium doesn't say the size of its largest message."""
     transport = type("SctpTransport", (SctpTransport,), {"settings": Settings(**settings)})
     setattr(aiortc.rtcpeerconnection, "RTCSctpTransport", transport)
     setattr(aiortc, "RTCSctpTransport", transport)
+    connection = aiortc.rtcpeerconnection.RTCPeerConnection
+    begin = connection.__init__
+    if hasattr(begin, "__wrapped__"):
+        return
+
+    @functools.wraps(begin)
+    def begin_by_rfc_8841(self, *args, **options) -> None:
+        begin(self, *args, **options)
+        self._sctpLegacySdp = False
+
+    connection.__init__ = begin_by_rfc_8841

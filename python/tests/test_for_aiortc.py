@@ -41,6 +41,17 @@ async def until(check) -> None:
         await asyncio.sleep(0.005)
 
 
+def test_offers_by_rfc_8841():
+    async def offer():
+        end = make(True, max_message_size=100000)
+        end.createDataChannel("first")
+        said = (await end.createOffer()).sdp
+        assert "UDP/DTLS/SCTP webrtc-datachannel" in said and "a=max-message-size:100000" in said
+        await end.close()
+
+    asyncio.run(offer())
+
+
 @pytest.mark.parametrize("ours", [(True, True), (True, False), (False, True)])
 def test_a_chat(ours):
     async def chat():

@@ -338,13 +338,13 @@ module _ (word_of : List ℕ → ℕ) (x : End) (log longer more : List Entry) (
 
 module _ (word_of_a word_of_b : List ℕ → ℕ) where
   -- what an end holds when its action begins, and what it drew then
-  draws_a : (x : World) (c : Pair) → Both word_of_a word_of_b x c → draws A x ≡ c.a.end.draws
+  pub draws_a : (x : World) (c : Pair) → Both word_of_a word_of_b x c → draws A x ≡ c.a.end.draws
   draws_a x c h = ap (λ (s : Endpoint (List ℕ)). s.draws) h.a.image.socket
 
-  draws_b : (x : World) (c : Pair) → Both word_of_a word_of_b x c → draws B x ≡ c.b.end.draws
+  pub draws_b : (x : World) (c : Pair) → Both word_of_a word_of_b x c → draws B x ≡ c.b.end.draws
   draws_b x c h = ap (λ (s : Endpoint (List ℕ)). s.draws) h.b.image.socket
 
-  moved : (ds : List Draw) (s t u v : Stream) → s ≡ u → t ≡ v → DrawsSo ds u v → DrawsSo ds s t
+  pub moved : (ds : List Draw) (s t u v : Stream) → s ≡ u → t ≡ v → DrawsSo ds u v → DrawsSo ds s t
   moved ds s t u v e f h = subst (λ (z : Stream). DrawsSo ds z t) (sym e) (subst (λ (z : Stream). DrawsSo ds u z) (sym f) h)
 
   -- no end has drawn a tag that it draws again

@@ -42,6 +42,7 @@ pub mod BundledLemmas
 pub mod DrewLemmas
 pub mod DrewRunLemmas
 pub mod AgreedLemmas
+pub mod DrewTogetherLemmas
 pub mod VisibleLemmas
 pub mod AnswerLemmas
 pub mod SeenLemmas

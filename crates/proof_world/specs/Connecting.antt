@@ -20,6 +20,6 @@ pub record TwoWorldsConnect : Type 0 where
   pub second : World
   pub first_reachable : IsReachable (first_origin origins) opening first
   pub second_reachable : IsReachable (second_origin origins) opening second
-  pub comparable : AreComparable origins opening first first_reachable.runs
+  pub comparable : AreComparable origins opening first second first_reachable.runs second_reachable.runs
   pub first_open : IsOpen first
   pub second_open : IsOpen second

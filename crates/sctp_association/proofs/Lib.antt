@@ -3,3 +3,4 @@ pub mod PlaceLemmas
 pub mod OutlineLemmas
 pub mod JudgeLemmas
 pub mod StandsLemmas
+pub mod InterruptedLemmas

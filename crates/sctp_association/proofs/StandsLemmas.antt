@@ -1,5 +1,5 @@
 -- What a call leaves of what was emitted, read off the socket.
-use Rattle.std.proofs.Common.{◌≡◌, ◌⊎◌, inl, inr, ℕ, List, [], Some, refl, sym, subst}
+use Rattle.std.proofs.Common.{◌≡◌, ◌⊎◌, inl, inr, ℕ, List, [], Some, refl, sym, subst, Result, Ok, Err, OnErr}
 use Rattle.sctp_serial.specs.Messages.{Message}
 use Rattle.sctp_state.specs.Events.{Emitted, Grown}
 use Rattle.sctp_state.specs.Handover.{HandoverState}
@@ -33,3 +33,12 @@ module _ {R C : Type 0} (h : HandoverState) (v s : SocketValue R C) (is : v ≡ 
       → (association_in w.state ≡ association_in v.state) ⊎ (association_in w.state ≡ Some (association_from h))
       → (ready_in v.state ≡ []) ⊎ (ready_in w.state ≡ ready_in v.state) → LeavesRestoring h s w
   restoring_by w g a r = subst (λ (u : SocketValue R C). LeavesRestoring h u w) is (record { emitted = g; association = a; ready = none_or_same (ready_in v.state) (ready_in w.state) r })
+
+on_err : {T F P : Type 0} (r : Result T F) → P → OnErr r P
+on_err (Ok x) p = tt
+on_err (Err x) p = p
+
+pub restoring_err : {R C T F : Type 0} (r : Result T F) (h : HandoverState) (v s : SocketValue R C) (is : v ≡ s) (w : SocketValue R C) → Grown v.context.emitted w.context.emitted
+    → (association_in w.state ≡ association_in v.state) ⊎ (association_in w.state ≡ Some (association_from h))
+    → (ready_in v.state ≡ []) ⊎ (ready_in w.state ≡ ready_in v.state) → OnErr r (LeavesRestoring h s w)
+restoring_err r h v s is w g a e = on_err r (restoring_by h v s is w g a e)

@@ -28,3 +28,4 @@ pub use Rattle.spec_endpoint.specs.Moments
 pub use Rattle.sctp_calls.specs.Metrics
 pub use Rattle.spec_endpoint.specs.Receiving
 pub use Rattle.spec_endpoint.specs.Shown
+pub mod Interrupted

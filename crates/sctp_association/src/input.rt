@@ -1,6 +1,6 @@
 //! How an end takes a packet: whether it is for this association, then chunk by chunk, then what is due.
 
-ghost use Rattle.std.specs.Prelude.{◌≡◌, ℕ, List, codes, false, map, option_map, IfOk, OnOk};
+ghost use Rattle.std.specs.Prelude.{◌≡◌, ℕ, List, codes, false, map, option_map, IfOk, OnErr, OnOk};
 ghost use Rattle.rand_core.specs.Stream.{Stream};
 ghost use Rattle.sctp_parameter.specs.ParameterViews.{parameter_tree};
 ghost use Rattle.sctp_packet.specs.ChunkView.{chunk_tree};
@@ -14,8 +14,11 @@ ghost use Rattle.sctp_association.specs.Kinds.{carries_data, carrying};
 ghost use Rattle.spec_endpoint.specs.Association.{where_open};
 ghost use Rattle.spec_endpoint.specs.Opening.{on_cookie_ack};
 ghost use Rattle.spec_endpoint.specs.Packets.{emit_error};
+ghost use Rattle.spec_endpoint.specs.Calls.{ready_in};
 ghost use Rattle.spec_endpoint.specs.Receiving.{Receives};
+ghost use Rattle.sctp_association.specs.Interrupted.{StopsAmong, StopsIn, StopsPacket};
 ghost use Rattle.sctp_endpoint.specs.GoesOn.{GoesOn};
+ghost use Rattle.sctp_endpoint.specs.KeepsReady.{KeepsReady};
 ghost use Rattle.sctp_endpoint.specs.Views.{context_of, endpoint_of, after_chunk_of, opened_of, phase_of, endpoint_state_of, state_of, tcb_of};
 ghost use Rattle.spec_endpoint.specs.Input as table;
 
@@ -157,6 +160,7 @@ fn handle_acked_cookie<C: Checksum>(
 ) -> Result<(), AllocError>
     ensures ok { OnOk result (endpoint_state_of C.word_of state.new context.new ≡ where_open on_cookie_ack (endpoint_state_of C.word_of state.old context.old)) }
     ensures goes_on { GoesOn context.old context.new }
+    ensures received { ready_in (state_of state.new) ≡ ready_in (state_of state.old) }
 {
     match state {
         State::Closed | State::CookieWait(_) => Ok(()),
@@ -165,7 +169,7 @@ fn handle_acked_cookie<C: Checksum>(
 }
 
 /// What a chunk does, of a packet under this tag. DATA and I-DATA are received where they lie.
-#[tactic(auto, using(sctp_endpoint::proofs::GoesOnLemmas::goes_on_same, sctp_endpoint::proofs::GoesOnLemmas::goes_on_through))]
+#[tactic(auto, using(sctp_endpoint::proofs::KeepsReadyLemmas::err_alone, sctp_endpoint::proofs::KeepsReadyLemmas::err_same, sctp_endpoint::proofs::KeepsReadyLemmas::err_more, sctp_endpoint::proofs::KeepsReadyLemmas::err_given, sctp_endpoint::proofs::GoesOnLemmas::goes_on_same, sctp_endpoint::proofs::GoesOnLemmas::goes_on_through))]
 fn dispatch<R: Rng, C: Checksum>(
     state: &mut State,
     context: &mut Context<C>,
@@ -177,6 +181,7 @@ fn dispatch<R: Rng, C: Checksum>(
     ensures ok { OnOk result (endpoint_of R.stream C.word_of state.new context.new rng.new
         ≡ table.on_chunk tag (chunk_tree chunk) (endpoint_of R.stream C.word_of state.old context.old rng.old)) }
     ensures goes_on { GoesOn context.old context.new }
+    ensures ready { OnErr result (KeepsReady (state_of state.old) (state_of state.new)) }
 {
     match chunk {
         Chunk::Data(_) | Chunk::IData(_) => unreachable!(),
@@ -220,7 +225,7 @@ fn allows_next(chunk: &Chunk) -> bool
 }
 
 /// One chunk. The answer is whether the next one is looked at.
-#[tactic(auto, using(sctp_endpoint::proofs::GoesOnLemmas::goes_on_same, sctp_endpoint::proofs::GoesOnLemmas::goes_on_through))]
+#[tactic(auto, using(sctp_endpoint::proofs::KeepsReadyLemmas::keeps_given, sctp_endpoint::proofs::GoesOnLemmas::goes_on_same, sctp_endpoint::proofs::GoesOnLemmas::goes_on_through))]
 fn receive<R: Rng, C: Checksum>(
     state: &mut State,
     context: &mut Context<C>,
@@ -232,6 +237,7 @@ fn receive<R: Rng, C: Checksum>(
     ensures ok { IfOk result (λ goes_on. after_chunk_of R.stream C.word_of state.new context.new rng.new goes_on
         ≡ table.receive tag (chunk_tree chunk) (endpoint_of R.stream C.word_of state.old context.old rng.old)) }
     ensures goes_on { GoesOn context.old context.new }
+    ensures ready { OnErr result (KeepsReady (state_of state.old) (state_of state.new)) }
 {
     if let Some(misuse) = violation(state, &chunk) {
         drop(chunk);
@@ -256,7 +262,7 @@ fn data_violation(state: &State, is_interleaved: bool) -> Option<Misuse>
 }
 
 /// A fragment where it lies, in DATA or in I-DATA. The answer is whether the next chunk is looked at.
-#[tactic(auto, using(sctp_endpoint::proofs::GoesOnLemmas::goes_on_same, sctp_endpoint::proofs::GoesOnLemmas::goes_on_through))]
+#[tactic(auto, using(sctp_endpoint::proofs::KeepsReadyLemmas::keeps_given, sctp_endpoint::proofs::KeepsReadyLemmas::keeps_more, sctp_endpoint::proofs::GoesOnLemmas::goes_on_same, sctp_endpoint::proofs::GoesOnLemmas::goes_on_through))]
 fn receive_data<C: Checksum>(
     state: &mut State,
     context: &mut Context<C>,
@@ -266,6 +272,7 @@ fn receive_data<C: Checksum>(
     ensures ok { (tag : ℕ) (words : Stream) → IfOk result (λ goes_on. record { end = record { endpoint_state = endpoint_state_of C.word_of state.new context.new; draws = words }; allows_next = goes_on }
         ≡ table.receive tag (carrying is_interleaved fragment.entry) (record { endpoint_state = endpoint_state_of C.word_of state.old context.old; draws = words })) }
     ensures goes_on { GoesOn context.old context.new }
+    ensures ready { OnErr result (KeepsReady (state_of state.old) (state_of state.new)) }
 {
     if let Some(misuse) = data_violation(state, is_interleaved) {
         handle_misuse(state, context, misuse)?;
@@ -286,7 +293,7 @@ fn built(alloc: Global, raw: RawChunk<'_>) -> Result<Chunk, AllocError>
 }
 
 /// One chunk where it lies. DATA is received there, and others are built. The answer is whether the next one is looked at.
-#[tactic(auto, using(sctp_endpoint::proofs::GoesOnLemmas::goes_on_same, sctp_endpoint::proofs::GoesOnLemmas::goes_on_through))]
+#[tactic(auto, using(sctp_endpoint::proofs::KeepsReadyLemmas::keeps_alone, sctp_endpoint::proofs::GoesOnLemmas::goes_on_same, sctp_endpoint::proofs::GoesOnLemmas::goes_on_through))]
 fn receive_in_place<R: Rng, C: Checksum>(
     state: &mut State,
     context: &mut Context<C>,
@@ -297,6 +304,7 @@ fn receive_in_place<R: Rng, C: Checksum>(
     ensures ok { (t : ChunkTree) → IsChunk (raw_chunk raw.entry) t → IfOk result (λ goes_on. after_chunk_of R.stream C.word_of state.new context.new rng.new goes_on
         ≡ table.receive tag t (endpoint_of R.stream C.word_of state.old context.old rng.old)) }
     ensures goes_on { GoesOn context.old context.new }
+    ensures ready { OnErr result (KeepsReady (state_of state.old) (state_of state.new)) }
 {
     match raw.data_view() {
         Some(fragment) => receive_data(state, context, raw.typ == IDataChunk::TYPE, fragment),
@@ -319,6 +327,7 @@ fn receive_all<R: Rng, C: Checksum>(
     ensures ok { (chunks : List ChunkTree) → AreLeft view.entry chunks → OnOk result (endpoint_of R.stream C.word_of state.new context.new rng.new
         ≡ table.receive_all tag chunks (endpoint_of R.stream C.word_of state.old context.old rng.old)) }
     ensures goes_on { GoesOn context.old context.new }
+    ensures stops { (chunks : List ChunkTree) → AreLeft view.entry chunks → OnErr result (StopsAmong tag chunks (endpoint_of R.stream C.word_of state.old context.old rng.old) (state_of state.new)) }
 {
     while let Some(raw) = view.next_chunk() {
         if !receive_in_place(state, context, rng, tag, raw)? {
@@ -336,6 +345,7 @@ fn repeat_if<C: Checksum>(
 ) -> Result<(), AllocError>
     ensures ok { OnOk result (endpoint_state_of C.word_of state.new context.new ≡ table.repeats_if has_data (endpoint_state_of C.word_of state.old context.old)) }
     ensures goes_on { GoesOn context.old context.new }
+    ensures received { ready_in (state_of state.new) ≡ ready_in (state_of state.old) }
 {
     if !has_data {
         return Ok(());
@@ -350,6 +360,7 @@ fn repeat_if<C: Checksum>(
 fn on_packet_end<C: Checksum>(state: &mut State, context: &mut Context<C>) -> Result<(), AllocError>
     ensures ok { OnOk result (endpoint_state_of C.word_of state.new context.new ≡ where_open table.on_packet_end (endpoint_state_of C.word_of state.old context.old)) }
     ensures goes_on { GoesOn context.old context.new }
+    ensures received { ready_in (state_of state.new) ≡ ready_in (state_of state.old) }
 {
     match state {
         State::Closed | State::CookieWait(_) => Ok(()),
@@ -370,6 +381,8 @@ fn handle_accepted_packet<R: Rng, C: Checksum>(
     ensures ok { (chunks : List ChunkTree) → AreLeft view.entry chunks → has_data ≡ table.has_data_chunk chunks
         → OnOk result (endpoint_of R.stream C.word_of state.new context.new rng.new ≡ table.on_accepted_packet tag chunks (endpoint_of R.stream C.word_of state.old context.old rng.old)) }
     ensures goes_on { GoesOn context.old context.new }
+    ensures stops { (chunks : List ChunkTree) → AreLeft view.entry chunks → has_data ≡ table.has_data_chunk chunks
+        → OnErr result (StopsAmong tag chunks (table.in_endpoint_state (table.repeats_if has_data) (endpoint_of R.stream C.word_of state.old context.old rng.old)) (state_of state.new)) }
 {
     repeat_if(state, context, has_data)?;
     receive_all(state, context, rng, tag, view)?;
@@ -387,6 +400,7 @@ pub(crate) fn handle_packet<R: Rng, C: Checksum>(
     ensures ok { (chunks : List ChunkTree) → AreLeft view.entry chunks → OnOk result (endpoint_of R.stream C.word_of state.new context.new rng.new
         ≡ table.on_packet (viewed_packet view.entry chunks) (endpoint_of R.stream C.word_of state.old context.old rng.old)) }
     ensures goes_on { GoesOn context.old context.new }
+    ensures stops { (chunks : List ChunkTree) → AreLeft view.entry chunks → OnErr result (StopsPacket (viewed_packet view.entry chunks) (endpoint_of R.stream C.word_of state.old context.old rng.old) (state_of state.new)) }
 {
     count_packet(context);
     let tag = view.header().verification_tag;
@@ -422,6 +436,7 @@ pub(crate) fn handle_input<R: Rng, C: Checksum>(
     ensures ok { OnOk result (Receives (C.word_of context.old.checksum) bytes.now (endpoint_of R.stream C.word_of state.old context.old rng.old)
         (endpoint_of R.stream C.word_of state.new context.new rng.new)) }
     ensures goes_on { GoesOn context.old context.new }
+    ensures stops { OnErr result (StopsIn (C.word_of context.old.checksum) bytes.now (endpoint_of R.stream C.word_of state.old context.old rng.old) (state_of state.new)) }
 {
     let word = packet_word(context, bytes);
     match PacketView::new(bytes, word, &policy(context)) {

@@ -6,6 +6,7 @@ ghost use Rattle.sctp_tx_queue.specs.SendQueue.{amount_of, stream, total_of};
 ghost use Rattle.sctp_state.specs.Events.{Grown, event_of, first_of, given_up_of, numbers_of};
 ghost use Rattle.sctp_state.specs.Handover.{handover_state_of};
 ghost use Rattle.sctp_state.specs.Options.{IsValid, options_of, send_options_of};
+ghost use Rattle.sctp_association.specs.Interrupted.{StopsIn};
 ghost use Rattle.spec_endpoint.specs.Association.{fresh, in_context};
 ghost use Rattle.spec_endpoint.specs.Input.{my_tag, in_endpoint_state};
 ghost use Rattle.sctp_calls.specs.Metrics.{metrics_in, metrics_of};
@@ -90,7 +91,7 @@ impl<R: Rng + Drop, C: Checksum + Drop> Socket<R, C> {
         })
     }
 
-    /// The socket is let go. Another crate that owns one and says so is spared the proof of how each part of it goes.
+    /// The socket is let go: what a helper over any socket calls, which is then proved without its parts.
     pub fn let_go(self) {
         self.state.let_go();
         self.context.let_go();
@@ -205,6 +206,7 @@ impl<R: Rng, C: Checksum> DcSctpSocket for Socket<R, C> {
         ensures ends { Ends (ending_of result) self.old self.new }
         ensures ok { OnOk result (Receives (C.word_of self.old.context.checksum) bytes.now (endpoint R.stream C.word_of self.old) (endpoint R.stream C.word_of self.new)) }
         ensures stands { Grown self.old.context.emitted self.new.context.emitted }
+        ensures stops { OnErr result (StopsIn (C.word_of self.old.context.checksum) bytes.now (endpoint R.stream C.word_of self.old) self.new.state) }
     {
         if self.has_failed {
             return Err(CallError::Failed);

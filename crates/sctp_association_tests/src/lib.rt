@@ -1,4 +1,5 @@
-//! Tests of `sctp_association` over its public items, apart so that it is proved once.
+//! Tests of sockets that are no rows of `run_socket_script`: what a call leaves where memory lacks. Apart, so that `sctp_association` is
+//! proved once.
 #![tactic(auto)]
 
 #[cfg(test)]

@@ -71,7 +71,7 @@ start_in bytes = record { role = u32_or 8 0 bytes; max_message_size = u32_or 12 
 
 abbrev pub started : StartRecord → (stream_count : ℕ) → DataChannels
 started r stream_count =
-    record { channels = no_channels (r.role == 0) stream_count r.max_message_size; peer_limit = r.peer_max_message_size; buffer_limit = r.max_buffered_amount }
+    record { channels = no_channels (r.role == 0) stream_count r.max_message_size; peer_limit = r.peer_max_message_size; buffer_limit = r.max_buffered_amount; events = []; unanswered = [] }
 
 -- no channels yet, on some number of streams
 abbrev pub IsStarted : StartRecord → Option DataChannels → Type 0

@@ -1,5 +1,6 @@
 pub mod AnswerLemmas
 pub mod DataLemmas
+pub mod FollowsLemmas
 pub mod MessageLemmas
 pub mod QuietLemmas
 pub mod RunLemmas

@@ -10,7 +10,7 @@ use Rattle.sctp_serial.specs.Messages.{Message}
 use Rattle.sctp_state.specs.Events as sockets
 use Rattle.sctp_channels.specs.Channel.{Channel, Received, exceeds, message, on_data, received, take_if, taken_if}
 use Rattle.sctp_channels.specs.Channels.{Channels, OnControl, OnMessage, Output, acknowledge, change, data_from, emit, hand, on_ack, on_incoming_reset, on_reset_denied, on_reset_performed, on_payload, reset, tell_closed, tell_message, tell_opened, tell_refused}
-use Rattle.sctp_channels.specs.Steps.{Served, Does, Event, Gets, PassesOn, Step, answers, buffers, carries_out, closes, counts, each, gets, heard, hears, named, passed_on, passes_on, refuses, told_by, with_outputs}
+use Rattle.sctp_channels.specs.Steps.{DataChannels, Does, Event, Gets, PassesOn, Step, answers, buffers, carries_out, closes, counts, each, gets, heard, hears, named, passed_on, passes_on, refuses, told_by, with_outputs}
 use Rattle.sctp_channels.specs.Entries.{channel_at}
 use Rattle.sctp_channels.specs.Lifecycle.{takes_data}
 use Rattle.sctp_channels.specs.Payload.{data_payload, data_ppid, protocol_of}
@@ -141,16 +141,16 @@ offer_comes (of_opening stream payload) cs new short w row = opening_comes strea
 
 -- ---- a step
 
-record Tells (d e : Served) (xs : List Content) : Type 0 where
+record Tells (d e : DataChannels) (xs : List Content) : Type 0 where
   limit : e.channels.limit ≡ d.channels.limit
   whole : AreWhole e.channels
   choice : Bool
   told : to_tell e ≡ to_tell d ++ chosen (choice ∷ []) xs
 
-got_one : (o : Offer) (m : Message) (d e : Served) → offered_as o ≡ m → IsShort d.channels.limit o → AreWhole d.channels → Gets m d e → Tells d e (content_of (Some o))
+got_one : (o : Offer) (m : Message) (d e : DataChannels) → offered_as o ≡ m → IsShort d.channels.limit o → AreWhole d.channels → Gets m d e → Tells d e (content_of (Some o))
 got_one o m d e is short w got =
     let comes = offer_comes o d.channels got.channels short w (subst (λ (x : Message). OnMessage (protocol_of x.ppid) x.stream x.payload d.channels got.channels) (sym is) got.row) in
-    subst (λ (x : Served). Tells d x (content_of (Some o))) (sym got.done)
+    subst (λ (x : DataChannels). Tells d x (content_of (Some o))) (sym got.done)
     (record {
       limit = comes.limit;
       whole = comes.whole;
@@ -160,18 +160,18 @@ got_one o m d e is short w got =
     })
 
 -- nothing is told
-record Stays (d e : Served) : Type 0 where
+record Stays (d e : DataChannels) : Type 0 where
   limit : e.channels.limit ≡ d.channels.limit
   whole : AreWhole d.channels → AreWhole e.channels
   told : to_tell e ≡ to_tell d
 
-by_row : (d : Served) (cs : Channels) (waiting : List ℕ) → IsQuiet d.channels cs → Stays d (record d { channels = cs; unanswered = waiting })
+by_row : (d : DataChannels) (cs : Channels) (waiting : List ℕ) → IsQuiet d.channels cs → Stays d (record d { channels = cs; unanswered = waiting })
 by_row d cs waiting quiet = record { limit = quiet.limit; whole = quiet.whole; told = ap (λ (ms : List Content). flat_map told_in d.events ++ ms) quiet.told }
 
-unchanged : (d : Served) → Stays d d
+unchanged : (d : DataChannels) → Stays d d
 unchanged d = record { limit = refl; whole = λ w. w; told = refl }
 
-hears_it : (event : sockets.Event (List ℕ)) (d : Served) → Stays d (heard event d)
+hears_it : (event : sockets.Event (List ℕ)) (d : DataChannels) → Stays d (heard event d)
 hears_it (sockets.OnIncomingStreamReset ids) d = by_row d (each on_incoming_reset (named ids d.channels) d.channels) d.unanswered (each_row on_incoming_reset resets (named ids d.channels) d.channels)
 hears_it (sockets.OnStreamsResetPerformed ids) d = by_row d (each on_reset_performed ids d.channels) d.unanswered (each_row on_reset_performed performs ids d.channels)
 hears_it (sockets.OnStreamsResetFailed ids) d = by_row d (each on_reset_denied ids d.channels) d.unanswered (each_row on_reset_denied denies ids d.channels)
@@ -196,7 +196,7 @@ no_message (sockets.OnStreamsResetFailed ids) t e = absurd (no_some t e)
 no_message (sockets.OnBufferedAmountLow id) t e = sym (ap (λ (x : Option Event). told_in (unwrap_or x t)) e)
 no_message event t e = sym (ap (λ (x : Option Event). told_in (unwrap_or x t)) e)
 
-passes_it_on : (event : sockets.Event (List ℕ)) (d e : Served) → PassesOn event d e → Stays d e
+passes_it_on : (event : sockets.Event (List ℕ)) (d e : DataChannels) → PassesOn event d e → Stays d e
 passes_it_on event d e p =
     subst (Stays d) (sym p.done)
     (record {
@@ -223,7 +223,7 @@ told_all (o ∷ os) =
     ∙ ap (λ (ms : List Content). ms ++ flat_map told_in (flat_map told_by os)) (told_once o)
     ∙ ap (λ (ms : List Content). message_in o ++ ms) (told_all os)
 
-carries : (d : Served) → Stays d (with_outputs d)
+carries : (d : DataChannels) → Stays d (with_outputs d)
 carries d = record {
   limit = refl;
   whole = λ w. w;
@@ -234,11 +234,11 @@ carries d = record {
 
 -- ---- steps
 
-abbrev Told : List Offer → List ℕ → Served → Served → Type 0
+abbrev Told : List Offer → List ℕ → DataChannels → DataChannels → Type 0
 Told offers places d e = (choice : List Bool) × (to_tell e ≡ to_tell d ++ chosen choice (contents_at offers places))
 
 -- after a step that tells nothing
-stays_then : (d c e : Served) (offers : List Offer) (places : List ℕ) → Stays d c → Told offers places c e → Told offers places d e
+stays_then : (d c e : DataChannels) (offers : List Offer) (places : List ℕ) → Stays d c → Told offers places c e → Told offers places d e
 stays_then d c e offers places s t = (t.0, t.1 ∙ ap (λ (ms : List Content). ms ++ chosen t.0 (contents_at offers places)) s.told)
 
 joined : (o : Offer) (b : Bool) (choice : List Bool) (rest : List Content)
@@ -247,7 +247,7 @@ joined (of_owner m) true choice rest = (true ∷ choice, refl)
 joined (of_owner m) false choice rest = (false ∷ choice, refl)
 joined (of_opening stream payload) b choice rest = (choice, refl)
 
-tells_then : (o : Offer) (d c e : Served) (offers : List Offer) (place : ℕ) (places : List ℕ) → slice_get offers place ≡ Some o → Tells d c (content_of (Some o)) → Told offers places c e
+tells_then : (o : Offer) (d c e : DataChannels) (offers : List Offer) (place : ℕ) (places : List ℕ) → slice_get offers place ≡ Some o → Tells d c (content_of (Some o)) → Told offers places c e
     → Told offers (place ∷ places) d e
 tells_then o d c e offers place places is t rest =
     let all = joined o t.choice rest.0 (contents_at offers places) in (
@@ -264,7 +264,7 @@ all_at : (limit : ℕ) (offers : List Offer) (i : ℕ) (o : Offer) → slice_get
 all_at limit offers i o is all =
     subst (IsShort limit) (sym (unwrap_or-slice_get offers i o) ∙ ap (λ (x : Option Offer). unwrap_or x o) is) (All-get_or (IsShort limit) offers i o (slice_get_within offers i o is) all)
 
-got_from : (found : Option Offer) (m : Message) (d c e : Served) (offers : List Offer) (place : ℕ) (places : List ℕ) → slice_get offers place ≡ found → option_map offered_as found ≡ Some m
+got_from : (found : Option Offer) (m : Message) (d c e : DataChannels) (offers : List Offer) (place : ℕ) (places : List ℕ) → slice_get offers place ≡ found → option_map offered_as found ≡ Some m
     → All (IsShort d.channels.limit) offers → AreWhole d.channels → Gets m d c
     → (c.channels.limit ≡ d.channels.limit → AreWhole c.channels → Told offers places c e) → Told offers (place ∷ places) d e
 got_from None m d c e offers place places is came short w got rest = absurd (no_some m came)
@@ -273,15 +273,15 @@ got_from (Some o) m d c e offers place places is came short w got rest =
     let t = got_one o m d c same (all_at d.channels.limit offers place o is short) w got in
     tells_then o d c e offers place places is t (rest t.limit t.whole)
 
-shorter : (offers : List Offer) (d c : Served) → c.channels.limit ≡ d.channels.limit → All (IsShort d.channels.limit) offers → All (IsShort c.channels.limit) offers
+shorter : (offers : List Offer) (d c : DataChannels) → c.channels.limit ≡ d.channels.limit → All (IsShort d.channels.limit) offers → All (IsShort c.channels.limit) offers
 shorter offers d c same short = subst (λ (limit : ℕ). All (IsShort limit) offers) (sym same) short
 
-went_on : (d c e : Served) (offers : List Offer) (places : List ℕ) → Stays d c → AreWhole d.channels → All (IsShort d.channels.limit) offers
+went_on : (d c e : DataChannels) (offers : List Offer) (places : List ℕ) → Stays d c → AreWhole d.channels → All (IsShort d.channels.limit) offers
     → (AreWhole c.channels → All (IsShort c.channels.limit) offers → Told offers places c e) → Told offers places d e
 went_on d c e offers places s w short rest = stays_then d c e offers places s (rest (s.whole w) (shorter offers d c s.limit short))
 
 -- what one step does, but for a message
-does_quietly : (s : Step) (d c : Served) → got_by s ≡ [] → Does s d c → Stays d c
+does_quietly : (s : Step) (d c : DataChannels) → got_by s ≡ [] → Does s d c → Stays d c
 does_quietly (gets m) d c none does = absurd (no_cons m [] (sym none))
 does_quietly (hears event) d c none does = subst (Stays d) (sym does) (hears_it event d)
 does_quietly (passes_on event) d c none does = passes_it_on event d c does

@@ -34,11 +34,8 @@ received_as outcomes.TooLong = too_long
 abbrev pub plus : ℕ → ℕ → ℕ
 plus count more = min (count + more) (2 ^ 64 - 1)
 
-abbrev pub no_statistics : Statistics
-no_statistics = record { messages_sent = 0; bytes_sent = 0; messages_received = 0; bytes_received = 0 }
-
 abbrev pub new_channel : Lifecycle → Open → Channel
-new_channel l description = record { lifecycle = l; description = description; parts = []; is_too_long = false; statistics = no_statistics }
+new_channel l description = record { lifecycle = l; description = description; parts = []; is_too_long = false; statistics = record { messages_sent = 0; bytes_sent = 0; messages_received = 0; bytes_received = 0 } }
 
 abbrev pub with_lifecycle : Lifecycle → Channel → Channel
 with_lifecycle l c = record c { lifecycle = l }

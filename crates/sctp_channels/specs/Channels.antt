@@ -12,8 +12,6 @@ use Rattle.sctp_channels.specs.Message.{Establishment, Open, RefusedAs, Says, op
 use Rattle.sctp_channels.specs.Channel.{Channel, Received, count_sent, message, new_channel, nothing, on_data, received, reset_incoming, too_long, with_lifecycle}
 use Rattle.sctp_channels.specs.Lifecycle as life
 use Rattle.sctp_channels.specs.declared.lifecycle.Lifecycle.{Lifecycle}
-use Rattle.sctp_channels.specs.declared.lifecycle.Opening.{Opening}
-use Rattle.sctp_channels.specs.declared.lifecycle.Opening.TheVariants.{Refused}
 use Rattle.sctp_channels.specs.declared.lifecycle.Outgoing.{Outgoing}
 use Rattle.sctp_channels.specs.declared.lifecycle.Outgoing.TheVariants.{Denied}
 use Rattle.sctp_channels.specs.declared.output.Output as given
@@ -160,17 +158,13 @@ on_payload id protocol payload cs = deliver id protocol payload (on_ack id cs)
 
 -- ---- resets
 
-abbrev pub is_seen : Opening → Bool
-is_seen Refused = false
-is_seen _ = true
-
 abbrev pub is_denied : Outgoing → Bool
 is_denied Denied = true
 is_denied _ = false
 
 -- the owner knows the channel, and was not told that it is closed
 abbrev pub is_shown : Lifecycle → Bool
-is_shown l = is_seen l.opening && not (is_denied l.outgoing)
+is_shown l = life.is_taken l.opening && not (is_denied l.outgoing)
 
 abbrev pub tell_end : Lifecycle → ℕ → Channels → Channels
 tell_end l id cs = cond (is_shown l) (emit (tell_closed id) cs) cs
@@ -183,19 +177,16 @@ abbrev pub settle_from : Option Channel → (Channel → Channel) → ℕ → Ch
 settle_from None f id cs = cs
 settle_from (Some c) f id cs = settle f c id cs
 
-abbrev pub settle_at : (Channel → Channel) → ℕ → Channels → Channels
-settle_at f id cs = settle_from (channel_at id cs.entries) f id cs
-
 -- the peer has reset its outgoing stream
 abbrev pub on_incoming_reset : ℕ → Channels → Channels
-on_incoming_reset id cs = settle_at reset_incoming id cs
+on_incoming_reset id cs = settle_from (channel_at id cs.entries) reset_incoming id cs
 
 abbrev pub finish_one : Channel → Channel
 finish_one c = with_lifecycle (life.finish c.lifecycle) c
 
 -- the peer has performed a reset
 abbrev pub on_reset_performed : ℕ → Channels → Channels
-on_reset_performed id cs = settle_at finish_one id cs
+on_reset_performed id cs = settle_from (channel_at id cs.entries) finish_one id cs
 
 abbrev pub deny_one : Channel → Channel
 deny_one c = with_lifecycle (life.deny c.lifecycle) c

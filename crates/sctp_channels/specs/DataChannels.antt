@@ -1,22 +1,10 @@
--- Channels over a socket: what the owner's calls make of them, and how a message goes.
+-- A message of the owner, and a channel that is closed.
 use Rattle.std.specs.Prelude.{◌≡◌, ◌⊎◌, ℕ, ◌≤◌, min, ◌*◌, Bool, true, false, Option, Some, None}
 use Rattle.sctp_channels.specs.Channel.{Channel}
-use Rattle.sctp_channels.specs.Lifecycle.{may_send}
-use Rattle.sctp_channels.specs.declared.lifecycle.Outgoing.{Outgoing}
-use Rattle.sctp_channels.specs.declared.lifecycle.Outgoing.TheVariants.{Draining}
+use Rattle.sctp_channels.specs.Lifecycle.{is_draining, may_send}
 use Rattle.sctp_channels.specs.declared.reliability.Reliability.{Reliability}
 use Rattle.sctp_channels.specs.declared.reliability.Reliability.TheVariants.{MaxRetransmissions, MaxLifetime}
-use Rattle.sctp_channels.specs.Channels.{Channels}
-
-pub record DataChannels : Type 0 where
-  pub channels : Channels
-  -- the longest message that the peer takes; 0 is any
-  pub peer_limit : ℕ
-  -- the most bytes that may wait on a channel
-  pub buffer_limit : ℕ
-
-abbrev pub with_channels : Channels → DataChannels → DataChannels
-with_channels cs d = record d { channels = cs }
+pub use Rattle.sctp_channels.specs.Steps.{DataChannels, with_channels}
 
 -- how often a message is sent again, at most
 abbrev pub retransmissions : Reliability → Option ℕ
@@ -32,10 +20,6 @@ lifetime _ = None
 abbrev pub IsOpenAt : Option Channel → Type 0
 IsOpenAt None = ⊥
 IsOpenAt (Some c) = may_send c.lifecycle ≡ true
-
-abbrev pub is_draining : Outgoing → Bool
-is_draining Draining = true
-is_draining _ = false
 
 -- a channel is closed there, and its reset is still to be asked for
 abbrev pub is_draining_at : Option Channel → Bool

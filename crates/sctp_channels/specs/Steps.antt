@@ -1,13 +1,14 @@
--- What becomes of the channels of an end through their socket, and what their owner is told: a socket's messages, events and answers, one after the
--- other.
+-- Channels over a socket: what becomes of them, and what their owner is told, by the socket's messages, events and answers, one after the other.
 use Rattle.std.specs.Prelude.{◌≡◌, ℕ, Option, Some, None, List, [], ◌∷◌, ◌++◌}
 use Rattle.std.specs.List.{flat_map}
 use Rattle.std.specs.Map.{keys_of}
 use Rattle.sctp_serial.specs.Messages.{Message}
 use Rattle.sctp_state.specs.Events as sockets
 use Rattle.sctp_channels.specs.Channels as table
-use Rattle.sctp_channels.specs.Channels.{Channels, OnMessage, Output, acknowledge, reset}
+use Rattle.sctp_channels.specs.Channels.{Channels, OnMessage, Output, acknowledge, reset, tell_closed, tell_message, tell_opened, tell_refused}
 use Rattle.sctp_channels.specs.Payload.{protocol_of}
+use Rattle.sctp_channels.specs.declared.event.ChannelEvent as given
+use Rattle.sctp_channels.specs.declared.event.ChannelEvent.TheVariants as events
 
 -- what the owner is told
 pub data Event : Type 0 where
@@ -17,21 +18,27 @@ pub data Event : Type 0 where
   is_low : (id : ℕ) → Event
   of_socket : (e : sockets.Event (List ℕ)) → Event
 
--- the channels, and what is still to be told and answered
-pub record Served : Type 0 where
+abbrev pub event_of : given.ChannelEvent → Event
+event_of (events.Opened id) = of_channels (tell_opened id.0)
+event_of (events.Message id kind bytes) = of_channels (tell_message id.0 kind bytes.items)
+event_of (events.BufferedAmountLow id) = is_low id.0
+event_of (events.Closed id) = of_channels (tell_closed id.0)
+event_of (events.Refused id why) = of_channels (tell_refused id.0 why)
+event_of (events.Socket event) = of_socket (sockets.event_of event)
+
+pub record DataChannels : Type 0 where
   pub channels : Channels
+  -- the longest message that the peer takes; 0 is any
+  pub peer_limit : ℕ
+  -- the most bytes that may wait on a channel
+  pub buffer_limit : ℕ
   -- what the owner is to be told, in order
   pub events : List Event
   -- streams whose DATA_CHANNEL_OPEN is to be answered, in order
   pub unanswered : List ℕ
 
-abbrev pub with_channels : Channels → Served → Served
+abbrev pub with_channels : Channels → DataChannels → DataChannels
 with_channels cs d = record d { channels = cs }
-
--- ---- what becomes of the channels through their socket
-
-abbrev pub tell : Event → Served → Served
-tell e d = record d { events = d.events ++ e ∷ [] }
 
 -- the owner is told the output
 abbrev pub told_by : Output → List Event
@@ -45,9 +52,11 @@ acknowledged_by (acknowledge id) = id ∷ []
 acknowledged_by o = []
 
 -- each output goes where it belongs
-abbrev pub with_outputs : Served → Served
+abbrev pub with_outputs : DataChannels → DataChannels
 with_outputs d = record {
   channels = record d.channels { outputs = [] };
+  peer_limit = d.peer_limit;
+  buffer_limit = d.buffer_limit;
   events = d.events ++ flat_map told_by d.channels.outputs;
   unanswered = d.unanswered ++ flat_map acknowledged_by d.channels.outputs;
 }
@@ -62,11 +71,11 @@ abbrev pub named : List ℕ → Channels → List ℕ
 named [] cs = keys_of cs.entries
 named ids cs = ids
 
-abbrev pub ended : Served → Served
+abbrev pub ended : DataChannels → DataChannels
 ended d = record d { channels = table.end d.channels; unanswered = [] }
 
 -- the socket emitted an event
-abbrev pub heard : sockets.Event (List ℕ) → Served → Served
+abbrev pub heard : sockets.Event (List ℕ) → DataChannels → DataChannels
 heard (sockets.OnIncomingStreamReset ids) d = with_channels (each table.on_incoming_reset (named ids d.channels) d.channels) d
 heard (sockets.OnStreamsResetPerformed ids) d = with_channels (each table.on_reset_performed ids d.channels) d
 heard (sockets.OnStreamsResetFailed ids) d = with_channels (each table.on_reset_denied ids d.channels) d
@@ -106,24 +115,24 @@ pub data Step : Type 0 where
   answers : Step
 
 -- a message is read by the table's row
-pub record Gets (m : Message) (d e : Served) : Type 0 where
+pub record Gets (m : Message) (d e : DataChannels) : Type 0 where
   pub channels : Channels
   pub row : OnMessage (protocol_of m.ppid) m.stream m.payload d.channels channels
   pub done : e ≡ with_channels channels d
 
 -- some that waited in front wait no more
-pub record Answers (d e : Served) : Type 0 where
+pub record Answers (d e : DataChannels) : Type 0 where
   pub answered : List ℕ
   pub rest : List ℕ
   pub waiting : d.unanswered ≡ answered ++ rest
   pub done : e ≡ record d { unanswered = rest }
 
-pub record PassesOn (event : sockets.Event (List ℕ)) (d e : Served) : Type 0 where
+pub record PassesOn (event : sockets.Event (List ℕ)) (d e : DataChannels) : Type 0 where
   pub told : Event
   pub left : passed_on event ≡ Some told
-  pub done : e ≡ tell told d
+  pub done : e ≡ record d { events = d.events ++ told ∷ [] }
 
-abbrev pub Does : Step → Served → Served → Type 0
+abbrev pub Does : Step → DataChannels → DataChannels → Type 0
 Does (gets m) d e = Gets m d e
 Does (hears event) d e = e ≡ heard event d
 Does (passes_on event) d e = PassesOn event d e
@@ -134,6 +143,21 @@ Does (closes id) d e = e ≡ with_channels (table.close id d.channels) d
 Does carries_out d e = e ≡ with_outputs d
 Does answers d e = Answers d e
 
-abbrev pub Runs : List Step → Served → Served → Type 0
+abbrev pub Runs : List Step → DataChannels → DataChannels → Type 0
 Runs [] d e = d ≡ e
-Runs (s ∷ ss) d e = (c : Served) × Does s d c × Runs ss c e
+Runs (s ∷ ss) d e = (c : DataChannels) × Does s d c × Runs ss c e
+
+abbrev pub closed_by : Step → List ℕ
+closed_by (closes id) = id ∷ []
+closed_by s = []
+
+-- the one has become the other by such steps, and by nothing else; none of them is a word of the owner
+pub record Follows (d e : DataChannels) : Type 0 where
+  pub steps : List Step
+  pub runs : Runs steps d e
+  pub closes_none : flat_map closed_by steps ≡ []
+
+-- what was to be told is still to be told, in front
+pub record StaysTold (d e : DataChannels) : Type 0 where
+  pub more : List Event
+  pub events : e.events ≡ d.events ++ more

@@ -5,7 +5,7 @@ use Rattle.std.specs.Map.{values_of}
 use Rattle.sctp_serial.specs.Messages.{Message}
 use Rattle.sctp_channels.specs.Channel.{Channel}
 use Rattle.sctp_channels.specs.Channels.{Channels, Output, tell_message}
-use Rattle.sctp_channels.specs.Steps.{Served, Event, Runs, Step, gets, of_channels}
+use Rattle.sctp_channels.specs.Steps.{DataChannels, Event, Runs, Step, gets, of_channels}
 use Rattle.sctp_channels.specs.Payload.{data_message}
 use Rattle.sctp_channels.specs.declared.payload.PayloadKind.{PayloadKind}
 
@@ -52,7 +52,7 @@ told_in (of_channels o) = message_in o
 told_in e = []
 
 -- messages that it is still to be told, in order
-abbrev pub to_tell : Served → List Content
+abbrev pub to_tell : DataChannels → List Content
 to_tell d = flat_map told_in d.events ++ flat_map message_in d.channels.outputs
 
 -- the messages that its socket handed out
@@ -81,5 +81,5 @@ chosen (false ∷ choice) (x ∷ xs) = chosen choice xs
 -- where no channel takes data.
 abbrev pub WhatIsToldWasAccepted : Type 0
 WhatIsToldWasAccepted =
-    (steps : List Step) (d e : Served) → Runs steps d e → AreWhole d.channels → (offers : List Offer) (places : List ℕ) → All (IsShort d.channels.limit) offers
+    (steps : List Step) (d e : DataChannels) → Runs steps d e → AreWhole d.channels → (offers : List Offer) (places : List ℕ) → All (IsShort d.channels.limit) offers
     → AreAccepted offers places (flat_map got_by steps) → (choice : List Bool) × (to_tell e ≡ to_tell d ++ chosen choice (contents_at offers places))

@@ -9,7 +9,7 @@ use std::alloc::{AllocError, Global};
 use std::marker::Model;
 
 /// What a channel counts. Each count stops at the greatest number of its type.
-#[derive(Clone, Copy, Debug)]
+#[derive(Clone, Copy, Debug, Default)]
 pub struct Statistics {
     /// Messages of the owner that the socket has accepted.
     pub messages_sent: u64,
@@ -61,12 +61,7 @@ impl Channel {
             description,
             parts: Vec::new(alloc),
             is_too_long: false,
-            statistics: Statistics {
-                messages_sent: 0,
-                bytes_sent: 0,
-                messages_received: 0,
-                bytes_received: 0,
-            },
+            statistics: Statistics::default(),
         }
     }
 

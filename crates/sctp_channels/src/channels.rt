@@ -1,8 +1,10 @@
 //! The channels of an association.
 
-ghost use Rattle.std.specs.Prelude.{◌≡◌, ◌<◌, ◌++◌, ◌⊎◌, [], cond, true, None, Some, IfSome, IfNone, IsSome, IfErr, IfOk, OnOk, OnErr, ℕ, map, option_copied, option_map, option_to_list};
+ghost use Rattle.std.specs.Prelude.{◌≡◌, ◌<◌, ◌++◌, ◌⊎◌, [], cond, true, None, Some, IfSome, IfNone, IsSome, IfErr, IfOk, OnOk, OnErr, ℕ, length, map, option_copied, option_map, option_to_list};
 ghost use Rattle.std.specs.Map.{keys_of};
+ghost use Rattle.sctp_state.specs.Events.{numbers_of};
 ghost use Rattle.sctp_channels.specs.Payload.{protocol_of};
+ghost use Rattle.sctp_channels.specs.Steps.{each};
 ghost use Rattle.sctp_channels.specs.Views.{open_of};
 ghost use Rattle.sctp_channels.specs.Channel.{on_data, received_as};
 ghost use Rattle.sctp_channels.specs.Channels.{Emits, OnControl, OnMessage, Stands, change, close, deliver, drain, emit, end, hand, is_denied, is_own, negotiate, no_channels, on_ack, on_incoming_reset, on_open, on_payload, on_reset_denied, on_reset_performed, open_from, open_own, output_of, sent, take_open, tell_closed, turn_down, with_entries};
@@ -50,10 +52,7 @@ fn is_own(is_client: bool, id: u16) -> bool
 fn is_denied(outgoing: Outgoing) -> bool
     ensures { result ≡ is_denied outgoing }
 {
-    match outgoing {
-        Outgoing::Denied => true,
-        _ => false,
-    }
+    matches!(outgoing, Outgoing::Denied)
 }
 
 impl Channels {
@@ -95,6 +94,13 @@ impl Channels {
         self.outputs.pop_front()
     }
 
+    /// How many outputs are not taken yet.
+    pub fn output_count(&self) -> usize
+        ensures { result ≡ length self.now.outputs }
+    {
+        self.outputs.len()
+    }
+
     fn emit(&mut self, output: Output) -> Result<(), AllocError>
         ensures ok { OnOk result (self.new ≡ emit (output_of output) self.old) }
         ensures err { OnErr result (self.new ≡ self.old) }
@@ -111,17 +117,12 @@ impl Channels {
         ensures none { IfNone result ((id : ℕ) → id < self.old.stream_count → is_own self.old.is_client id ≡ true → IsSome (channel_at id self.old.entries)) }
         ensures same { self.new ≡ self.old }
     {
-        if let Some(id) = self.free_stream_from(self.first_candidate) {
-            self.first_candidate = id.0;
-            return Some(id);
-        }
-        match self.first_free_stream() {
-            Some(id) => {
-                self.first_candidate = id.0;
-                Some(id)
-            }
-            None => None,
-        }
+        let id = match self.free_stream_from(self.first_candidate) {
+            Some(id) => id,
+            None => self.first_free_stream()?,
+        };
+        self.first_candidate = id.0;
+        Some(id)
     }
 
     /// The first one with this number or a greater one.
@@ -246,11 +247,13 @@ impl Channels {
         let Some(channel) = self.entries.get(id.0) else {
             return Ok(());
         };
-        if !channel.lifecycle().is_connecting() {
+        let mut lifecycle = channel.lifecycle();
+        if !lifecycle.is_connecting() {
             return Ok(());
         }
         self.emit(Output::Opened(id))?;
-        self.entries.confirm(id.0);
+        lifecycle.confirm();
+        self.entries.set_lifecycle(id.0, lifecycle);
         Ok(())
     }
 
@@ -267,7 +270,17 @@ impl Channels {
         if lifecycle.is_over() {
             return self.end_one(id, is_shown(lifecycle));
         }
-        self.entries.finish(id.0);
+        self.entries.set_lifecycle(id.0, lifecycle);
+        Ok(())
+    }
+
+    /// As `on_reset_performed`, for each of these streams.
+    pub(crate) fn on_resets_performed(&mut self, ids: &[StreamId]) -> Result<(), AllocError>
+        ensures { OnOk result (self.new ≡ each on_reset_performed (numbers_of ids.now) self.old) }
+    {
+        for id in ids {
+            self.on_reset_performed(*id)?;
+        }
         Ok(())
     }
 
@@ -301,7 +314,7 @@ impl Channels {
             return Ok(());
         }
         self.emit(Output::Reset(id))?;
-        self.entries.drain(id.0, buffered_amount);
+        self.entries.set_lifecycle(id.0, lifecycle);
         Ok(())
     }
 
@@ -325,7 +338,7 @@ impl Channels {
         ensures err { OnErr result (Emits self.old self.new) }
     {
         let Some(channel) = self.entries.get(id.0) else {
-            return self.take_open(id, description, Lifecycle::accepted());
+            return self.take_open(id, description, Lifecycle::negotiated());
         };
         if !channel.lifecycle().may_reopen() {
             return self.turn_down(id, Refusal::StreamInUse);
@@ -340,18 +353,6 @@ impl Channels {
         ensures err { OnErr result (Emits self.old self.new) }
     {
         self.emit(output)
-    }
-
-    /// A message came under the PPID 50 that is none.
-    pub fn on_bad_message(
-        &mut self,
-        id: StreamId,
-        fault: ChannelMessageFault,
-    ) -> Result<(), AllocError>
-        ensures ok { OnOk result (self.new ≡ turn_down id.0 (Refusal.BadMessage fault) self.old) }
-        ensures err { OnErr result (Emits self.old self.new) }
-    {
-        self.turn_down(id, Refusal::BadMessage(fault))
     }
 
     fn hand(&mut self, received: Received, id: StreamId) -> Result<(), AllocError>
@@ -400,7 +401,17 @@ impl Channels {
         if is_denied(lifecycle.outgoing) && is_shown(before) {
             self.emit(Output::Closed(id))?;
         }
-        self.entries.deny(id.0);
+        self.entries.set_lifecycle(id.0, lifecycle);
+        Ok(())
+    }
+
+    /// As `on_reset_denied`, for each of these streams.
+    pub(crate) fn on_resets_denied(&mut self, ids: &[StreamId]) -> Result<(), AllocError>
+        ensures { OnOk result (self.new ≡ each on_reset_denied (numbers_of ids.now) self.old) }
+    {
+        for id in ids {
+            self.on_reset_denied(*id)?;
+        }
         Ok(())
     }
 
@@ -426,7 +437,7 @@ impl Channels {
             Ok(ChannelMessage::Open(description)) => self.on_open(id, description),
             Ok(ChannelMessage::Ack) => self.confirm(id),
             Err(ChannelMessageFault::Memory) => Err(AllocError),
-            Err(fault) => self.on_bad_message(id, fault),
+            Err(fault) => self.turn_down(id, Refusal::BadMessage(fault)),
         }
     }
 

@@ -1,12 +1,16 @@
 //! The channels of an association, and the socket below.
 
-ghost use Rattle.std.specs.Prelude.{◌≡◌, ◌⊎◌, ◌<◌, true, None, Some, length, IfOk, OnOk, OnErr, option_copied, option_map};
+ghost use Rattle.std.specs.Prelude.{◌≡◌, ◌⊎◌, ◌<◌, ℕ, true, None, Some, List, [], ◌∷◌, ◌++◌, length, IfOk, IfNone, OnOk, OnErr, option_copied, option_map, option_to_list};
 ghost use Rattle.std.specs.Duration.{as_nanos};
+ghost use Rattle.sctp_serial.specs.Messages.{message_of};
+ghost use Rattle.sctp_state.specs.Events.{event_of as socket_event_of, numbers_of};
 ghost use Rattle.sctp_channels.specs.Channel.{goes_unordered};
 ghost use Rattle.sctp_channels.specs.Views.{open_of};
-ghost use Rattle.sctp_channels.specs.Channels.{is_own, negotiate, no_channels, open_own, sent};
+ghost use Rattle.sctp_channels.specs.Payload.{protocol_of};
+ghost use Rattle.sctp_channels.specs.Channels.{OnMessage, close, drain, is_own, negotiate, no_channels, on_incoming_reset, on_reset_denied, on_reset_performed, open_own, output_of, sent};
 ghost use Rattle.sctp_channels.specs.Entries.{channel_at};
-ghost use Rattle.sctp_channels.specs.DataChannels.{DataChannels, IsOpenAt, IsShortEnough, is_draining_at, lifetime, retransmissions, with_channels};
+ghost use Rattle.sctp_channels.specs.DataChannels.{IsOpenAt, IsShortEnough, is_draining_at, lifetime, retransmissions};
+ghost use Rattle.sctp_channels.specs.Steps.{DataChannels, Follows, Gets, StaysTold, acknowledged_by, each, ended, event_of, heard, named, of_socket, passed_on, told_by, with_channels, with_outputs};
 
 use crate::{
     CONTROL_PPID, Channel, ChannelEvent, ChannelMessage, Channels, DataChannelOpen, OpenError,
@@ -38,11 +42,12 @@ pub struct DataChannels {
 }
 
 impl Model for DataChannels {
-    ghost use Rattle.sctp_channels.specs.DataChannels.{DataChannels};
+    ghost use Rattle.std.specs.Prelude.{map};
+    ghost use Rattle.sctp_channels.specs.Steps.{DataChannels, event_of};
 
     ghost Value = { DataChannels };
 
-    ghost view = { λ d. record { channels = d.channels; peer_limit = d.peer_max_message_size; buffer_limit = d.max_buffered_amount } };
+    ghost view = { λ d. record { channels = d.channels; peer_limit = d.peer_max_message_size; buffer_limit = d.max_buffered_amount; events = map event_of d.events.items; unanswered = map (λ id. id.0) d.unanswered.items } };
 }
 
 /// How a message of this channel goes.
@@ -87,7 +92,7 @@ impl DataChannels {
         peer_max_message_size: usize,
         max_buffered_amount: usize,
     ) -> DataChannels
-        ensures { result ≡ record { channels = no_channels is_client stream_count max_message_size; peer_limit = peer_max_message_size; buffer_limit = max_buffered_amount } }
+        ensures { result ≡ record { channels = no_channels is_client stream_count max_message_size; peer_limit = peer_max_message_size; buffer_limit = max_buffered_amount; events = []; unanswered = [] } }
     {
         DataChannels {
             alloc,
@@ -109,7 +114,8 @@ impl DataChannels {
 
     /// Takes what happened first.
     pub fn next_event(&mut self) -> Option<ChannelEvent>
-        ensures { self.new ≡ self.old }
+        ensures taken { self.old ≡ record self.new { events = option_to_list (option_map event_of result) ++ self.new.events } }
+        ensures none { IfNone result (self.old.events ≡ []) }
     {
         self.events.pop_front()
     }
@@ -198,11 +204,12 @@ impl DataChannels {
     }
 
     /// Closes a channel. What was accepted is sent first; `Closed` tells when the stream is free.
-    pub fn close<S: DcSctpSocket>(
-        &mut self,
-        socket: &mut S,
-        id: StreamId,
-    ) -> Result<(), CallError> {
+    #[tactic(auto, using(crate::proofs::FollowsLemmas::told_then, crate::proofs::FollowsLemmas::told_same))]
+    pub fn close<S: DcSctpSocket>(&mut self, socket: &mut S, id: StreamId) -> Result<(), CallError>
+        ensures closed { OnOk result (Follows (with_channels (close id.0 self.old.channels) self.old) self.new) }
+        ensures done { OnOk result (self.new.channels.outputs ≡ []) }
+        ensures told { StaysTold self.old self.new }
+    {
         self.channels.close(id);
         self.note_closing(id)?;
         self.settle(socket)
@@ -210,32 +217,66 @@ impl DataChannels {
 
     /// Takes what the socket has handed out and emitted. Messages come before events, since those of a channel are ready before the reset that
     /// closes it is emitted.
-    pub fn collect<S: DcSctpSocket>(&mut self, socket: &mut S) -> Result<(), CallError> {
+    #[tactic(auto, using(crate::proofs::FollowsLemmas::follows_then, crate::proofs::FollowsLemmas::told_then))]
+    pub fn collect<S: DcSctpSocket>(&mut self, socket: &mut S) -> Result<(), CallError>
+        ensures steps { OnOk result (Follows self.old self.new) }
+        ensures done { OnOk result (self.new.channels.outputs ≡ []) }
+        ensures told { StaysTold self.old self.new }
+    {
+        self.take_messages(socket)?;
+        self.settle(socket)?;
+        self.take_events(socket)?;
+        self.settle(socket)
+    }
+
+    #[tactic(auto, using(crate::proofs::FollowsLemmas::follows_then, crate::proofs::FollowsLemmas::follows_same, crate::proofs::FollowsLemmas::follows_gets, crate::proofs::FollowsLemmas::told_then, crate::proofs::FollowsLemmas::told_same))]
+    fn take_messages<S: DcSctpSocket>(&mut self, socket: &mut S) -> Result<(), CallError>
+        ensures steps { OnOk result (Follows self.old self.new) }
+        ensures told { StaysTold self.old self.new }
+    {
         for _ in 0..MANY {
             match socket.get_next_message() {
                 Some(message) => self.take_message(message)?,
                 None => break,
             }
         }
-        self.settle(socket)?;
+        Ok(())
+    }
+
+    #[tactic(auto, using(crate::proofs::FollowsLemmas::follows_then, crate::proofs::FollowsLemmas::follows_same, crate::proofs::FollowsLemmas::told_then, crate::proofs::FollowsLemmas::told_same))]
+    fn take_events<S: DcSctpSocket>(&mut self, socket: &mut S) -> Result<(), CallError>
+        ensures steps { OnOk result (Follows self.old self.new) }
+        ensures told { StaysTold self.old self.new }
+    {
         for _ in 0..MANY {
             match socket.poll_event() {
                 Some(event) => self.take_event(socket, event)?,
                 None => break,
             }
         }
-        self.settle(socket)
+        Ok(())
     }
 
     /// A message of the opening may close the channel of its stream.
-    fn take_message(&mut self, message: Message) -> Result<(), AllocError> {
+    fn take_message(&mut self, message: Message) -> Result<(), AllocError>
+        ensures row { OnOk result (Gets (message_of message) self.old self.new) }
+        ensures told { self.new.events ≡ self.old.events }
+    {
         let id = message.stream_id;
         let is_control = message.ppid.0 == CONTROL_PPID.0;
-        self.channels.on_message(message)?;
+        self.on_message(message)?;
         if is_control {
             self.note_closing(id)?;
         }
         Ok(())
+    }
+
+    fn on_message(&mut self, message: Message) -> Result<(), AllocError>
+        ensures row { OnOk result (OnMessage (protocol_of message.ppid.0) message.stream_id.0 message.payload.items self.old.channels self.new.channels) }
+        ensures rest { OnOk result (self.new ≡ with_channels self.new.channels self.old) }
+        ensures told { self.new.events ≡ self.old.events }
+    {
+        self.channels.on_message(message)
     }
 
     /// Whether a channel is closed on the stream whose reset is still to be asked for.
@@ -244,10 +285,7 @@ impl DataChannels {
     {
         match self.channels.get(id) {
             None => false,
-            Some(channel) => match channel.lifecycle().outgoing {
-                Outgoing::Draining => true,
-                _ => false,
-            },
+            Some(channel) => matches!(channel.lifecycle().outgoing, Outgoing::Draining),
         }
     }
 
@@ -261,13 +299,18 @@ impl DataChannels {
         Ok(())
     }
 
+    #[tactic(auto, using(crate::proofs::FollowsLemmas::follows_then, crate::proofs::FollowsLemmas::follows_hears, crate::proofs::FollowsLemmas::follows_passes, crate::proofs::FollowsLemmas::told_then, crate::proofs::FollowsLemmas::told_same, crate::proofs::FollowsLemmas::told_more))]
     fn take_event<S: DcSctpSocket>(
         &mut self,
         socket: &mut S,
         event: SocketEvent,
-    ) -> Result<(), CallError> {
+    ) -> Result<(), CallError>
+        ensures steps { OnOk result (Follows self.old self.new) }
+        ensures told { StaysTold self.old self.new }
+    {
         self.note_streams(socket, &event);
-        if let Some(event) = self.on_event(event)? {
+        self.hear(&event)?;
+        if let Some(event) = passed_on(event) {
             self.carry_out(socket)?;
             self.tell(event)?;
         }
@@ -275,84 +318,119 @@ impl DataChannels {
     }
 
     /// Once the association stands, streams are those that were negotiated for both directions.
-    fn note_streams<S: DcSctpSocket>(&mut self, socket: &S, event: &SocketEvent) {
+    #[tactic(auto, using(crate::proofs::FollowsLemmas::follows_counts, crate::proofs::FollowsLemmas::follows_same))]
+    fn note_streams<S: DcSctpSocket>(&mut self, socket: &S, event: &SocketEvent)
+        ensures steps { Follows self.old self.new }
+        ensures told { self.new.events ≡ self.old.events }
+    {
         if let SocketEvent::OnConnected() = event {
             if let Some(metrics) = socket.get_metrics() {
                 let incoming = metrics.negotiated_maximum_incoming_streams;
                 let outgoing = metrics.negotiated_maximum_outgoing_streams;
-                self.channels.set_stream_count(incoming.min(outgoing));
+                self.set_stream_count(incoming.min(outgoing));
             }
         }
     }
 
-    fn tell(&mut self, event: ChannelEvent) -> Result<(), AllocError> {
+    fn set_stream_count(&mut self, stream_count: u16)
+        ensures { self.new ≡ with_channels (record self.old.channels { stream_count = stream_count }) self.old }
+    {
+        self.channels.set_stream_count(stream_count);
+    }
+
+    fn tell(&mut self, event: ChannelEvent) -> Result<(), AllocError>
+        ensures ok { OnOk result (self.new ≡ record self.old { events = self.old.events ++ event_of event ∷ [] }) }
+        ensures err { OnErr result (self.new ≡ self.old) }
+    {
         self.events.push_back(event)?;
         Ok(())
     }
 
-    /// What is left of an event for the owner.
-    fn on_event(&mut self, event: SocketEvent) -> Result<Option<ChannelEvent>, AllocError> {
+    /// What an event makes of the channels: all are closed before the owner is told of their end.
+    fn hear(&mut self, event: &SocketEvent) -> Result<(), AllocError>
+        ensures row { OnOk result (self.new ≡ heard (socket_event_of event.now) self.old) }
+        ensures told { self.new.events ≡ self.old.events }
+    {
         match event {
-            SocketEvent::OnIncomingStreamReset(ids) => {
-                self.on_incoming_resets(ids)?;
-                Ok(None)
-            }
-            SocketEvent::OnStreamsResetPerformed(ids) => {
-                for id in &ids {
-                    self.channels.on_reset_performed(*id)?;
-                }
-                Ok(None)
-            }
-            SocketEvent::OnStreamsResetFailed(ids) => {
-                self.on_resets_denied(&ids)?;
-                Ok(None)
-            }
-            SocketEvent::OnBufferedAmountLow(id) => Ok(Some(ChannelEvent::BufferedAmountLow(id))),
-            SocketEvent::OnClosed() => self.on_end(SocketEvent::OnClosed()),
-            SocketEvent::OnConnectionRestarted() => {
-                self.on_end(SocketEvent::OnConnectionRestarted())
-            }
-            SocketEvent::OnAborted(kind, text) => self.on_end(SocketEvent::OnAborted(kind, text)),
-            event => Ok(Some(ChannelEvent::Socket(event))),
+            SocketEvent::OnIncomingStreamReset(ids) => self.on_incoming_resets(ids),
+            SocketEvent::OnStreamsResetPerformed(ids) => self.channels.on_resets_performed(ids),
+            SocketEvent::OnStreamsResetFailed(ids) => self.channels.on_resets_denied(ids),
+            SocketEvent::OnClosed() => self.end(),
+            SocketEvent::OnConnectionRestarted() => self.end(),
+            SocketEvent::OnAborted(_kind, _text) => self.end(),
+            _ => Ok(()),
         }
     }
 
-    /// All channels are closed before the owner is told why.
-    fn on_end(&mut self, event: SocketEvent) -> Result<Option<ChannelEvent>, AllocError> {
+    fn end(&mut self) -> Result<(), AllocError>
+        ensures row { OnOk result (self.new ≡ ended self.old) }
+        ensures told { self.new.events ≡ self.old.events }
+    {
         self.channels.end()?;
         self.unanswered.clear();
         self.closing.clear();
-        Ok(Some(ChannelEvent::Socket(event)))
+        Ok(())
     }
 
     /// Where no stream is named all are meant.
-    fn on_incoming_resets(&mut self, ids: Vec<StreamId>) -> Result<(), AllocError> {
-        let ids = if ids.is_empty() {
-            self.channels.streams()?
-        } else {
-            ids
-        };
-        for id in &ids {
-            self.channels.on_incoming_reset(*id)?;
-            self.note_closing(*id)?;
+    fn on_incoming_resets(&mut self, ids: &[StreamId]) -> Result<(), AllocError>
+        ensures row { OnOk result (self.new ≡ with_channels (each on_incoming_reset (named (numbers_of ids.now) self.old.channels) self.old.channels) self.old) }
+        ensures told { self.new.events ≡ self.old.events }
+    {
+        if ids.is_empty() {
+            let all = self.channels.streams()?;
+            return self.on_each_reset(&all);
+        }
+        self.on_each_reset(ids)
+    }
+
+    fn on_each_reset(&mut self, ids: &[StreamId]) -> Result<(), AllocError>
+        ensures row { OnOk result (self.new ≡ with_channels (each on_incoming_reset (numbers_of ids.now) self.old.channels) self.old) }
+        ensures told { self.new.events ≡ self.old.events }
+    {
+        for id in ids {
+            self.on_incoming_reset(*id)?;
         }
         Ok(())
     }
 
-    fn on_resets_denied(&mut self, ids: &[StreamId]) -> Result<(), AllocError> {
-        for id in ids {
-            self.channels.on_reset_denied(*id)?;
-        }
-        Ok(())
+    fn on_incoming_reset(&mut self, id: StreamId) -> Result<(), AllocError>
+        ensures row { OnOk result (self.new ≡ with_channels (on_incoming_reset id.0 self.old.channels) self.old) }
+        ensures told { self.new.events ≡ self.old.events }
+    {
+        self.channels.on_incoming_reset(id)?;
+        self.note_closing(id)
     }
 
     /// Asks for the resets that are due, and carries out what is to be done.
-    fn settle<S: DcSctpSocket>(&mut self, socket: &mut S) -> Result<(), CallError> {
+    #[tactic(auto, using(crate::proofs::FollowsLemmas::follows_then, crate::proofs::FollowsLemmas::follows_same, crate::proofs::FollowsLemmas::follows_drains, crate::proofs::FollowsLemmas::told_then, crate::proofs::FollowsLemmas::told_same, crate::proofs::FollowsLemmas::no_outputs))]
+    fn settle<S: DcSctpSocket>(&mut self, socket: &mut S) -> Result<(), CallError>
+        ensures steps { OnOk result (Follows self.old self.new) }
+        ensures done { OnOk result (self.new.channels.outputs ≡ []) }
+        ensures told { StaysTold self.old self.new }
+    {
+        if self.closing.is_empty()
+            && self.channels.output_count() == 0
+            && self.unanswered.is_empty()
+        {
+            return Ok(());
+        }
         for id in &self.closing_streams()? {
-            self.channels.drain(*id, socket.buffered_amount(*id))?;
-            self.forget_closing(*id);
+            self.drain(*id, socket.buffered_amount(*id))?;
         }
         self.carry_out(socket)
+    }
+
+    /// A stream whose reset was asked for isn't looked at again.
+    fn drain(&mut self, id: StreamId, buffered_amount: usize) -> Result<(), AllocError>
+        ensures row { OnOk result (self.new ≡ with_channels (drain id.0 buffered_amount self.old.channels) self.old) }
+        ensures told { self.new.events ≡ self.old.events }
+    {
+        self.channels.drain(id, buffered_amount)?;
+        if !self.is_draining(id) {
+            self.closing.remove(&id.0);
+        }
+        Ok(())
     }
 
     /// The streams that are to be reset, ascending.
@@ -364,16 +442,15 @@ impl DataChannels {
         Ok(ids)
     }
 
-    /// A stream whose reset was asked for isn't looked at again.
-    fn forget_closing(&mut self, id: StreamId)
-        ensures { self.new ≡ self.old }
+    #[tactic(auto, using(crate::proofs::FollowsLemmas::follows_then, crate::proofs::FollowsLemmas::follows_same, crate::proofs::FollowsLemmas::follows_carried, crate::proofs::FollowsLemmas::told_then, crate::proofs::FollowsLemmas::told_same, crate::proofs::FollowsLemmas::no_outputs, crate::proofs::FollowsLemmas::all_carried))]
+    fn carry_out<S: DcSctpSocket>(&mut self, socket: &mut S) -> Result<(), CallError>
+        ensures steps { OnOk result (Follows self.old self.new) }
+        ensures done { OnOk result (self.new.channels.outputs ≡ []) }
+        ensures told { StaysTold self.old self.new }
     {
-        if !self.is_draining(id) {
-            self.closing.remove(&id.0);
+        if self.channels.output_count() == 0 && self.unanswered.is_empty() {
+            return Ok(());
         }
-    }
-
-    fn carry_out<S: DcSctpSocket>(&mut self, socket: &mut S) -> Result<(), CallError> {
         let mut resets = Vec::new(self.alloc);
         self.take_outputs(&mut resets)?;
         self.answer_all(socket)?;
@@ -382,21 +459,28 @@ impl DataChannels {
         Ok(())
     }
 
-    fn take_outputs(&mut self, resets: &mut Vec<StreamId>) -> Result<(), AllocError> {
-        for _ in 0..MANY {
-            match self.channels.next_output() {
-                Some(output) => self.take_output(output, resets)?,
-                None => break,
-            }
+    #[tactic(auto, using(crate::proofs::FollowsLemmas::fewer, crate::proofs::FollowsLemmas::told_same, crate::proofs::FollowsLemmas::carried_all))]
+    fn take_outputs(&mut self, resets: &mut Vec<StreamId>) -> Result<(), AllocError>
+        ensures row { OnOk result (self.new ≡ with_outputs self.old) }
+        ensures told { StaysTold self.old self.new }
+    {
+        while let Some(output) = self.next_output() {
+            self.take_output(output, resets)?;
         }
         Ok(())
     }
 
-    fn take_output(
-        &mut self,
-        output: Output,
-        resets: &mut Vec<StreamId>,
-    ) -> Result<(), AllocError> {
+    fn next_output(&mut self) -> Option<Output>
+        ensures taken { self.old ≡ with_channels (record self.new.channels { outputs = option_to_list (option_map output_of result) ++ self.new.channels.outputs }) self.new }
+        ensures none { IfNone result (self.old.channels.outputs ≡ []) }
+    {
+        self.channels.next_output()
+    }
+
+    fn take_output(&mut self, output: Output, resets: &mut Vec<StreamId>) -> Result<(), AllocError>
+        ensures row { OnOk result (self.new ≡ record self.old { events = self.old.events ++ told_by (output_of output); unanswered = self.old.unanswered ++ acknowledged_by (output_of output) }) }
+        ensures err { OnErr result (self.new ≡ self.old) }
+    {
         match output {
             Output::Acknowledge(id) => self.unanswered.push_back(id)?,
             Output::Reset(id) => resets.push(id)?,
@@ -409,31 +493,24 @@ impl DataChannels {
     }
 
     /// Answers the openings of the peer, as far as the socket takes messages.
-    fn answer_all<S: DcSctpSocket>(&mut self, socket: &mut S) -> Result<(), CallError> {
-        for _ in 0..MANY {
-            let Some(id) = self.unanswered.front().copied() else {
-                break;
-            };
-            let bytes = ChannelMessage::Ack.to_bytes(self.alloc)?;
-            match socket.send(
-                Message::new(id, CONTROL_PPID, bytes),
-                &SendOptions::default(),
-            ) {
-                Ok(()) => drop(self.unanswered.pop_front()),
-                Err(SendError::Memory) => return Err(CallError::Memory),
-                Err(SendError::Failed) => return Err(CallError::Failed),
-                Err(_refusal) => break,
-            }
-        }
-        Ok(())
+    #[tactic(auto, using(crate::proofs::FollowsLemmas::follows_answers))]
+    fn answer_all<S: DcSctpSocket>(&mut self, socket: &mut S) -> Result<(), CallError>
+        ensures steps { OnOk result (Follows self.old self.new) }
+        ensures told { self.new.events ≡ self.old.events }
+    {
+        answer_each(self.alloc, socket, &mut self.unanswered)
     }
 
     /// A reset that the socket doesn't ask for is refused. Without an association there is nothing to reset: its end closes the channels.
+    #[tactic(auto, using(crate::proofs::FollowsLemmas::follows_same, crate::proofs::FollowsLemmas::follows_refuses))]
     fn ask_for_resets<S: DcSctpSocket>(
         &mut self,
         socket: &mut S,
         ids: &[StreamId],
-    ) -> Result<(), CallError> {
+    ) -> Result<(), CallError>
+        ensures steps { OnOk result (Follows self.old self.new) }
+        ensures told { self.new.events ≡ self.old.events }
+    {
         if ids.is_empty() {
             return Ok(());
         }
@@ -441,10 +518,44 @@ impl DataChannels {
             Ok(()) => Ok(()),
             Err(ResetStreamsError::Memory) => Err(CallError::Memory),
             Err(ResetStreamsError::Failed) => Err(CallError::Failed),
-            Err(_refusal) => {
-                self.on_resets_denied(ids)?;
-                Ok(())
-            }
+            Err(_refusal) => Ok(self.channels.on_resets_denied(ids)?),
         }
     }
+}
+
+/// What is left of an event for the owner.
+fn passed_on(event: SocketEvent) -> Option<ChannelEvent>
+    ensures { option_map event_of result ≡ passed_on (socket_event_of event) }
+{
+    match event {
+        SocketEvent::OnIncomingStreamReset(_ids) => None,
+        SocketEvent::OnStreamsResetPerformed(_ids) => None,
+        SocketEvent::OnStreamsResetFailed(_ids) => None,
+        SocketEvent::OnBufferedAmountLow(id) => Some(ChannelEvent::BufferedAmountLow(id)),
+        event => Some(ChannelEvent::Socket(event)),
+    }
+}
+
+#[tactic(auto, using(crate::proofs::FollowsLemmas::answered_none, crate::proofs::FollowsLemmas::answered_more))]
+fn answer_each<S: DcSctpSocket>(
+    alloc: Global,
+    socket: &mut S,
+    unanswered: &mut VecDeque<StreamId>,
+) -> Result<(), CallError>
+    ensures { (answered : List ℕ) × (numbers_of unanswered.old.items ≡ answered ++ numbers_of unanswered.new.items) }
+{
+    for _ in 0..unanswered.len() {
+        let Some(id) = unanswered.front().copied() else {
+            break;
+        };
+        let bytes = ChannelMessage::Ack.to_bytes(alloc)?;
+        let message = Message::new(id, CONTROL_PPID, bytes);
+        match socket.send(message, &SendOptions::default()) {
+            Ok(()) => drop(unanswered.pop_front()),
+            Err(SendError::Memory) => return Err(CallError::Memory),
+            Err(SendError::Failed) => return Err(CallError::Failed),
+            Err(_refusal) => break,
+        }
+    }
+    Ok(())
 }

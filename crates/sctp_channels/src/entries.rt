@@ -2,8 +2,8 @@
 
 ghost use Rattle.std.specs.Prelude.{◌≡◌, [], ◌∷◌, ◌++◌, cond, map, option_copied, is_some, IfOk, OnOk, OnErr};
 ghost use Rattle.std.specs.Map.{keys_of};
-ghost use Rattle.sctp_channels.specs.Channel.{count_sent, on_data, received_as, reset_incoming};
-ghost use Rattle.sctp_channels.specs.Channels.{close_one, confirm_one, deny_one, drain_one, finish_one, is_shown, received_on, shown_streams};
+ghost use Rattle.sctp_channels.specs.Channel.{count_sent, on_data, received_as, reset_incoming, with_lifecycle};
+ghost use Rattle.sctp_channels.specs.Channels.{close_one, is_shown, received_on, shown_streams};
 ghost use Rattle.sctp_channels.specs.Entries.{channel_at, changed, forget, put};
 
 use crate::{Channel, Lifecycle, Opening, Outgoing, PayloadProtocol, Received};
@@ -74,42 +74,11 @@ impl Entries {
         }
     }
 
-    pub(crate) fn confirm(&mut self, id: u16)
-        ensures { self.new ≡ changed confirm_one id self.old }
+    /// Goes on with this lifecycle on a stream that has a channel.
+    pub(crate) fn set_lifecycle(&mut self, id: u16, lifecycle: Lifecycle)
+        ensures { self.new ≡ changed (with_lifecycle lifecycle) id self.old }
     {
         if let Some(channel) = self.channels.get_mut(&id) {
-            let mut lifecycle = channel.lifecycle();
-            lifecycle.confirm();
-            channel.set_lifecycle(lifecycle);
-        }
-    }
-
-    pub(crate) fn finish(&mut self, id: u16)
-        ensures { self.new ≡ changed finish_one id self.old }
-    {
-        if let Some(channel) = self.channels.get_mut(&id) {
-            let mut lifecycle = channel.lifecycle();
-            lifecycle.finish();
-            channel.set_lifecycle(lifecycle);
-        }
-    }
-
-    pub(crate) fn deny(&mut self, id: u16)
-        ensures { self.new ≡ changed deny_one id self.old }
-    {
-        if let Some(channel) = self.channels.get_mut(&id) {
-            let mut lifecycle = channel.lifecycle();
-            lifecycle.deny();
-            channel.set_lifecycle(lifecycle);
-        }
-    }
-
-    pub(crate) fn drain(&mut self, id: u16, buffered_amount: usize)
-        ensures { self.new ≡ changed (drain_one buffered_amount) id self.old }
-    {
-        if let Some(channel) = self.channels.get_mut(&id) {
-            let mut lifecycle = channel.lifecycle();
-            lifecycle.drain(buffered_amount);
             channel.set_lifecycle(lifecycle);
         }
     }
@@ -196,9 +165,6 @@ fn shown_ids(alloc: Global, channels: &BTreeMap<u16, Channel>) -> Result<Vec<Str
 pub(crate) fn is_shown(lifecycle: Lifecycle) -> bool
     ensures { result ≡ is_shown lifecycle }
 {
-    match (lifecycle.opening, lifecycle.outgoing) {
-        (Opening::Refused, _) => false,
-        (_, Outgoing::Denied) => false,
-        _ => true,
-    }
+    !matches!(lifecycle.opening, Opening::Refused)
+        && !matches!(lifecycle.outgoing, Outgoing::Denied)
 }

@@ -1,7 +1,7 @@
 //! What a channel may do, and when its stream is free again.
 
 ghost use Rattle.std.specs.Prelude.{◌≡◌};
-ghost use Rattle.sctp_channels.specs.Lifecycle.{accepted, answer, asks_for_reset, close, confirm, deny, drain, finish, is_connecting, is_over, may_reopen, may_send, negotiated, opened, refused, reopened, stop_incoming, takes_data};
+ghost use Rattle.sctp_channels.specs.Lifecycle.{answer, asks_for_reset, close, confirm, deny, drain, finish, is_connecting, is_over, may_reopen, may_send, negotiated, opened, refused, reopened, stop_incoming, takes_data};
 
 /// Whether both ends have the channel.
 #[derive(Clone, Copy, Debug)]
@@ -53,7 +53,8 @@ impl Lifecycle {
         }
     }
 
-    /// A channel that both ends have agreed on beforehand: nothing is sent.
+    /// A channel that both ends have agreed on beforehand: nothing is sent. So it is too with one that the peer has opened and this end takes, once
+    /// DATA_CHANNEL_ACK was sent.
     pub fn negotiated() -> Lifecycle
         ensures { result ≡ negotiated }
     {
@@ -63,13 +64,6 @@ impl Lifecycle {
             is_incoming_reset: false,
             awaits_answer: false,
         }
-    }
-
-    /// The peer has opened a channel, and this end takes it: DATA_CHANNEL_ACK is to be sent.
-    pub fn accepted() -> Lifecycle
-        ensures { result ≡ accepted }
-    {
-        Lifecycle::negotiated()
     }
 
     /// The peer has opened what this end doesn't take.
@@ -98,40 +92,28 @@ impl Lifecycle {
     pub fn is_connecting(&self) -> bool
         ensures { result ≡ is_connecting self.now }
     {
-        match self.opening {
-            Opening::Connecting => true,
-            _ => false,
-        }
+        matches!(self.opening, Opening::Connecting)
     }
 
     /// Whether messages of the owner are accepted.
     pub fn may_send(&self) -> bool
         ensures { result ≡ may_send self.now }
     {
-        match self.outgoing {
-            Outgoing::Sending => true,
-            _ => false,
-        }
+        matches!(self.outgoing, Outgoing::Sending)
     }
 
     /// Whether what comes on the stream is of this channel.
     pub fn takes_data(&self) -> bool
         ensures { result ≡ takes_data self.now }
     {
-        match self.opening {
-            Opening::Refused => false,
-            _ => !self.is_incoming_reset,
-        }
+        !matches!(self.opening, Opening::Refused) && !self.is_incoming_reset
     }
 
     /// Whether both streams were reset: then the channel is closed, and its stream is free (RFC 8831 section 6.7).
     pub fn is_over(&self) -> bool
         ensures { result ≡ is_over self.now }
     {
-        match self.outgoing {
-            Outgoing::Stopped => self.is_incoming_reset,
-            _ => false,
-        }
+        matches!(self.outgoing, Outgoing::Stopped) && self.is_incoming_reset
     }
 
     /// Whether the peer may open a channel on this stream already. Both resets are under way here, and a peer that has performed this end's may
@@ -139,10 +121,9 @@ impl Lifecycle {
     pub fn may_reopen(&self) -> bool
         ensures { result ≡ may_reopen self.now }
     {
-        match self.outgoing {
-            Outgoing::Resetting => self.is_incoming_reset && !self.awaits_answer,
-            _ => false,
-        }
+        matches!(self.outgoing, Outgoing::Resetting)
+            && self.is_incoming_reset
+            && !self.awaits_answer
     }
 
     /// An answer or a message came.

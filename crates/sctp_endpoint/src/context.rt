@@ -147,7 +147,7 @@ impl<C: Checksum> Context<C> {
         Ok(())
     }
 
-    /// A chunk goes out in this packet, behind those that it holds. A crate that calls this is spared the proof of how a packet goes.
+    /// A chunk goes out in this packet, behind those that it holds.
     #[tactic(auto, using(crate::proofs::GoesOnLemmas::goes_on_same, crate::proofs::GoesOnLemmas::goes_on_through))]
     pub fn emit_in(&mut self, mut packet: OutgoingPacket, chunk: Chunk) -> Result<(), AllocError>
         ensures ok { OnOk result (context_of C.word_of self.new ≡ emit (add (chunk_tree chunk) packet) (context_of C.word_of self.old)) }
@@ -182,6 +182,7 @@ impl<C: Checksum> Context<C> {
         self.events.add(SocketEvent::OnError(kind, text))
     }
 
+    /// Emits an event. The error is want of memory; nothing is emitted then.
     #[tactic(auto, using(crate::proofs::GoesOnLemmas::goes_on_same, crate::proofs::GoesOnLemmas::goes_on_as, crate::proofs::GoesOnLemmas::goes_on_by, crate::proofs::GoesOnLemmas::grown_by))]
     pub fn emit_event(&mut self, event: SocketEvent) -> Result<(), AllocError>
         ensures ok { OnOk result (context_of C.word_of self.new ≡ emit_event_in (event_of event) (context_of C.word_of self.old)) }

@@ -49,6 +49,7 @@ impl<C: Checksum> Context<C> {
         Ok(ErrorCause::UserInitiatedAbort(UserInitiatedAbortErrorCause { reason }))
     }
 
+    /// The owner ends the association: an ABORT with the cause User-Initiated Abort (RFC 9260 section 3.3.10.12), then `OnClosed`.
     #[tactic(auto, using(crate::proofs::GoesOnLemmas::goes_on_same, crate::proofs::GoesOnLemmas::goes_on_through))]
     pub fn abort_by_user(&mut self, tcb: &TransmissionControlBlock) -> Result<(), AllocError>
         ensures ok { OnOk result (context_of C.word_of self.new
@@ -60,6 +61,7 @@ impl<C: Checksum> Context<C> {
         self.internal_close(SocketEvent::OnClosed())
     }
 
+    /// Too many retransmissions end the association (RFC 9260 section 8.1): an ABORT, then `OnAborted`.
     #[tactic(auto, using(crate::proofs::GoesOnLemmas::goes_on_same, crate::proofs::GoesOnLemmas::goes_on_through))]
     pub fn abort_by_retransmissions(
         &mut self,
@@ -75,6 +77,7 @@ impl<C: Checksum> Context<C> {
         self.emit_no_answer("Too many retransmissions")
     }
 
+    /// T2-shutdown as it starts (RFC 9260 section 9.2): it expires after a retransmission timeout.
     pub fn t2_shutdown(&self, tcb: &TransmissionControlBlock) -> Timer
         ensures { result ≡ table.t2_shutdown (tcb_of tcb.now) (context_of C.word_of self.now) }
     {
@@ -88,6 +91,7 @@ impl<C: Checksum> Context<C> {
         timer
     }
 
+    /// A SHUTDOWN with the cumulative TSN goes out (RFC 9260 section 9.2).
     #[tactic(auto, using(crate::proofs::GoesOnLemmas::goes_on_same, crate::proofs::GoesOnLemmas::goes_on_through))]
     pub fn send_shutdown(&mut self, tcb: &TransmissionControlBlock) -> Result<(), AllocError>
         ensures ok { OnOk result (context_of C.word_of self.new ≡ table.send_shutdown (tcb_of tcb.now) (context_of C.word_of self.old)) }
@@ -97,6 +101,7 @@ impl<C: Checksum> Context<C> {
         self.emit_chunk(tcb, Chunk::Shutdown(ShutdownChunk { cumulative_tsn_ack }))
     }
 
+    /// A SHUTDOWN ACK goes out (RFC 9260 section 9.2).
     #[tactic(auto, using(crate::proofs::GoesOnLemmas::goes_on_same, crate::proofs::GoesOnLemmas::goes_on_through))]
     pub fn send_shutdown_ack(&mut self, tcb: &TransmissionControlBlock) -> Result<(), AllocError>
         ensures ok { OnOk result (context_of C.word_of self.new ≡ table.send_shutdown_ack (tcb_of tcb.now) (context_of C.word_of self.old)) }

@@ -295,6 +295,7 @@ impl ResetRequests {
         number == self.last.wrapping_add(1)
     }
 
+    /// Whether it is the last one or the next one: others are answered by ErrorBadSequenceNumber (RFC 6525 section 5.2.1).
     pub fn is_known(&self, number: u32) -> bool
         ensures { result ≡ table.is_known_request number self.now }
     {

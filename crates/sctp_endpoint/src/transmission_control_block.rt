@@ -74,7 +74,7 @@ pub struct TransmissionControlBlock {
 }
 
 impl TransmissionControlBlock {
-    /// The block is let go. Another crate that owns one and says so is spared the proof of how each part of it goes.
+    /// The block is let go.
     pub fn let_go(self) {
         drop(self);
     }

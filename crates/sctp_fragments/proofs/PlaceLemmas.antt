@@ -6,9 +6,10 @@ use Rattle.std.proofs.lemmas.List.{take_more, map-append}
 use Rattle.sctp_fragments.specs.declared.interval.Entry.{Entry}
 use Rattle.sctp_fragments.specs.declared.interval.Interval.{Interval}
 use Rattle.sctp_fragments.specs.Runs.{end_of, last_of, IsBelow, is_next, joins_left, joins_right}
-use Rattle.sctp_fragments.specs.Held.{Held, rank_of, goes_on, bytes_of, payload_of}
+use Rattle.sctp_fragments.specs.Held.{Held, rank_of, goes_on, bytes_of, payload_of, is_complete}
 use Rattle.sctp_fragments.specs.Interval.{run_of, lists_of, starts_upto, EndsFrom}
 use Rattle.sctp_fragments.proofs.RunLemmas.{end_of_append}
+use Rattle.sctp_fragments.specs.Entries.{items_of}
 
 pub last_read : {E : Type 0} (e d : E) (es : List E) → get_or (e ∷ es) (length es) d ≡ last_of e es
 last_read e d [] = refl
@@ -34,13 +35,19 @@ pub cons : {E : Type 0} (xs : List E) → 0 < length xs → IsCons xs
 cons [] h = absurd (omega arith)
 cons (x ∷ xs) h = record { head = x; tail = xs; is = refl }
 
+-- what the first and the last item say of a whole run
+pub whole_run : (r : List Held) (first last : Held) → 0 < length r → ((h : Held) (hs : List Held) → r ≡ h ∷ hs → first ≡ h) → ((h : Held) (hs : List Held) → r ≡ h ∷ hs → last ≡ last_of h hs)
+    → first.fragment.is_beginning ≡ true → last.fragment.is_end ≡ is_complete r
+whole_run [] first last some f l on = absurd (omega arith)
+whole_run (h ∷ hs) first last some f l on = rw (← l h hs refl) (rw (← f h hs refl) (rw on refl))
+
 module _ {K : Type 0} (f : Entry K → Held) where
   some_mapped : (es : List (Entry K)) → 0 < length es → 0 < length (map f es)
   some_mapped [] h = h
   some_mapped (e ∷ es) h = omega arith
 
   pub some_run : (i : Interval K) → 0 < length (run_of f i)
-  some_run i = some_mapped i.entries.items i.some
+  some_run i = some_mapped (items_of i.entries.value) i.some
 
   last_mapped : (e : Entry K) (es : List (Entry K)) → last_of (f e) (map f es) ≡ f (last_of e es)
   last_mapped e [] = refl
@@ -87,10 +94,10 @@ module _ {K : Type 0} (f : Entry K → Held) where
       rw (← up) (ap (λ (t : List ℕ). t ++ payload_of (drop (suc i) (map f es))) made ∙ (append_assoc old (f d).fragment.payload (payload_of (drop (suc i) (map f es))) ∙ (ap (λ (t : List ℕ). old ++ t) (sym (payload_suc es i d h read)) ∙ before)))
 
   -- an entry at an interval's end, or in front of it
-  pub run_back : (new old : List (Entry K)) (i : Interval K) (x : Entry K) → new ≡ old ++ x ∷ [] → old ≡ i.entries.items → map f new ≡ run_of f i ++ f x ∷ []
+  pub run_back : (new old : List (Entry K)) (i : Interval K) (x : Entry K) → new ≡ old ++ x ∷ [] → old ≡ (items_of i.entries.value) → map f new ≡ run_of f i ++ f x ∷ []
   run_back new old i x made is = ap (map f) made ∙ (map-append f old (x ∷ []) ∙ ap (λ (t : List (Entry K)). map f t ++ f x ∷ []) is)
 
-  pub run_front : (new old : List (Entry K)) (i : Interval K) (x : Entry K) → new ≡ x ∷ old → old ≡ i.entries.items → map f new ≡ f x ∷ run_of f i
+  pub run_front : (new old : List (Entry K)) (i : Interval K) (x : Entry K) → new ≡ x ∷ old → old ≡ (items_of i.entries.value) → map f new ≡ f x ∷ run_of f i
   run_front new old i x made is = ap (map f) made ∙ ap (λ (t : List (Entry K)). f x ∷ map f t) is
 
   -- a vector of intervals in two parts, and what is at the border

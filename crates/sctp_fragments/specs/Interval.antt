@@ -4,6 +4,7 @@ use Rattle.sctp_chunk.specs.declared.data.Data.{Data}
 use Rattle.sctp_chunk.specs.Views.{fragment_tree}
 use Rattle.sctp_fragments.specs.declared.interval.Entry.{Entry}
 use Rattle.sctp_fragments.specs.declared.interval.Interval.{Interval}
+use Rattle.sctp_fragments.specs.Entries.{items_of}
 use Rattle.sctp_fragments.specs.Runs.{flat, AreRuns, last_of, is_held}
 use Rattle.sctp_fragments.specs.Held.{Held, rank_of, goes_on, bytes_of, NonePass, is_in_turn}
 
@@ -15,7 +16,7 @@ held_of number index e = as_held (number e.key) (index e.key) e.fragment
 
 -- the fragments of an interval
 abbrev pub run_of : {K : Type 0} → (Entry K → Held) → Interval K → List Held
-run_of f i = map f i.entries.items
+run_of f i = map f (items_of i.entries.value)
 
 abbrev pub lists_of : {K : Type 0} → (Entry K → Held) → List (Interval K) → List (List Held)
 lists_of f [] = []

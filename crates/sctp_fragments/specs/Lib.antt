@@ -3,3 +3,4 @@ pub mod ReassemblyKey
 pub mod KeyLaws
 pub mod Held
 pub mod Interval
+pub mod Entries

@@ -1,12 +1,14 @@
 //! A fragment with its key, and fragments with one key after the other.
 
 ghost use Rattle.std.specs.Prelude.{◌<◌, length};
+ghost use Rattle.sctp_fragments.specs.Entries.{items_of};
 
+mod entries;
 mod reading;
 
+pub use entries::Entries;
 pub use reading::goes_on_to;
 use sctp_chunk::Data;
-use std::collections::VecDeque;
 
 /// A fragment and its key.
 #[derive(Debug, Drop)]
@@ -21,6 +23,6 @@ pub struct Entry<K> {
 #[derive(Debug, Drop)]
 pub struct Interval<K> {
     /// In the order of their keys; one at least.
-    pub entries: VecDeque<Entry<K>>,
-    ghost some: { 0 < length entries.items },
+    pub entries: Box<Entries<K>>,
+    ghost some: { 0 < length (items_of entries.value) },
 }

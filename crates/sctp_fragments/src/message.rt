@@ -17,13 +17,10 @@ fn into_payload<K: ReassemblyKey>(
 ) -> Result<Vec<u8>, AllocError>
     ensures { IfOk result (λ payload. payload.items ≡ payload_of (run_of (held_of K.number K.index) interval)) }
 {
-    if interval.entries.len() != 1 {
+    if interval.len() != 1 {
         return interval.collect_payload(alloc);
     }
-    let mut entries = interval.entries;
-    let Some(entry) = entries.pop_front() else {
-        unreachable!();
-    };
+    let entry = Box::into_inner(interval.entries).into_first();
     Ok(entry.fragment.payload)
 }
 

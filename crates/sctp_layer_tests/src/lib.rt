@@ -1,5 +1,5 @@
-//! Tests of the layers below the association that are no rows of a script: numbers that wrap, what derives mean, keys through
-//! their bound, and sender and receiver in want of memory. Apart, so that each crate is proved once.
+//! Tests of the layers below the association that are no rows of a script: numbers that wrap and keys through their bound, ids as
+//! they are printed, and sender and receiver in want of memory. Apart, so that each crate is proved once.
 #![tactic(auto)]
 
 #[cfg(test)]
@@ -16,5 +16,3 @@ mod sender_memory;
 mod sender_steps;
 #[cfg(test)]
 mod serial;
-#[cfg(test)]
-mod state;

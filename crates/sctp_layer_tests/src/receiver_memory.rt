@@ -165,19 +165,6 @@ fn is_sound(alloc: Global, is_interleaved: bool) -> bool {
     is_good
 }
 
-fn takes_all(alloc: Global, is_interleaved: bool) -> bool {
-    let mut queue = ReassemblyQueue::new(alloc, 1000, is_interleaved);
-    let is_whole = takes_steps(alloc, &mut queue) && are_ready(&mut queue, true);
-    drop(queue);
-    is_whole
-}
-
-#[test]
-fn takes_all_steps(rt: HostRuntime) {
-    assert!(rt; takes_all(rt.alloc(), false));
-    assert!(rt; takes_all(rt.alloc(), true));
-}
-
 /// Whether a TSN is new, where memory lacks once at most.
 fn observe(tracker: &mut DataTracker, tsn: u32) -> Result<bool, AllocError> {
     let now = SocketTime::zero();

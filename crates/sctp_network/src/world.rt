@@ -18,7 +18,7 @@ ghost use Rattle.proof_world.specs.Few.{LogUsesFew};
 ghost use Rattle.proof_world.specs.Reachable.{Origin, origin, initial_world, IsReachable, Continues};
 ghost use Rattle.proof_awake.specs.Worlds.{EndsAreAwake, EndsHaveNoLine};
 ghost use Rattle.sctp_network_side.specs.Interrupted.{StopsWithin, TakesBytesSo};
-ghost use Rattle.sctp_network_side.specs.SideView.{action_of, end_tree, entry_tree, side_in};
+ghost use Rattle.sctp_network_side.specs.SideView.{action_of, call_tree, end_tree, entry_tree, side_in};
 ghost use Rattle.sctp_network.specs.Interrupted.{IsMadeBy, RunsUpToFailure};
 ghost use Rattle.sctp_network.specs.WorldView.{world_of};
 
@@ -30,6 +30,7 @@ use proof_endpoint::arguments::options_fit;
 use rand_core::Rng;
 use sctp_network_side::side::Side;
 pub use sctp_network_side::{Answer, Call, End, Entry, Event};
+use sctp_serial::SocketTime;
 use sctp_state::{CallError, Options};
 use sctp_wire::Checksum;
 use std::alloc::{AllocError, Global};
@@ -187,7 +188,7 @@ impl<R: Rng + Drop, C: Checksum + Drop> World<R, C> {
         })
     }
 
-    /// Lets the world go. Another crate that owns one and says so is spared the proof of how each part of it is let go.
+    /// Lets the world go.
     pub fn let_go(self) {
         self.a.let_go();
         self.b.let_go();
@@ -273,41 +274,49 @@ impl<R: Rng, C: Checksum> World<R, C> {
         ensures failed { self.new.has_failed ≡ self.old.has_failed }
     {
         match event {
-            Event::Call(End::A, call) => {
-                Ok(self.a.call(self.alloc, End::A, call, &mut self.log)?)
-            }
-            Event::Call(End::B, call) => {
-                Ok(self.b.call(self.alloc, End::B, call, &mut self.log)?)
-            }
-            Event::Give(number, End::A) => give(
-                self.alloc,
-                End::A,
-                *number,
-                &mut self.a,
-                &self.b,
-                &mut self.log,
-            ),
-            Event::Give(number, End::B) => give(
-                self.alloc,
-                End::B,
-                *number,
-                &mut self.b,
-                &self.a,
-                &mut self.log,
-            ),
+            Event::Call(end, call) => Ok(self.call(*end, call)?),
+            Event::Give(number, end) => self.give(*end, *number),
             Event::Foreign(end, bytes) => Ok(self.inject(*end, bytes)?),
-            Event::Time(End::A, now) => {
-                Ok(
-                    self.a
-                        .advance_time(self.alloc, End::A, *now, &mut self.log)?,
-                )
-            }
-            Event::Time(End::B, now) => {
-                Ok(
-                    self.b
-                        .advance_time(self.alloc, End::B, *now, &mut self.log)?,
-                )
-            }
+            Event::Time(end, now) => Ok(self.advance_time(*end, *now)?),
+        }
+    }
+
+    /// An end makes a call.
+    fn call(&mut self, end: End, call: &Call) -> Result<(), CallError>
+        ensures ok { OnOk result (Happens (table.CallOf (end_tree end) (call_tree call.now)) (world_of R.stream C.word_of self.old) (world_of R.stream C.word_of self.new)) }
+        ensures cut { OnErr result (StopsWithin (IsMadeBy (table.CallOf (end_tree end) (call_tree call.now)) (world_of R.stream C.word_of self.old)) self.old.log self.new.log) }
+        ensures failed { self.new.has_failed ≡ self.old.has_failed }
+    {
+        match end {
+            End::A => self.a.call(self.alloc, end, call, &mut self.log),
+            End::B => self.b.call(self.alloc, end, call, &mut self.log),
+        }
+    }
+
+    /// An end's time is advanced.
+    fn advance_time(&mut self, end: End, now: SocketTime) -> Result<(), CallError>
+        ensures ok { OnOk result (Happens (table.AdvanceTime (end_tree end) now) (world_of R.stream C.word_of self.old) (world_of R.stream C.word_of self.new)) }
+        ensures cut { OnErr result (StopsWithin (IsMadeBy (table.AdvanceTime (end_tree end) now) (world_of R.stream C.word_of self.old)) self.old.log self.new.log) }
+        ensures failed { self.new.has_failed ≡ self.old.has_failed }
+    {
+        match end {
+            End::A => self.a.advance_time(self.alloc, end, now, &mut self.log),
+            End::B => self.b.advance_time(self.alloc, end, now, &mut self.log),
+        }
+    }
+
+    /// An end is given the packet of this number of the other one.
+    fn give(&mut self, end: End, number: usize) -> Result<(), WorldError>
+        ensures ok { OnOk result (Happens (table.Give number (end_tree end)) (world_of R.stream C.word_of self.old) (world_of R.stream C.word_of self.new)) }
+        ensures disabled { IfErr result (λ e. e ≡ WorldError.NoSuchPacket → IsDisabled (table.Give number (end_tree end)) (world_of R.stream C.word_of self.old)) }
+        ensures no_such_packet { IsDisabled (table.Give number (end_tree end)) (world_of R.stream C.word_of self.old) → result ≡ Err WorldError.NoSuchPacket }
+        ensures same { IfErr result (λ e. e ≡ WorldError.NoSuchPacket → self.new ≡ self.old) }
+        ensures cut { OnErr result (StopsWithin (IsMadeBy (table.Give number (end_tree end)) (world_of R.stream C.word_of self.old)) self.old.log self.new.log) }
+        ensures failed { self.new.has_failed ≡ self.old.has_failed }
+    {
+        match end {
+            End::A => give(self.alloc, end, number, &mut self.a, &self.b, &mut self.log),
+            End::B => give(self.alloc, end, number, &mut self.b, &self.a, &mut self.log),
         }
     }
 

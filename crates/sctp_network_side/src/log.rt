@@ -105,6 +105,7 @@ pub enum Entry {
     Ready(End, Message),
 }
 
+/// A copy of the message. The error is want of memory.
 pub fn copy_of(alloc: Global, message: &Message) -> Result<Message, AllocError>
     ensures { IfOk result (λ copy. message_of copy ≡ message_of message.now) }
 {
@@ -112,6 +113,7 @@ pub fn copy_of(alloc: Global, message: &Message) -> Result<Message, AllocError>
     Ok(Message::new(message.stream_id, message.ppid, payload))
 }
 
+/// Copies of the messages, in order. The error is want of memory.
 pub fn copies_of(alloc: Global, messages: &[Message]) -> Result<Vec<Message>, AllocError>
     ensures { IfOk result (λ copies. map message_of copies.items ≡ map message_of messages.now) }
 {
@@ -122,6 +124,7 @@ pub fn copies_of(alloc: Global, messages: &[Message]) -> Result<Vec<Message>, Al
     Ok(copies)
 }
 
+/// A copy of the call with what it hands in. The error is want of memory.
 pub fn copy_of_call(alloc: Global, call: &Call) -> Result<Call, AllocError>
     ensures { IfOk result (λ copy. call_tree copy ≡ call_tree call.now) }
 {

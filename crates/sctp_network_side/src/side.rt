@@ -66,6 +66,7 @@ impl<R: Rng + Drop, C: Checksum + Drop> Side<R, C> {
         })
     }
 
+    /// Lets the end go.
     pub fn let_go(self) {
         self.socket.let_go();
     }

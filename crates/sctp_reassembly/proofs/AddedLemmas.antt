@@ -1,18 +1,27 @@
 -- An entry comes where it joins.
-use Rattle.std.proofs.Common.{◌≡◌, ℕ, suc, ◌<◌, ◌==◌, Bool, true, false, Option, Some, None, List, [], ◌∷◌, ◌++◌, refl, ap, sym, subst, ◌∙◌, arith}
+use Rattle.std.proofs.Common.{◌≡◌, ℕ, suc, ◌<◌, ◌==◌, Bool, true, false, Option, Some, None, List, [], ◌∷◌, ◌++◌, refl, ap, sym, subst, ◌∙◌, arith, length}
 use Rattle.std.specs.Prelude.{nat_lt, ◌||◌}
 use Rattle.sctp_fragments.specs.declared.interval.Interval.{Interval}
 use Rattle.sctp_fragments.specs.ReassemblyKey.{rank_at}
 use Rattle.sctp_fragments.specs.Runs.{flat, last_of, end_of, is_held, AreRuns, IsBelow, LeadsTo, is_next, joins_left, joins_right}
 use Rattle.sctp_fragments.specs.Held.{Held, rank_of, goes_on}
 use Rattle.sctp_fragments.specs.Interval.{held_of, run_of, lists_of, IsInserted}
-use Rattle.sctp_fragments.proofs.PlaceLemmas.{cons, some_run, emitted_not_less}
+use Rattle.sctp_fragments.proofs.PlaceLemmas.{cons, some_run, emitted_less, emitted_not_less}
 use Rattle.sctp_fragments.proofs.RunLemmas.{AreRuns_back, AreRuns_front, AllBelow_runs, end_of_append, is_held_within, linked_rises}
 use Rattle.sctp_reassembly.specs.Places.{AreNamed, AreLow, AreHigh, IsWithin, IsChanged, IsJoined, AreJoined, IsAdded, IsFirstAt, IsLed, all_of, runs_at, next_of, first_key_of}
 use Rattle.sctp_reassembly.proofs.InsertLemmas.{inserts_alone, inserts_left, inserts_right, inserts_both}
 use Rattle.sctp_reassembly.proofs.HeldLemmas.{next_rank}
 use Rattle.sctp_reassembly.proofs.MapLemmas.{runs_append, rises_behind}
 use Rattle.sctp_reassembly.proofs.PutLemmas.{IsPut, puts_next, puts_single, puts_last, puts_both, next_is, next_none, previous_is, previous_none, runs_split}
+
+-- what is told by the last item of a run
+pub joins_last : (r : List Held) (d x : Held) (b : Bool) → 0 < length r → ((h : Held) (hs : List Held) → r ≡ h ∷ hs → d ≡ last_of h hs) → b ≡ is_next rank_of goes_on d x → joins_left rank_of goes_on (end_of None (r ∷ [])) x ≡ b
+joins_last [] d x b some last is = absurd (omega arith)
+joins_last (h ∷ hs) d x b some last is = rw (← last h hs refl) (sym is)
+
+pub below_last : (r : List Held) (d : Held) (n : ℕ) (b : Bool) → 0 < length r → ((h : Held) (hs : List Held) → r ≡ h ∷ hs → d ≡ last_of h hs) → b ≡ true → b ≡ nat_lt (rank_of d) n → IsBelow rank_of n (end_of None (r ∷ []))
+below_last [] d n b some last on is = absurd (omega arith)
+below_last (h ∷ hs) d n b some last on is = rw (← last h hs refl) (emitted_less b (rank_of d) n on is)
 
 below_all : (n : ℕ) (b : Option Held) (rs : List (List Held)) → AreRuns rank_of goes_on b rs → IsBelow rank_of n b → IsBelow rank_of n (end_of None rs) → IsBelow rank_of n (end_of b rs)
 below_all n b [] r h k = h

@@ -6,6 +6,7 @@ use Rattle.sctp_fragments.specs.declared.interval.Entry.{Entry}
 use Rattle.sctp_fragments.specs.declared.interval.Interval.{Interval}
 use Rattle.sctp_fragments.specs.Interval.{run_of, first_below, without_first}
 use Rattle.sctp_fragments.specs.Runs.{flat, is_held, put_in, with_item, from_rank, AreRuns}
+use Rattle.sctp_fragments.specs.Entries.{items_of}
 use Rattle.sctp_fragments.specs.Held.{Held, rank_of, goes_on, IsTaken}
 
 pub put_length : (x : Held) (hs : List Held) → length (put_in rank_of x hs) ≡ suc (length hs)
@@ -25,8 +26,8 @@ counts_one x hs is_new answer on = go (is_held rank_of (rank_of x) hs) (sym answ
     go false h = put_length x hs
 
 -- an interval has as many as entries
-pub run_length : {K : Type 0} (f : Entry K → Held) (i : Interval K) → length (run_of f i) ≡ length i.entries.items
-run_length f i = length-map i.entries.items f
+pub run_length : {K : Type 0} (f : Entry K → Held) (i : Interval K) → length (run_of f i) ≡ length (items_of i.entries.value)
+run_length f i = length-map (items_of i.entries.value) f
 
 -- those of an interval went out
 pub counts_taken : (old run new : List Held) → IsTaken old run new → length old ≡ length run + length new

@@ -1,7 +1,6 @@
 -- Entries of a map by the ranks of their keys.
-use Rattle.std.proofs.Common.{◌≡◌, ℕ, suc, ◌<◌, ◌≤◌, true, cond, ◌&&◌, not, Option, Some, None, List, [], ◌∷◌, ◌++◌, refl, ap, sym, subst, ◌∙◌, inl, inr, arith, append_assoc}
+use Rattle.std.proofs.Common.{◌≡◌, ℕ, suc, ◌<◌, ◌≤◌, true, cond, ◌&&◌, not, Option, Some, None, List, [], ◌∷◌, ◌++◌, refl, ap, sym, subst, ◌∙◌, inl, inr, arith, append_assoc, length}
 use Rattle.std.specs.Prelude.{◌+◌, map, IfSome}
-use Rattle.std.specs.VecDeque.{deque_len, deque_capacity}
 use Rattle.std.proofs.lemmas.List.{map-append}
 use Rattle.sctp_fragments.specs.declared.interval.Entry.{Entry}
 use Rattle.std.proofs.Common.{Ordering, Equal, Greater, Less}
@@ -18,6 +17,7 @@ use Rattle.sctp_fragments.specs.Runs.{last_of, end_of, AreRuns}
 use Rattle.sctp_fragments.specs.Held.{Held, rank_of, goes_on}
 use Rattle.sctp_fragments.specs.Interval.{held_of, run_of, lists_of}
 use Rattle.sctp_fragments.proofs.RunLemmas.{end_of_append}
+use Rattle.sctp_fragments.specs.Entries.{items_of, room_of}
 use Rattle.sctp_reassembly.specs.Places.{AreNamed, AreLow, AreHigh, IsSplit, IsWithin, IsChanged, HasRoom, runs_at, last_key, first_key_of}
 
 nat_cmp_same : (k a : ℕ) → k ≡ a → nat_cmp k a ≡ Equal
@@ -215,7 +215,7 @@ module _ {K : Type 0} (cmp : K → K → Ordering) (is_key : K → Type 0) (numb
   }
 
   pub room_at : (new : List (K × Interval K)) (d w : Interval K) (run : List Held) (count : ℕ) → Some d ≡ lookup (is_at (cmp k)) es → new ≡ set_value (is_at (cmp k)) es w → (d ≡ i → run_of (held_of number index) w ≡ run)
-      → deque_len w.entries + count ≤ deque_capacity w.entries → HasRoom number index ps qs k run count new
+      → length (items_of w.entries.value) + count ≤ room_of w.entries.value → HasRoom number index ps qs k run count new
   room_at new d w run count found made run_is room = record {
     interval = w;
     is = made ∙ (ap (λ (t : List (K × Interval K)). set_value (is_at (cmp k)) t w) is ∙ set_mid cmp is_key (rank_at number index) by_rank k p ps qs i w low);
@@ -335,6 +335,6 @@ module _ {K : Type 0} (cmp : K → K → Ordering) (is_key : K → Type 0) (numb
     low_b ps low = low_weaker (rank_at number index a) (rank_at number index b) ps (omega (arith, ascend)) low
 
 -- the entries of two with one between them
-pub run_joined : {K : Type 0} (f : Entry K → Held) (new : List (Entry K)) (d e : Interval K) (x : Entry K) (rs ts : List Held) → new ≡ d.entries.items ++ x ∷ e.entries.items → run_of f d ≡ rs → run_of f e ≡ ts → map f new ≡ rs ++ f x ∷ ts
+pub run_joined : {K : Type 0} (f : Entry K → Held) (new : List (Entry K)) (d e : Interval K) (x : Entry K) (rs ts : List Held) → new ≡ (items_of d.entries.value) ++ x ∷ (items_of e.entries.value) → run_of f d ≡ rs → run_of f e ≡ ts → map f new ≡ rs ++ f x ∷ ts
 run_joined f new d e x rs ts made left right =
-    ap (map f) made ∙ (map-append f d.entries.items (x ∷ e.entries.items) ∙ (ap (λ (t : List Held). t ++ f x ∷ run_of f e) left ∙ ap (λ (t : List Held). rs ++ f x ∷ t) right))
+    ap (map f) made ∙ (map-append f (items_of d.entries.value) (x ∷ (items_of e.entries.value)) ∙ (ap (λ (t : List Held). t ++ f x ∷ run_of f e) left ∙ ap (λ (t : List Held). rs ++ f x ∷ t) right))

@@ -1,12 +1,12 @@
 -- The intervals of a list: the first one, and the later ones in a map.
-use Rattle.std.specs.Prelude.{◌≡◌, ℕ, ◌+◌, ◌<◌, ◌≤◌, not, nat_lt, Bool, true, false, if◌then◌else◌, Option, Some, None, List, [], ◌∷◌, ◌++◌}
+use Rattle.std.specs.Prelude.{◌≡◌, ℕ, ◌+◌, ◌<◌, ◌≤◌, not, nat_lt, Bool, true, false, if◌then◌else◌, Option, Some, None, List, [], ◌∷◌, ◌++◌, length}
 use Rattle.std.specs.Option.{option_to_list}
-use Rattle.std.specs.VecDeque.{deque_len, deque_capacity}
 use Rattle.std.specs.Map.{values_of}
 use Rattle.sctp_fragments.specs.declared.interval.Interval.{Interval}
 use Rattle.sctp_fragments.specs.ReassemblyKey.{rank_at}
 use Rattle.sctp_fragments.specs.Runs.{flat, is_held, last_of, end_of, joins_left, joins_right, IsBelow, LeadsTo}
 use Rattle.sctp_fragments.specs.Held.{Held, rank_of, goes_on, bytes_of}
+use Rattle.sctp_fragments.specs.Entries.{items_of, room_of}
 use Rattle.sctp_fragments.specs.Interval.{held_of, run_of, lists_of, entries_of, IsInRuns, IsInserted, AreIndexed}
 
 -- the intervals in order
@@ -85,7 +85,7 @@ pub record HasRoom {K : Type 0} (number index : K → ℕ) (ps qs : List (K × I
   pub interval : Interval K
   pub is : new ≡ ps ++ (key, interval) ∷ qs
   pub run_is : run_of (held_of number index) interval ≡ run
-  pub room : deque_len interval.entries + count ≤ deque_capacity interval.entries
+  pub room : length (items_of interval.entries.value) + count ≤ room_of interval.entries.value
 
 -- two keys of entries one after the other
 pub record AreBeside {K X : Type 0} (is_key : K → Type 0) (rank : K → ℕ) (first second : K) (es : List (K × X)) : Type 0 where

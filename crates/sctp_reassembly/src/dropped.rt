@@ -95,7 +95,7 @@ fn sums_of<K: ReassemblyKey>(later: &BTreeMap<K, Interval<K>>) -> (usize, usize)
     let mut fragments = 0;
     for interval in later.values() {
         bytes += interval.total_bytes();
-        fragments += interval.entries.len();
+        fragments += interval.len();
     }
     (bytes, fragments)
 }
@@ -109,10 +109,7 @@ pub(crate) fn all_sums_of<K: ReassemblyKey>(low: &Low<K>) -> (usize, usize)
 {
     let (bytes, fragments) = sums_of(&low.later);
     match &low.first {
-        Some(interval) => (
-            bytes + interval.total_bytes(),
-            fragments + interval.entries.len(),
-        ),
+        Some(interval) => (bytes + interval.total_bytes(), fragments + interval.len()),
         None => (bytes, fragments),
     }
 }

@@ -154,7 +154,7 @@ impl<K: ReassemblyKey> Intervals<K> {
     {
         let interval = take_if_complete(&mut self.first, &mut self.later, key)?;
         self.bytes -= interval.total_bytes();
-        self.fragments -= interval.entries.len();
+        self.fragments -= interval.len();
         Some(interval)
     }
 
@@ -169,7 +169,7 @@ impl<K: ReassemblyKey> Intervals<K> {
     {
         let interval = take_in_turn(&mut self.first, &mut self.later, number)?;
         self.bytes -= interval.total_bytes();
-        self.fragments -= interval.entries.len();
+        self.fragments -= interval.len();
         Some(interval)
     }
 

@@ -2,7 +2,7 @@
 
 ghost use Rattle.std.specs.Prelude.{◌≡◌, ◌==◌, ◌+◌, ◌<◌, ◌≤◌, ◌^◌, ◌++◌, ◌∷◌, [], List, Option, Some, None, suc, true, false, length, IfOk, OnOk, OnErr, IfSome, IfNone};
 ghost use Rattle.std.specs.Option.{option_to_list};
-ghost use Rattle.std.specs.VecDeque.{deque_len, deque_capacity};
+ghost use Rattle.sctp_fragments.specs.Entries.{items_of};
 ghost use Rattle.sctp_fragments.specs.Held.{Held, rank_of, goes_on, is_complete, is_in_turn, NoneInTurn};
 ghost use Rattle.sctp_fragments.specs.Runs.{is_next, is_held, flat, last_of, end_of, joins_left, AreRuns, IsBelow, LeadsTo};
 ghost use Rattle.sctp_fragments.specs.ReassemblyKey.{rank_at};
@@ -11,9 +11,9 @@ ghost use Rattle.sctp_fragments.specs.declared.interval.Interval.{Interval};
 ghost use Rattle.sctp_reassembly.specs.Turns.{IsFirstOut, IsFirstPassing};
 ghost use Rattle.sctp_reassembly.specs.Places.{AreBeside, HasRoom, Holds, IsAmong, IsOut, IsFirstAt, all_of, runs_at, AreNamed, AreLow, AreHigh, IsLed, IsSplit, IsChanged, IsJoined, AreJoined, IsAdded, IsAnswer, IsSame, next_of, previous_of, ends_from, first_key_of, last_key};
 
-use sctp_fragments::{Entry, Interval, ReassemblyKey, goes_on_to, is_before};
+use sctp_fragments::{Entries, Entry, Interval, ReassemblyKey, goes_on_to, is_before};
 use std::alloc::{AllocError, Global};
-use std::collections::{BTreeMap, VecDeque};
+use std::collections::BTreeMap;
 
 /// The key of the first fragment.
 pub(crate) fn first_key<K: ReassemblyKey>(first: &Option<Interval<K>>) -> Option<K>
@@ -66,12 +66,12 @@ pub(crate) fn drop_first<K: ReassemblyKey>(
     let Some(interval) = first else {
         return 0;
     };
-    if interval.entries.len() == 1 {
-        let bytes = interval.entries[0].fragment.payload.len();
+    if interval.len() == 1 {
+        let bytes = interval.at(0).fragment.payload.len();
         drop(take_first(first, later));
         return bytes;
     }
-    let Some(entry) = interval.entries.pop_front() else {
+    let Some(entry) = interval.pop_front() else {
         return 0;
     };
     entry.fragment.payload.len()
@@ -306,8 +306,7 @@ fn place_in_turn<K: ReassemblyKey>(later: &BTreeMap<K, Interval<K>>, number: u12
 fn alone<K: ReassemblyKey>(alloc: Global, entry: Entry<K>) -> Result<Interval<K>, AllocError>
     ensures { IfOk result (λ i. run_of (held_of K.number K.index) i ≡ held_of K.number K.index entry ∷ []) }
 {
-    let mut entries = VecDeque::with_capacity(alloc, 1)?;
-    entries.push_back(entry)?;
+    let entries = Entries::one(alloc, entry)?;
     Ok(Interval { entries })
 }
 
@@ -355,7 +354,7 @@ fn put_ahead<K: ReassemblyKey>(
     ensures later { OnErr result (later.new.entries ≡ later.old.entries) }
 {
     if goes_on_to(&entry, first.first()) {
-        first.entries.push_front(entry)?;
+        first.push_front(entry)?;
         return Ok(());
     }
     let new = alone(alloc, entry)?;
@@ -505,7 +504,7 @@ fn extend_first<K: ReassemblyKey>(
     ensures later { OnErr result (IsSame K.is_key K.number K.index later.old.entries later.new.entries) }
 {
     let Some(next) = joined.behind else {
-        first.entries.push_back(entry)?;
+        first.push_back(entry)?;
         return Ok(());
     };
     join_first(first, later, next, entry)
@@ -546,7 +545,7 @@ fn push_front_at<K: ReassemblyKey>(
     let Some(interval) = later.get_mut(&place) else {
         return Err(AllocError);
     };
-    interval.entries.push_front(entry)?;
+    interval.push_front(entry)?;
     Ok(())
 }
 
@@ -579,18 +578,18 @@ fn push_back_at<K: ReassemblyKey>(
     let Some(interval) = later.get_mut(&place) else {
         return Err(AllocError);
     };
-    interval.entries.push_back(entry)?;
+    interval.push_back(entry)?;
     Ok(())
 }
 
 /// How many entries the interval at the place has.
 fn count_at<K: ReassemblyKey>(later: &BTreeMap<K, Interval<K>>, place: K) -> usize
     ensures small { result < 2 ^ 63 }
-    ensures count { (ps qs : List (K × Interval K)) (i : Interval K) → later.now.entries ≡ ps ++ (place, i) ∷ qs → AreLow K.is_key (rank_at K.number K.index) (rank_at K.number K.index place) ps → result ≡ deque_len i.entries }
+    ensures count { (ps qs : List (K × Interval K)) (i : Interval K) → later.now.entries ≡ ps ++ (place, i) ∷ qs → AreLow K.is_key (rank_at K.number K.index) (rank_at K.number K.index place) ps → result ≡ length (items_of i.entries.value) }
 {
     place.known();
     match later.get(&place) {
-        Some(interval) => interval.entries.len(),
+        Some(interval) => interval.len(),
         None => 0,
     }
 }
@@ -601,6 +600,7 @@ fn reserve_at<K: ReassemblyKey>(
     place: K,
     count: usize,
 ) -> Result<(), AllocError>
+    requires { count ≤ 2 ^ 63 }
     ensures ok { OnOk result ((ps qs : List (K × Interval K)) (i : Interval K) → later.old.entries ≡ ps ++ (place, i) ∷ qs → AreLow K.is_key (rank_at K.number K.index) (rank_at K.number K.index place) ps → HasRoom K.number K.index ps qs place (run_of (held_of K.number K.index) i) count later.new.entries) }
     ensures kept { (ps qs : List (K × Interval K)) (i : Interval K) → later.old.entries ≡ ps ++ (place, i) ∷ qs → AreLow K.is_key (rank_at K.number K.index) (rank_at K.number K.index place) ps → IsChanged K.number K.index ps qs place (run_of (held_of K.number K.index) i) later.new.entries }
 {
@@ -608,7 +608,7 @@ fn reserve_at<K: ReassemblyKey>(
     let Some(interval) = later.get_mut(&place) else {
         return Err(AllocError);
     };
-    interval.entries.reserve(count)
+    interval.reserve(count)
 }
 
 /// Makes one interval of the first and the next one with the entry between them. The shorter one's entries move, so that an
@@ -624,7 +624,7 @@ fn join_first<K: ReassemblyKey>(
     ensures first { OnErr result (run_of (held_of K.number K.index) first.new ≡ run_of (held_of K.number K.index) first.old) }
     ensures later { OnErr result ((j : Interval K) (qs : List (K × Interval K)) → later.old.entries ≡ (place, j) ∷ qs → IsChanged K.number K.index [] qs place (run_of (held_of K.number K.index) j) later.new.entries) }
 {
-    if first.entries.len() < count_at(later, place) {
+    if first.len() < count_at(later, place) {
         return join_first_to_second(first, later, place, entry);
     }
     join_second_to_first(first, later, place, entry)
@@ -644,11 +644,11 @@ fn join_second_to_first<K: ReassemblyKey>(
 {
     place.known();
     let count = count_at(later, place);
-    first.entries.reserve(count + 1)?;
+    first.reserve(count + 1)?;
     let Some(moved) = later.remove(&place) else {
         return Err(AllocError);
     };
-    append_to(&mut first.entries, entry, moved.entries);
+    first.append(entry, moved);
     Ok(())
 }
 
@@ -665,13 +665,13 @@ fn join_first_to_second<K: ReassemblyKey>(
     ensures later { OnErr result ((j : Interval K) (qs : List (K × Interval K)) → later.old.entries ≡ (place, j) ∷ qs → IsChanged K.number K.index [] qs place (run_of (held_of K.number K.index) j) later.new.entries) }
 {
     place.known();
-    let count = first.entries.len();
+    let count = first.len();
     reserve_at(later, place, count + 1)?;
     let Some(next) = later.remove(&place) else {
         return Err(AllocError);
     };
     let moved = std::mem::replace(first, next);
-    prepend_to(&mut first.entries, entry, moved.entries);
+    first.prepend(entry, moved);
     Ok(())
 }
 
@@ -692,36 +692,6 @@ fn join<K: ReassemblyKey>(
         return join_to_second(later, place, next, entry);
     }
     join_to_first(later, place, next, entry)
-}
-
-/// Adds the entry and then the others at the back, where there is room.
-fn append_to<K: ReassemblyKey>(
-    entries: &mut VecDeque<Entry<K>>,
-    entry: Entry<K>,
-    mut others: VecDeque<Entry<K>>,
-)
-    requires { deque_len entries.old + (deque_len others + 1) ≤ deque_capacity entries.old }
-    ensures { entries.new.items ≡ entries.old.items ++ entry ∷ others.items }
-{
-    entries.push_back_reserved(entry);
-    while let Some(next) = others.pop_front() {
-        entries.push_back_reserved(next);
-    }
-}
-
-/// Puts the others and then the entry in front, where there is room.
-fn prepend_to<K: ReassemblyKey>(
-    entries: &mut VecDeque<Entry<K>>,
-    entry: Entry<K>,
-    mut others: VecDeque<Entry<K>>,
-)
-    requires { deque_len entries.old + (deque_len others + 1) ≤ deque_capacity entries.old }
-    ensures { entries.new.items ≡ others.items ++ entry ∷ entries.old.items }
-{
-    entries.push_front_reserved(entry);
-    while let Some(last) = others.pop_back() {
-        entries.push_front_reserved(last);
-    }
 }
 
 /// Makes one interval of two with the entry between them, where the second one's entries move to the first.
@@ -745,7 +715,7 @@ fn join_to_first<K: ReassemblyKey>(
     let Some(interval) = later.get_mut(&place) else {
         return Err(AllocError);
     };
-    append_to(&mut interval.entries, entry, moved.entries);
+    interval.append(entry, moved);
     Ok(())
 }
 
@@ -770,6 +740,6 @@ fn join_to_second<K: ReassemblyKey>(
     let Some(interval) = later.get_mut(&next) else {
         return Err(AllocError);
     };
-    prepend_to(&mut interval.entries, entry, moved.entries);
+    interval.prepend(entry, moved);
     Ok(())
 }

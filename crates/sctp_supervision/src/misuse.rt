@@ -114,6 +114,7 @@ fn is_reported(typ: u8) -> bool
     typ / 64 % 2 == 1
 }
 
+/// Whether the chunks behind an unknown one are received: the highest bit of its type (RFC 9260 section 3.2).
 pub fn is_passed_over(typ: u8) -> bool
     ensures { result ≡ table.is_passed_over typ }
 {

@@ -1,6 +1,6 @@
 -- Events one after the other.
 use Rattle.std.proofs.Common.{◌≡◌, List, [], ◌∷◌, ◌++◌, refl, sym, ap, subst, ◌∙◌, append_assoc}
-use Rattle.spec_world.specs.World.{Action, World, Happens, Runs, IsDisabled, RunsUpToDisabled, RunsUpToEnabled}
+use Rattle.spec_world.specs.World.{Action, World, Happens, Runs, IsDisabled, RunsUpToDisabled}
 
 pub Runs_snoc : (front : List Action) (action : Action) (w u v : World) → Runs front w u → Happens action u v → Runs (front ++ action ∷ []) w v
 Runs_snoc [] action w u v runs happens = (v, subst (λ (x : World). Happens action x v) runs happens, refl)
@@ -22,15 +22,3 @@ pub stepped : (all rest more : List Action) (action : Action) (w u v : World)
     → (front : List Action) × (all ≡ front ++ more) × Runs front w v
 stepped all rest more action w u v done next happens =
     (done.0 ++ action ∷ [], done.1 ∙ ap (λ (r : List Action). done.0 ++ r) next ∙ sym (append_assoc done.0 (action ∷ []) more), Runs_snoc done.0 action w u v done.2 happens)
-
-pub wanting : (all rest more : List Action) (action : Action) (w u : World)
-    → (front : List Action) × (all ≡ front ++ rest) × Runs front w u → rest ≡ action ∷ more → (IsDisabled action u → ⊥) → RunsUpToEnabled all w
-wanting all rest more action w u done next there = record {
-  before = done.0;
-  action = action;
-  rest = more;
-  split = done.1 ∙ ap (λ (r : List Action). done.0 ++ r) next;
-  reached = u;
-  runs = done.2;
-  there = there;
-}

@@ -1,28 +1,45 @@
 //! What an interval says.
 
-ghost use Rattle.std.specs.Prelude.{◌≡◌, ◌<◌, ◌^◌, ◌∷◌, List, IfOk};
+ghost use Rattle.std.specs.Prelude.{◌≡◌, ◌<◌, ◌^◌, ◌∷◌, List, IfOk, length, slice_index_or};
 
 use crate::interval::{Entry, Interval};
 use crate::reassembly_key::{ReassemblyKey, leads_to};
 use std::alloc::{AllocError, Global};
 
 impl<K: ReassemblyKey> Interval<K> {
+    ghost use Rattle.sctp_fragments.specs.Entries.{items_of};
     ghost use Rattle.sctp_fragments.specs.Runs.{last_of};
     ghost use Rattle.sctp_fragments.specs.Held.{Held, is_complete, is_in_turn, bytes_of, payload_of};
     ghost use Rattle.sctp_fragments.specs.Interval.{held_of, run_of};
+
+    /// How many fragments it has.
+    pub fn len(&self) -> usize
+        ensures count { result ≡ length (items_of self.now.entries.value) }
+        ensures small { result < 2 ^ 63 }
+    {
+        self.entries.len()
+    }
+
+    /// The fragment at a place.
+    pub fn at(&self, index: usize) -> &Entry<K>
+        requires { index < length (items_of self.now.entries.value) }
+        ensures { result.now ≡ slice_index_or (items_of self.now.entries.value) index result.now }
+    {
+        self.entries.at(index)
+    }
 
     /// The fragment with its least key.
     pub fn first(&self) -> &Entry<K>
         ensures { (h : Held) (hs : List Held) → run_of (held_of K.number K.index) self.now ≡ h ∷ hs → held_of K.number K.index result.now ≡ h }
     {
-        &self.entries[0]
+        self.at(0)
     }
 
     /// The fragment with its greatest key.
     pub fn last(&self) -> &Entry<K>
         ensures { (h : Held) (hs : List Held) → run_of (held_of K.number K.index) self.now ≡ h ∷ hs → held_of K.number K.index result.now ≡ last_of h hs }
     {
-        &self.entries[self.entries.len() - 1]
+        self.at(self.len() - 1)
     }
 
     /// How many bytes of payload it holds.
@@ -31,8 +48,8 @@ impl<K: ReassemblyKey> Interval<K> {
         ensures { result ≡ bytes_of (run_of (held_of K.number K.index) self.now) }
     {
         let mut bytes = 0;
-        for index in 0..self.entries.len() {
-            bytes += self.entries[index].fragment.payload.len();
+        for index in 0..self.len() {
+            bytes += self.at(index).fragment.payload.len();
         }
         bytes
     }
@@ -40,8 +57,8 @@ impl<K: ReassemblyKey> Interval<K> {
     /// How much room the payloads take, where that can be counted.
     fn room(&self) -> usize {
         let mut bytes = 0_usize;
-        for index in 0..self.entries.len() {
-            bytes = bytes.saturating_add(self.entries[index].fragment.payload.len());
+        for index in 0..self.len() {
+            bytes = bytes.saturating_add(self.at(index).fragment.payload.len());
         }
         bytes
     }
@@ -52,8 +69,8 @@ impl<K: ReassemblyKey> Interval<K> {
         ensures { IfOk result (λ payload. payload.items ≡ payload_of (run_of (held_of K.number K.index) self.now)) }
     {
         let mut payload = Vec::with_capacity(alloc, self.room())?;
-        for index in 0..self.entries.len() {
-            payload.extend_from_slice(&self.entries[index].fragment.payload)?;
+        for index in 0..self.len() {
+            payload.extend_from_slice(&self.at(index).fragment.payload)?;
         }
         Ok(payload)
     }

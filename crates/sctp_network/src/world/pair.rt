@@ -41,7 +41,7 @@ pub fn run_pair<R: Rng, S: Rng, C: Checksum>(
     ensures stopped { IfErr result (λ e. e ≡ WorldError.NoSuchPacket → (k : BothUpToLack (map action_of events.now) (world_of R.stream C.word_of first.old) (world_of S.stream C.word_of second.old) (world_of R.stream C.word_of first.new) (world_of S.stream C.word_of second.new))
         × Continues k.before (world_of R.stream C.word_of first.old) (world_of R.stream C.word_of first.new) × Continues k.before (world_of S.stream C.word_of second.old) (world_of S.stream C.word_of second.new)) }
     ensures alike { (t : TwoOrigins) (actions : List Action) (p : IsReachable (first_origin t) actions (world_of R.stream C.word_of first.new))
-        (q : IsReachable (second_origin t) actions (world_of S.stream C.word_of second.new)) → AreComparable t actions (world_of R.stream C.word_of first.new) p.runs
+        (q : IsReachable (second_origin t) actions (world_of S.stream C.word_of second.new)) → AreComparable t actions (world_of R.stream C.word_of first.new) (world_of S.stream C.word_of second.new) p.runs q.runs
         → ShowAlong actions (initial_world (first_origin t)) (initial_world (second_origin t)) (world_of R.stream C.word_of first.new) (world_of S.stream C.word_of second.new) p.runs q.runs }
 {
     let first_a = first.sent(End::A);

@@ -3,7 +3,8 @@ use Rattle.sctp_fragments.specs.Runs.{flat, is_held, AreRuns}
 use Rattle.sctp_fragments.specs.Held.{rank_of, goes_on}
 use Rattle.sctp_fragments.specs.Interval.{held_of, run_of, lists_of}
 use Rattle.sctp_reassembly.specs.Places.{all_of, runs_at}
-use Rattle.sctp_reassembly.proofs.AddedLemmas.{first_added, held_first}
+use Rattle.sctp_reassembly.proofs.AddedLemmas.{first_added, held_first, below_last}
+use Rattle.sctp_fragments.proofs.PlaceLemmas.{some_run}
 use Rattle.sctp_reassembly.proofs.places.add_to.Goals as goal
 
 pub returns-in_default-clause-ok : goal.returns-in_default-clause-ok
@@ -17,3 +18,8 @@ returns-then-not-is_before-clause-ok g c =
       subst (λ o. is_held rank_of n (flat (lists_of (held_of g.K.ReassemblyKey.number g.K.ReassemblyKey.index) (all_of o c.args.later.now.entries))) ≡ true) (sym c.in-Some.is) held,
       (sym (ap (λ o. lists_of (held_of g.K.ReassemblyKey.number g.K.ReassemblyKey.index) (all_of o c.args.later.now.entries)) c.in-Some.is), c.requires.named),
     )
+
+pub add_behind-requires-clause-behind : goal.add_behind-requires-clause-behind
+add_behind-requires-clause-behind g c =
+    let f = held_of g.K.ReassemblyKey.number g.K.ReassemblyKey.index in
+    below_last (run_of f c.in-Some.interval) (f c.last.result.now) (rank_of (f c.args.entry)) c.is_before-2.result (some_run f c.in-Some.interval) c.last.ensures c.if-not-is_before.false c.is_before-2.ensures

@@ -4,11 +4,12 @@ use Rattle.sctp_fragments.specs.Interval.{held_of, run_of}
 use Rattle.sctp_fragments.proofs.PlaceLemmas.{run_back}
 use Rattle.sctp_reassembly.proofs.PutLemmas.{same_there}
 use Rattle.sctp_reassembly.proofs.AddedLemmas.{first_at, extends_back, extends_both}
+use Rattle.sctp_fragments.specs.Entries.{items_of}
 use Rattle.sctp_reassembly.proofs.places.extend_first.Goals as goal
 
 pub returns-in_default-clause-ok : goal.returns-in_default-clause-ok
 returns-in_default-clause-ok g c =
-    let made = run_back (held_of g.K.ReassemblyKey.number g.K.ReassemblyKey.index) _ c.args.first.now.entries.items c.args.first.now c.args.entry c.in_ok-push_back.ensures.items refl in
+    let made = run_back (held_of g.K.ReassemblyKey.number g.K.ReassemblyKey.index) _ (items_of c.args.first.now.entries.value) c.args.first.now c.args.entry c.in_ok-push_back.ensures.items refl in
     extends_back g.K.ReassemblyKey.is_key g.K.ReassemblyKey.number g.K.ReassemblyKey.index (run_of (held_of g.K.ReassemblyKey.number g.K.ReassemblyKey.index) c.args.first.now) _ c.args.later.now.entries (held_of g.K.ReassemblyKey.number g.K.ReassemblyKey.index c.args.entry) c.args.joined.before c.args.joined.behind c.requires.joined c.requires.named c.requires.runs c.requires.left (sym c.in_default.is) made
 
 pub join_first-requires : goal.join_first-requires

@@ -1,21 +1,21 @@
-use Rattle.std.proofs.Common.{ap, refl, ◌++◌, ◌∙◌, ◌∷◌, [], arith}
-use Rattle.std.specs.VecDeque.{deque_len}
+use Rattle.std.proofs.Common.{ap, refl, ◌++◌, ◌∙◌, ◌∷◌, [], arith, length}
 use Rattle.std.proofs.lemmas.Result.{err_from_is_err_and}
 use Rattle.sctp_fragments.specs.Interval.{held_of, run_of}
 use Rattle.sctp_reassembly.proofs.MapLemmas.{read_there, removed_at, run_joined}
+use Rattle.sctp_fragments.specs.Entries.{items_of}
 use Rattle.sctp_reassembly.proofs.places.join_second_to_first.Goals as goal
 
-pub append_to-requires : goal.append_to-requires
-append_to-requires g c =
+pub append-requires : goal.append-requires
+append-requires g c =
     let w = c.requires in
     let m = read_there g.K.Ord.cmp g.K.ReassemblyKey.is_key g.K.ReassemblyKey.number g.K.ReassemblyKey.index g.met.K.ReassemblyKey.by_rank c.args.place c.known.ensures c.args.later.now.entries [] w.back w.there w.is tt c.in-Some.moved c.in-Some.ensures.value in
     let count = c.count_at-count.ensures.count [] w.back w.there w.is tt in
-    omega (arith, c.in_ok-reserve.ensures.ok, count, ap (λ t. deque_len t.entries) m)
+    omega (arith, c.in_ok-reserve.ensures.ok, count, ap (λ t. length (items_of t.entries.value)) m)
 
 pub returns-clause-ok : goal.returns-clause-ok
 returns-clause-ok g c j qs is =
     let m = read_there g.K.Ord.cmp g.K.ReassemblyKey.is_key g.K.ReassemblyKey.number g.K.ReassemblyKey.index g.met.K.ReassemblyKey.by_rank c.args.place c.known.ensures c.args.later.now.entries [] qs j is tt c.in-Some.moved c.in-Some.ensures.value in
-    (run_joined (held_of g.K.ReassemblyKey.number g.K.ReassemblyKey.index) _ c.args.first.now c.in-Some.moved c.args.entry _ _ (c.append_to.ensures ∙ ap (λ t. t ++ c.args.entry ∷ c.in-Some.moved.entries.items) c.reserve.ensures.items) refl (ap (run_of (held_of g.K.ReassemblyKey.number g.K.ReassemblyKey.index)) m), removed_at g.K.Ord.cmp g.K.ReassemblyKey.is_key g.K.ReassemblyKey.number g.K.ReassemblyKey.index g.met.K.ReassemblyKey.by_rank c.args.place c.known.ensures c.args.later.now.entries [] qs j is tt _ c.in-Some.ensures.entries)
+    (run_joined (held_of g.K.ReassemblyKey.number g.K.ReassemblyKey.index) _ c.args.first.now c.in-Some.moved c.args.entry _ _ (c.append.ensures ∙ ap (λ t. t ++ c.args.entry ∷ (items_of c.in-Some.moved.entries.value)) c.reserve.ensures.items) refl (ap (run_of (held_of g.K.ReassemblyKey.number g.K.ReassemblyKey.index)) m), removed_at g.K.Ord.cmp g.K.ReassemblyKey.is_key g.K.ReassemblyKey.number g.K.ReassemblyKey.index g.met.K.ReassemblyKey.by_rank c.args.place c.known.ensures c.args.later.now.entries [] qs j is tt _ c.in-Some.ensures.entries)
 
 pub returns-in_err-reserve-clause-later : goal.returns-in_err-reserve-clause-later
 returns-in_err-reserve-clause-later g c =

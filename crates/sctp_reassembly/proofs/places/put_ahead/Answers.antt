@@ -4,11 +4,12 @@ use Rattle.sctp_fragments.specs.Interval.{held_of, run_of}
 use Rattle.sctp_fragments.proofs.PlaceLemmas.{run_front}
 use Rattle.sctp_reassembly.proofs.MapLemmas.{insert_mid}
 use Rattle.sctp_reassembly.proofs.AddedLemmas.{ahead_joined, ahead_apart, high_first}
+use Rattle.sctp_fragments.specs.Entries.{items_of}
 use Rattle.sctp_reassembly.proofs.places.put_ahead.Goals as goal
 
 pub returns-then-goes_on_to-clause-ok : goal.returns-then-goes_on_to-clause-ok
 returns-then-goes_on_to-clause-ok g c =
-    let made = run_front (held_of g.K.ReassemblyKey.number g.K.ReassemblyKey.index) _ c.args.first.now.entries.items c.args.first.now c.args.entry c.in_ok-push_front.ensures.items refl in
+    let made = run_front (held_of g.K.ReassemblyKey.number g.K.ReassemblyKey.index) _ (items_of c.args.first.now.entries.value) c.args.first.now c.args.entry c.in_ok-push_front.ensures.items refl in
     ahead_joined g.K.ReassemblyKey.is_key g.K.ReassemblyKey.number g.K.ReassemblyKey.index (run_of (held_of g.K.ReassemblyKey.number g.K.ReassemblyKey.index) c.args.first.now) _ c.args.later.now.entries (held_of g.K.ReassemblyKey.number g.K.ReassemblyKey.index c.args.entry) (held_of g.K.ReassemblyKey.number g.K.ReassemblyKey.index c.first.result.now) c.goes_on_to.result c.requires.named c.requires.runs c.requires.ahead c.first.ensures c.goes_on_to.ensures c.if-goes_on_to.true made
 
 pub returns-in-Ok-clause-ok : goal.returns-in-Ok-clause-ok

@@ -2,7 +2,10 @@ use Rattle.std.proofs.Common.{ap, subst, sym}
 use Rattle.std.specs.Prelude.{is_err}
 use Rattle.sctp_association.specs.Socket.{SocketValue, endpoint}
 use Rattle.spec_endpoint.specs.Receiving.{Receives}
-use Rattle.sctp_endpoint.specs.Views.{endpoint_of}
+use Rattle.sctp_endpoint.specs.Views.{endpoint_of, state_of}
+use Rattle.sctp_endpoint.proofs.KeepsReadyLemmas.{keeps_alone}
+use Rattle.sctp_association.specs.Interrupted.{StopsIn, unread}
+use Rattle.sctp_association.proofs.InterruptedLemmas.{on_err_of, where_err}
 use Rattle.sctp_association.proofs.ReceiveLemmas.{where_ok}
 use Rattle.sctp_association.proofs.socket.SocketDcSctpSocket.handle_input.Goals as goal
 
@@ -11,3 +14,12 @@ returns-clause-ok g c =
     let after = endpoint_of g.R.Rng.stream g.C.Checksum.word_of c.handle_input-done.new.state c.handle_input-done.new.context c.handle_input-done.new.rng in
     subst (λ (v : SocketValue _ _). Receives (g.C.Checksum.word_of v.context.checksum) c.args.bytes.now (endpoint g.R.Rng.stream g.C.Checksum.word_of v) after) c.self.view_is
     (where_ok c.handle_input-done.result (ap is_err (sym c.in_ok-ended.ensures.same)) c.handle_input-done.ensures.ok)
+
+pub returns-then-self-clause-stops : goal.returns-then-self-clause-stops
+returns-then-self-clause-stops g c = unread (keeps_alone c.args.self.now.state)
+
+pub returns-in_err-ended-clause-stops : goal.returns-in_err-ended-clause-stops
+returns-in_err-ended-clause-stops g c =
+    let now = state_of c.handle_input-done.new.state in
+    where_err c.from_residual.result (subst (λ (v : SocketValue _ _). StopsIn (g.C.Checksum.word_of v.context.checksum) c.args.bytes.now (endpoint g.R.Rng.stream g.C.Checksum.word_of v) now) c.self.view_is
+    (on_err_of c.handle_input-done.result (ap is_err (sym c.in_err-ended.ensures.same)) c.handle_input-done.ensures.stops))

@@ -1,9 +1,8 @@
-use Rattle.std.proofs.Common.{refl, ap, subst, map}
+use Rattle.std.proofs.Common.{refl, ap, map}
 use Rattle.std.proofs.lemmas.Result.{on_ok_weaker, on_err_weaker}
 use Rattle.spec_world.specs.Observations.{End, A, B}
 use Rattle.spec_world.specs.World.{GiveForeign}
-use Rattle.sctp_network_side.specs.Interrupted.{StopsWithin, MeetsForeignSo}
-use Rattle.sctp_network_side.specs.SideView.{end_tree, entry_tree, side_in}
+use Rattle.sctp_network_side.specs.SideView.{end_tree, entry_tree}
 use Rattle.sctp_network.specs.WorldView.{WorldValue, world_of}
 use Rattle.sctp_network.proofs.InterruptedLemmas.{as_event, foreign_cut_a, foreign_cut_b}
 use Rattle.sctp_network.proofs.ForeignBytesLemmas.{foreign_bytes_to_a, foreign_bytes_to_b}
@@ -25,15 +24,13 @@ returns-in-B-clause-ok g c =
     (record { a = c.self.inside.a; b = c.inject-in-B.new.self; log = map entry_tree c.inject-in-B.new.log.items; has_failed = c.self.inside.has_failed }) c.self.view_is
     (end_tree c.args.end) c.args.bytes.now (ap end_tree c.in-B.is) comes refl) c.inject-in-B.ensures.met
 
--- not tried
 pub returns-in-A-clause-cut : goal.returns-in-A-clause-cut
 returns-in-A-clause-cut g c =
     let v : WorldValue _ _ = record { a = c.self.inside.a; b = c.self.inside.b; log = map entry_tree c.self.inside.log.items; has_failed = c.self.inside.has_failed } in
     on_err_weaker c.inject.result (λ cut.
     as_event g.R.Rng.stream g.C.Checksum.word_of v c.args.self.now c.self.view_is (GiveForeign (end_tree c.args.end) c.args.bytes.now) (GiveForeign A c.args.bytes.now)
     (map entry_tree c.inject.new.log.items) (ap (λ (x : End). GiveForeign x c.args.bytes.now) (ap end_tree c.in-A.is))
-    (foreign_cut_a c.args.bytes.now (world_of g.R.Rng.stream g.C.Checksum.word_of v) (map entry_tree c.inject.new.log.items)
-    (subst (λ (x : End). StopsWithin (MeetsForeignSo x c.args.bytes.now (side_in g.R.Rng.stream g.C.Checksum.word_of v.a) v.log) v.log (map entry_tree c.inject.new.log.items)) (ap end_tree c.in-A.is) cut)))
+    (foreign_cut_a (end_tree c.args.end) c.args.bytes.now (world_of g.R.Rng.stream g.C.Checksum.word_of v) (map entry_tree c.inject.new.log.items) (ap end_tree c.in-A.is) cut))
     c.inject.ensures.cut
 
 pub returns-in-B-clause-cut : goal.returns-in-B-clause-cut
@@ -42,6 +39,5 @@ returns-in-B-clause-cut g c =
     on_err_weaker c.inject-in-B.result (λ cut.
     as_event g.R.Rng.stream g.C.Checksum.word_of v c.args.self.now c.self.view_is (GiveForeign (end_tree c.args.end) c.args.bytes.now) (GiveForeign B c.args.bytes.now)
     (map entry_tree c.inject-in-B.new.log.items) (ap (λ (x : End). GiveForeign x c.args.bytes.now) (ap end_tree c.in-B.is))
-    (foreign_cut_b c.args.bytes.now (world_of g.R.Rng.stream g.C.Checksum.word_of v) (map entry_tree c.inject-in-B.new.log.items)
-    (subst (λ (x : End). StopsWithin (MeetsForeignSo x c.args.bytes.now (side_in g.R.Rng.stream g.C.Checksum.word_of v.b) v.log) v.log (map entry_tree c.inject-in-B.new.log.items)) (ap end_tree c.in-B.is) cut)))
+    (foreign_cut_b (end_tree c.args.end) c.args.bytes.now (world_of g.R.Rng.stream g.C.Checksum.word_of v) (map entry_tree c.inject-in-B.new.log.items) (ap end_tree c.in-B.is) cut))
     c.inject-in-B.ensures.cut

@@ -1,0 +1,76 @@
+//! What is printed.
+
+use std::alloc::{AllocError, Global};
+use std::fmt::Display;
+
+/// What is printed at the end: all that was written, up to where memory was refused.
+#[derive(Drop)]
+pub struct Output {
+    pub alloc: Global,
+    pub text: String,
+    pub outcome: Result<(), AllocError>,
+}
+
+impl Output {
+    pub fn new(alloc: Global) -> Output {
+        Output {
+            alloc,
+            text: String::new(alloc),
+            outcome: Ok(()),
+        }
+    }
+
+    /// How many bytes were written.
+    pub fn len(&self) -> usize {
+        self.text.len()
+    }
+
+    /// Notes what fails for want of memory: nothing is written behind it.
+    pub fn note<E: Drop>(&mut self, outcome: Result<(), E>) {
+        if outcome.is_err() {
+            self.outcome = Err(AllocError);
+        }
+    }
+
+    /// The items that a call made, none where memory was refused.
+    pub fn made<T>(&mut self, made: Result<Vec<T>, AllocError>) -> Vec<T> {
+        match made {
+            Ok(items) => items,
+            Err(fault) => {
+                self.note(Err(fault));
+                Vec::new(self.alloc)
+            }
+        }
+    }
+
+    /// The text that a call made, an empty one where memory was refused.
+    pub fn made_text(&mut self, made: Result<String, AllocError>) -> String {
+        match made {
+            Ok(text) => text,
+            Err(fault) => {
+                self.note(Err(fault));
+                String::new(self.alloc)
+            }
+        }
+    }
+
+    /// What `write!` and `writeln!` call.
+    pub fn write_fmt<D: Display + Drop>(&mut self, text: D) {
+        if self.outcome.is_ok() {
+            self.outcome = self.text.write_fmt(text);
+        }
+    }
+
+    pub fn push_str(&mut self, text: &str) {
+        if self.outcome.is_ok() {
+            self.outcome = self.text.push_str(text);
+        }
+    }
+
+    /// Writes bytes in hex.
+    pub fn push_hex(&mut self, bytes: &[u8]) {
+        for byte in bytes {
+            write!(self, "{byte:02x}");
+        }
+    }
+}

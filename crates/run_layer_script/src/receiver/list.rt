@@ -1,0 +1,195 @@
+//! Intervals of fragments.
+
+use crate::output::Output;
+use crate::receiver::pieces::piece;
+use crate::receiver::player::{Player, play_each};
+use crate::words::{Line, yes_or_no};
+use sctp_packet::Data;
+use sctp_rx::{
+    InterleavedKey, Interval, IntervalList, ReassemblyKey, TraditionalKey, UnorderedInterleavedKey,
+    is_before,
+};
+
+/// A key that is made of its parts.
+pub trait Key: ReassemblyKey {
+    fn made(number: u64, index: u64) -> Self;
+
+    fn place(self) -> u64;
+}
+
+impl Key for TraditionalKey {
+    fn made(number: u64, index: u64) -> TraditionalKey {
+        TraditionalKey { number, index }
+    }
+
+    fn place(self) -> u64 {
+        self.index
+    }
+}
+
+impl Key for InterleavedKey {
+    fn made(number: u64, index: u64) -> InterleavedKey {
+        InterleavedKey { number, index }
+    }
+
+    fn place(self) -> u64 {
+        self.index
+    }
+}
+
+impl Key for UnorderedInterleavedKey {
+    fn made(number: u64, index: u64) -> UnorderedInterleavedKey {
+        UnorderedInterleavedKey { number, index }
+    }
+
+    fn place(self) -> u64 {
+        self.index
+    }
+}
+
+/// Takes the commands of a script on a list of intervals.
+pub fn run(line: Line<'_>, script: &str, output: &mut Output) {
+    match line.word(1) {
+        "tsn" => play_each(
+            IntervalList::<TraditionalKey>::new(output.alloc),
+            script,
+            output,
+        ),
+        "fsn" => play_each(
+            IntervalList::<InterleavedKey>::new(output.alloc),
+            script,
+            output,
+        ),
+        "mid" => play_each(
+            IntervalList::<UnorderedInterleavedKey>::new(output.alloc),
+            script,
+            output,
+        ),
+        _ => output.push_str("?\n"),
+    }
+}
+
+impl<K: Key> Player for IntervalList<K> {
+    /// `add NUMBER INDEX ENDS HEX`; `turn PLACE NUMBER`; `take PLACE`; `next NUMBER`; `retain NUMBER INDEX`; `sums`.
+    fn play(&mut self, line: Line<'_>, output: &mut Output) {
+        let (first, second) = (line.number(1), line.number(2));
+        match line.word(0) {
+            "add" => {
+                let fragment = piece(line, output);
+                add(self, K::made(first, second), fragment, output);
+                show_sums(self, output);
+            }
+            "turn" => output.push_str(is_in_turn(self, first as usize, second)),
+            "take" => take(self, first as usize, output),
+            "next" => next(self, first, output),
+            "retain" => {
+                self.retain(K::made(first, second));
+                show_sums(self, output);
+            }
+            "sums" => show_sums(self, output),
+            _ => output.push_str("?"),
+        }
+    }
+}
+
+fn show_sums<K: Key>(list: &IntervalList<K>, output: &mut Output) {
+    let (count, bytes) = (list.len(), list.total_bytes());
+    let is_empty = yes_or_no(list.is_empty());
+    write!(output, "intervals {count}, bytes {bytes}, empty {is_empty}");
+}
+
+fn add<K: Key>(list: &mut IntervalList<K>, key: K, fragment: Data, output: &mut Output) {
+    if list.total_bytes() >= 1 << 40
+        || fragment.payload.len() >= 1 << 40
+        || list.held_fragments() >= 1 << 40
+    {
+        drop(fragment);
+        output.push_str("held already, ");
+        return;
+    }
+    match list.add(key, fragment) {
+        Ok(true) => {
+            let place = place_of(list, key);
+            write!(output, "at {place}, ");
+        }
+        Ok(false) => output.push_str("held already, "),
+        Err(fault) => output.note(Err(fault)),
+    }
+}
+
+/// How many intervals begin before the key, but the one that has it.
+fn place_of<K: Key>(list: &IntervalList<K>, key: K) -> usize {
+    for place in 0..list.len() {
+        match list.key_at(place) {
+            Some(first) if !is_before(key, first) => {}
+            _ => return place.saturating_sub(1),
+        }
+    }
+    list.len().saturating_sub(1)
+}
+
+fn is_in_turn<K: Key>(list: &IntervalList<K>, place: usize, number: u64) -> &'static str {
+    match list.key_at(place) {
+        Some(key) => yes_or_no(list.is_in_turn_at(key, number as u128)),
+        None => "refused",
+    }
+}
+
+fn take<K: Key>(list: &mut IntervalList<K>, place: usize, output: &mut Output) {
+    if list.total_bytes() >= 1 << 40 {
+        output.push_str("refused");
+        return;
+    }
+    let Some(key) = list.key_at(place) else {
+        output.push_str("refused");
+        return;
+    };
+    match list.pop_if_complete(key) {
+        Some(interval) => {
+            let bytes = interval.total_bytes();
+            show(interval, bytes, output);
+        }
+        None => output.push_str("none"),
+    }
+}
+
+fn next<K: Key>(list: &mut IntervalList<K>, number: u64, output: &mut Output) {
+    if list.total_bytes() >= 1 << 40 {
+        output.push_str("refused");
+        return;
+    }
+    match list.pop_front_if_complete_and(number as u128) {
+        Some(interval) => {
+            let bytes = interval.total_bytes();
+            show(interval, bytes, output);
+        }
+        None => output.push_str("none"),
+    }
+}
+
+/// An interval that was taken.
+fn show<K: Key>(interval: Interval<K>, bytes: usize, output: &mut Output) {
+    let first = interval.first().key;
+    show_ends(first, interval.last().key, output);
+    show_turn(&interval, first.number(), output);
+    write!(output, ", bytes {bytes}: ");
+    let payload = output.made(interval.collect_payload(output.alloc));
+    output.push_hex(&payload);
+    drop(interval);
+}
+
+fn show_ends<K: Key>(first: K, last: K, output: &mut Output) {
+    let (number, place) = (first.number(), first.place());
+    let (last_number, last_place) = (last.number(), last.place());
+    write!(output, "{number}/{place} to {last_number}/{last_place}");
+}
+
+fn show_turn<K: Key>(interval: &Interval<K>, number: u64, output: &mut Output) {
+    let is_complete = yes_or_no(interval.is_complete());
+    let is_turn = yes_or_no(interval.is_in_turn(number as u128));
+    let is_early = yes_or_no(interval.is_in_turn(number as u128 + 1));
+    write!(
+        output,
+        ", complete {is_complete}, in turn {is_turn}, at the next number {is_early}"
+    );
+}

@@ -1,0 +1,214 @@
+//! One stream on its own.
+
+ghost use Rattle.std.specs.Prelude.{◌+◌, ◌<◌, ◌^◌, IsTrue};
+ghost use Rattle.sctp_rx.specs.Delivery.{ready_bytes};
+
+use crate::output::Output;
+use crate::receiver::list::Key;
+use crate::receiver::pieces::piece;
+use crate::receiver::player::{Player, play_each};
+use crate::receiver::receiver::show_next;
+use crate::words::{Line, value, yes_or_no};
+use sctp_packet::Data;
+use sctp_rx::{
+    InterleavedKey, OrderedStream, ReadyMessages, ReassemblyKey, ReassemblyStream, TraditionalKey,
+    UnorderedInterleavedKey, UnorderedStream,
+};
+use std::alloc::AllocError;
+
+/// The first number.
+const FIRST: u64 = 1 << 32;
+
+/// Whether the sums of bytes are small, those that come with them.
+pub fn have_room(held: usize, ready: &ReadyMessages, coming: usize) -> bool
+    ensures { IsTrue result → held + ready_bytes ready.now + coming < 2 ^ 63 }
+{
+    held < 1 << 40 && ready.total_bytes() < 1 << 40 && coming < 1 << 40
+}
+
+/// A stream of either kind and form. Numbers count from 2^32 on.
+trait Stream: ReassemblyStream {
+    /// The next number of an ordered stream, the last one that came of another.
+    fn number(&self) -> u128;
+
+    /// Drops what is below the key, of an unordered stream alone.
+    fn drop_below(&mut self, first: Self::Key);
+}
+
+impl Stream for OrderedStream<TraditionalKey> {
+    fn number(&self) -> u128 {
+        self.next()
+    }
+
+    fn drop_below(&mut self, _first: TraditionalKey) {}
+}
+
+impl Stream for OrderedStream<InterleavedKey> {
+    fn number(&self) -> u128 {
+        self.next()
+    }
+
+    fn drop_below(&mut self, _first: InterleavedKey) {}
+}
+
+impl Stream for UnorderedStream<TraditionalKey> {
+    fn number(&self) -> u128 {
+        self.near() as u128
+    }
+
+    fn drop_below(&mut self, first: TraditionalKey) {
+        self.forward_to(first);
+    }
+}
+
+impl Stream for UnorderedStream<UnorderedInterleavedKey> {
+    fn number(&self) -> u128 {
+        self.near() as u128
+    }
+
+    fn drop_below(&mut self, first: UnorderedInterleavedKey) {
+        self.forward_to(first);
+    }
+}
+
+/// Whether a stream takes a message's number.
+fn is_taken(number: u64) -> bool
+    ensures some { IsTrue result → 0 < number }
+    ensures small { IsTrue result → number < 2 ^ 63 }
+{
+    number > 0 && number < 1 << 63
+}
+
+/// A stream, and the messages that are ready.
+#[derive(Drop)]
+struct Alone<S> {
+    stream: S,
+    ready: ReadyMessages,
+}
+
+/// Takes the commands of a script on an ordered stream.
+pub fn run_ordered(line: Line<'_>, script: &str, output: &mut Output) {
+    let begin = line.word(2);
+    let next = if begin.is_empty() {
+        FIRST
+    } else {
+        value(begin)
+    };
+    if next < FIRST {
+        output.push_str("refused\n");
+        return;
+    }
+    match (line.word(1), begin.is_empty()) {
+        ("tsn", true) => run_on(
+            OrderedStream::<TraditionalKey>::new(output.alloc),
+            script,
+            output,
+        ),
+        ("fsn", true) => run_on(
+            OrderedStream::<InterleavedKey>::new(output.alloc),
+            script,
+            output,
+        ),
+        ("tsn", _) => run_on(
+            OrderedStream::<TraditionalKey>::restored(output.alloc, next),
+            script,
+            output,
+        ),
+        _ => run_on(
+            OrderedStream::<InterleavedKey>::restored(output.alloc, next),
+            script,
+            output,
+        ),
+    }
+}
+
+/// Takes the commands of a script on an unordered stream.
+pub fn run_unordered(line: Line<'_>, script: &str, output: &mut Output) {
+    match line.word(1) {
+        "tsn" => run_on(
+            UnorderedStream::<TraditionalKey>::new(output.alloc),
+            script,
+            output,
+        ),
+        _ => run_on(
+            UnorderedStream::<UnorderedInterleavedKey>::new(output.alloc),
+            script,
+            output,
+        ),
+    }
+}
+
+fn run_on<S: Stream>(stream: S, script: &str, output: &mut Output)
+where
+    S::Key: Key,
+{
+    let alone = Alone {
+        stream,
+        ready: ReadyMessages::new(output.alloc),
+    };
+    play_each(alone, script, output);
+}
+
+impl<S: Stream> Player for Alone<S>
+where
+    S::Key: Key,
+{
+    /// `next`; and changes, which are answered by the state, as is `state`.
+    fn play(&mut self, line: Line<'_>, output: &mut Output) {
+        if line.word(0) == "next" {
+            show_next(self.ready.pop(), output);
+        } else {
+            self.change(line, output);
+            self.show(output);
+        }
+    }
+}
+
+impl<S: Stream> Alone<S>
+where
+    S::Key: Key,
+{
+    /// Takes a fragment, where there is room.
+    fn add(&mut self, key: S::Key, fragment: Data) -> Result<(), AllocError> {
+        let held = self.stream.queued_bytes();
+        let has_room = have_room(held, &self.ready, fragment.payload.len());
+        let is_most = self.stream.held_fragments() >= 1 << 40;
+        if !has_room || is_most || !is_taken(key.number()) {
+            drop(fragment);
+            return Ok(());
+        }
+        self.stream.add(key, fragment, &mut self.ready)
+    }
+
+    /// Takes a forward point to what is below the key.
+    fn forward(&mut self, first: S::Key) -> Result<(), AllocError> {
+        let held = self.stream.queued_bytes();
+        if !have_room(held, &self.ready, 0) || !is_taken(first.number()) {
+            return Ok(());
+        }
+        self.stream.forward(first, &mut self.ready)
+    }
+
+    /// `add NUMBER INDEX ENDS HEX`, `forward NUMBER INDEX`, `drop NUMBER INDEX`.
+    fn change(&mut self, line: Line<'_>, output: &mut Output) {
+        let key = S::Key::made(line.number(1), line.number(2));
+        match line.word(0) {
+            "add" => {
+                let fragment = piece(line, output);
+                output.note(self.add(key, fragment));
+            }
+            "forward" => output.note(self.forward(key)),
+            "drop" => self.stream.drop_below(key),
+            _ => {}
+        }
+    }
+
+    fn show(&self, output: &mut Output) {
+        let (number, bytes) = (self.stream.number(), self.stream.queued_bytes());
+        let (held, ready) = (yes_or_no(self.stream.is_held()), self.ready.len());
+        write!(
+            output,
+            "number {number}, held {held}, bytes {bytes}, ready {ready}"
+        );
+    }
+}

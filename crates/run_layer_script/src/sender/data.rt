@@ -1,0 +1,303 @@
+//! The fragments that have their TSN.
+
+use crate::output::Output;
+use crate::sender::answer::{Answer, done};
+use crate::sender::fragment::{bytes, sack, show_chunks, show_skips};
+use crate::words::Line;
+use sctp_packet::{Data, SackChunk};
+use sctp_serial::{Fsn, LifecycleId, Mid, OutgoingMessageId, PpId, SocketTime, Ssn, StreamKey};
+use sctp_state::{Events, SocketHandoverState};
+use sctp_tx_outstanding::{Discarded, OutstandingData};
+use std::alloc::Global;
+use std::collections::VecDeque;
+use std::mem;
+
+fn due(line: Line<'_>) -> Option<SocketTime> {
+    if line.flag(8) {
+        Some(line.moment(8))
+    } else {
+        None
+    }
+}
+
+/// `send STREAM SSN MESSAGE BYTES LIMIT END LIFECYCLE DUE`: an ordered fragment that is sent at moment 0, with its limit of
+/// retransmissions, and the moment from which it isn't worth sending, 0 if there is none.
+fn send(alloc: Global, data: &mut OutstandingData, line: Line<'_>) -> Answer {
+    match bytes(alloc, usize::from(line.half(4))) {
+        Ok(payload) => insert(data, payload, line),
+        Err(_) => Answer::NoMemory,
+    }
+}
+
+fn insert(data: &mut OutstandingData, payload: Vec<u8>, line: Line<'_>) -> Answer {
+    if payload.len() >= 100 {
+        drop(payload);
+        return Answer::Refused;
+    }
+    let fragment = Data {
+        stream_key: StreamKey::Ordered(line.stream(1)),
+        ssn: Ssn(line.half(2)),
+        mid: Mid(0),
+        fsn: Fsn(0),
+        ppid: PpId(53),
+        payload,
+        is_beginning: true,
+        is_end: line.flag(6),
+    };
+    let sent = data.insert(
+        OutgoingMessageId(line.whole(3)),
+        fragment,
+        SocketTime::zero(),
+        line.half(5),
+        due(line),
+        LifecycleId::new(line.number(7)),
+    );
+    match sent {
+        Ok(tsn) => Answer::Number(u64::from(tsn.0)),
+        Err(_) => Answer::NoMemory,
+    }
+}
+
+/// `sack TSN FIRST LAST`
+fn receive_sack(
+    data: &mut OutstandingData,
+    events: &mut Events,
+    line: Line<'_>,
+    output: &mut Output,
+) -> Answer {
+    match sack(output.alloc, line.tsn(1), line.half(2), line.half(3)) {
+        Ok(chunk) => {
+            let answer = handle(data, &chunk, events, output);
+            drop(chunk);
+            answer
+        }
+        Err(_) => Answer::NoMemory,
+    }
+}
+
+fn handle(
+    data: &mut OutstandingData,
+    chunk: &SackChunk,
+    events: &mut Events,
+    output: &mut Output,
+) -> Answer {
+    let (tsn, blocks) = (chunk.cumulative_tsn_ack, chunk.gap_ack_blocks.as_slice());
+    if !data.is_sack_valid(tsn, blocks) {
+        return Answer::Refused;
+    }
+    let mut spares = Vec::new(output.alloc);
+    match data.handle_sack(tsn, blocks, false, &mut spares, events) {
+        Ok(info) => {
+            write!(
+                output,
+                "AckInfo {{ bytes_acked: {}, has_packet_loss: {} }}",
+                info.bytes_acked, info.has_packet_loss
+            );
+            Answer::Text
+        },
+        Err(_) => Answer::NoMemory,
+    }
+}
+
+/// `point SIZE`: the forward point whose chunk has at most so many bytes.
+fn point(data: &OutstandingData, size: usize, output: &mut Output) -> Answer {
+    if data.is_interleaved() {
+        match data.create_iforward_tsn(size) {
+            Ok(chunk) => {
+                let tsn = u64::from(chunk.new_cumulative_tsn.0);
+                let answer = show_skips(output, tsn, &chunk.skipped_streams);
+                drop(chunk);
+                answer
+            }
+            Err(_) => Answer::NoMemory,
+        }
+    } else {
+        match data.create_forward_tsn(size) {
+            Ok(chunk) => {
+                let tsn = u64::from(chunk.new_cumulative_tsn.0);
+                let answer = show_skips(output, tsn, &chunk.skipped_streams);
+                drop(chunk);
+                answer
+            }
+            Err(_) => Answer::NoMemory,
+        }
+    }
+}
+
+fn push_discarded(output: &mut Output, message: Discarded) {
+    write!(
+        output,
+        "Discarded {{ stream_id: {}, message_id: {} }}",
+        message.stream_id.0, message.message_id.0
+    )
+}
+
+fn push_rests(output: &mut Output, rests: &VecDeque<Discarded>) {
+    output.push_str("[");
+    for place in 0..rests.len() {
+        if place > 0 {
+            output.push_str(", ");
+        }
+        if let Some(message) = rests.get(place) {
+            push_discarded(output, *message);
+        }
+    }
+    output.push_str("]")
+}
+
+/// `rests`: the messages whose rest the send queue is to drop.
+fn rests(data: &mut OutstandingData, output: &mut Output) -> Answer {
+    let rests = data.get_unsent_messages_to_discard();
+    push_rests(output, &rests);
+    drop(rests);
+    Answer::Text
+}
+
+/// `rest`: the message whose rest the send queue is to drop.
+fn rest(data: &mut OutstandingData, output: &mut Output) -> Answer {
+    match data.get_unsent_message_to_discard() {
+        Some(message) => {
+            push_some(output, message);
+            Answer::Text
+        },
+        None => {
+            output.push_str("None");
+            Answer::Text
+        },
+    }
+}
+
+fn push_some(output: &mut Output, message: Discarded) {
+    output.push_str("Some(");
+    push_discarded(output, message);
+    output.push_str(")")
+}
+
+fn write(
+    data: &OutstandingData,
+    now: SocketTime,
+    state: &mut SocketHandoverState,
+    output: &mut Output,
+) -> Answer {
+    if data.add_to_handover_state(now, state).is_err() {
+        return Answer::NoMemory;
+    }
+    let tx = &state.tx;
+    {
+        write!(
+            output,
+            "{} {} {:?}",
+            tx.next_tsn, tx.last_cumulative_tsn_ack, tx.outstanding_data
+        );
+        Answer::Text
+    }
+}
+
+/// `record MICROSECONDS`: what is handed over at this moment.
+fn record(data: &OutstandingData, now: SocketTime, output: &mut Output) -> Answer {
+    let mut state = SocketHandoverState::empty(output.alloc);
+    let answer = write(data, now, &mut state, output);
+    drop(state);
+    answer
+}
+
+/// `rtt MOMENT TSN`
+fn round_trip(data: &OutstandingData, line: Line<'_>, output: &mut Output) -> Answer {
+    match data.measure_rtt(line.moment(1), line.tsn(2)) {
+        Some(rtt) => {
+            write!(output, "{}", rtt.as_millis());
+            Answer::Text
+        },
+        None => Answer::Nothing,
+    }
+}
+
+/// `counts`: how many fragments are in flight or missing, the bytes of their chunks, and of their payloads. `tsns`: the next,
+/// the highest outstanding, and the last that all are acknowledged to. `numbers`: the next and the last acknowledged one.
+fn count(data: &OutstandingData, verb: &str, output: &mut Output) -> Answer {
+    match verb {
+        "counts" => write!(
+            output,
+            "{} {} {}",
+            data.unacked_items(),
+            data.unacked_packet_bytes(),
+            data.unacked_payload_bytes()
+        ),
+        "tsns" => write!(
+            output,
+            "{} {} {}",
+            data.next_tsn().0,
+            data.highest_outstanding_tsn().0,
+            data.last_cumulative_acked_tsn().0
+        ),
+        _ => write!(output, "{} {}", data.next_number(), data.acked_number()),
+    };
+    Answer::Text
+}
+
+fn asked(data: &OutstandingData, line: Line<'_>) -> Answer {
+    match line.word(0) {
+        "is-empty" => Answer::Is(data.is_empty()),
+        "is-due" => Answer::Is(data.should_send_forward_tsn()),
+        "is-interleaved" => Answer::Is(data.is_interleaved()),
+        "has-lost" => Answer::Is(data.has_data_to_be_retransmitted()),
+        "has-fast" => Answer::Is(data.has_data_to_be_fast_retransmitted()),
+        "has-rests" => Answer::Is(data.has_unsent_messages_to_discard()),
+        "unwrapped" => Answer::Number(data.unwrapped(line.tsn(1))),
+        _ => Answer::Unknown,
+    }
+}
+
+/// `new TSN INTERLEAVED`: with no fragments, the first of which takes this TSN.
+fn renew(alloc: Global, data: &mut OutstandingData, line: Line<'_>) -> Answer {
+    let other = OutstandingData::new(alloc, line.tsn(1), true, line.flag(2));
+    drop(mem::replace(data, other));
+    Answer::Done
+}
+
+/// `restored TSN LAST`: the same, and all was acknowledged to the last TSN.
+fn restore(alloc: Global, data: &mut OutstandingData, line: Line<'_>) -> Answer {
+    let mut other = OutstandingData::new(alloc, line.tsn(1), true, false);
+    other.reset_sequence_numbers(line.tsn(2));
+    drop(mem::replace(data, other));
+    Answer::Done
+}
+
+fn change(data: &mut OutstandingData, events: &mut Events, line: Line<'_>) -> Answer {
+    match line.word(0) {
+        "time-out" => done(data.nack_all(events)),
+        "expire" => done(data.expire_outstanding_chunks(line.moment(1), events)),
+        "begin-reset" => done(data.begin_reset_streams()),
+        _ => asked(data, line),
+    }
+}
+
+/// `resend SIZE WINDOW` · `resend-fast SIZE`: the chunks that are sent again.
+pub fn answer(
+    data: &mut OutstandingData,
+    events: &mut Events,
+    line: Line<'_>,
+    output: &mut Output,
+) -> Answer {
+    match line.word(0) {
+        "new" => renew(output.alloc, data, line),
+        "restored" => restore(output.alloc, data, line),
+        "send" => send(output.alloc, data, line),
+        "sack" => receive_sack(data, events, line, output),
+        "point" => point(data, line.size(1), output),
+        "resend" => {
+            let chunks = data.get_chunks_to_be_retransmitted(line.size(1), line.size(2));
+            show_chunks(output, chunks)
+        }
+        "resend-fast" => {
+            let chunks = data.get_chunks_to_be_fast_retransmitted(line.size(1));
+            show_chunks(output, chunks)
+        }
+        "rest" => rest(data, output),
+        "rests" => rests(data, output),
+        "record" => record(data, line.fine_moment(1), output),
+        "rtt" => round_trip(data, line, output),
+        "counts" | "tsns" | "numbers" => count(data, line.word(0), output),
+        _ => change(data, events, line),
+    }
+}

@@ -1,0 +1,177 @@
+//! The send queue.
+
+use crate::output::Output;
+use crate::sender::answer::{Answer, done};
+use crate::sender::fragment::{bytes, show_sent};
+use crate::words::Line;
+use sctp_serial::{LifecycleId, Message, OutgoingMessageId, PpId, SocketTime, StreamId};
+use sctp_state::{Events, Options, SendOptions, SocketHandoverState};
+use sctp_tx_queue::SendQueue;
+use std::alloc::Global;
+use std::mem;
+
+/// More bytes are not accepted.
+const MANY: usize = 20_000;
+
+/// `accept STREAM BYTES` at moment 0, and behind these: `accept-named` a lifecycle id, `accept-short` that and a lifetime,
+/// `accept-once` that and no retransmission.
+fn accept(alloc: Global, queue: &mut SendQueue, line: Line<'_>) -> Answer {
+    match bytes(alloc, line.size(2)) {
+        Ok(payload) => add(queue, line.stream(1), payload, &options_of(line)),
+        Err(_) => Answer::NoMemory,
+    }
+}
+
+fn add(queue: &mut SendQueue, id: StreamId, payload: Vec<u8>, options: &SendOptions) -> Answer {
+    if payload.is_empty() || payload.len() > MANY || queue.total_buffered_amount() > MANY {
+        drop(payload);
+        return Answer::Refused;
+    }
+    let message = Message::new(id, PpId(53), payload);
+    match queue.add(SocketTime::zero(), message, options) {
+        Ok(id) => Answer::Number(u64::from(id.0)),
+        Err(_) => Answer::NoMemory,
+    }
+}
+
+fn options_of(line: Line<'_>) -> SendOptions {
+    let mut options = SendOptions::default();
+    options.lifecycle_id = LifecycleId::new(line.number(3));
+    match line.word(0) {
+        "accept-short" => options.lifetime = Some(line.millis(4)),
+        "accept-once" => options.max_retransmissions = Some(0),
+        _ => {}
+    }
+    options
+}
+
+/// `produce MOMENT MOST`: the next fragment.
+fn produce(
+    queue: &mut SendQueue,
+    events: &mut Events,
+    line: Line<'_>,
+    output: &mut Output,
+) -> Answer {
+    let most = line.size(2);
+    if most == 0 {
+        return Answer::Refused;
+    }
+    show_sent(output, queue.produce(line.moment(1), most, events))
+}
+
+/// `request MOST`: the streams that go into a request.
+fn request(queue: &mut SendQueue, most: usize, output: &mut Output) -> Answer {
+    match queue.get_streams_ready_to_reset(most) {
+        Ok(ids) => {
+            write!(output, "{ids:?}");
+            Answer::Text
+        },
+        Err(_) => Answer::NoMemory,
+    }
+}
+
+/// `options TOTAL STREAM`: another queue, with these low thresholds.
+fn restart(alloc: Global, queue: &mut SendQueue, line: Line<'_>) -> Answer {
+    let mut options = Options::default();
+    options.total_buffered_amount_low_threshold = line.size(1);
+    options.default_stream_buffered_amount_low_threshold = line.size(2);
+    drop(mem::replace(queue, SendQueue::new(alloc, &options)));
+    Answer::Done
+}
+
+fn write(
+    queue: &SendQueue,
+    now: SocketTime,
+    state: &mut SocketHandoverState,
+    output: &mut Output,
+) -> Answer {
+    if queue.add_to_handover_state(now, state).is_err() {
+        return Answer::NoMemory;
+    }
+    let tx = &state.tx;
+    {
+        write!(
+            output,
+            "{} {:?} {:?}",
+            tx.next_outgoing_message_id, tx.streams, tx.queued_messages
+        );
+        Answer::Text
+    }
+}
+
+/// `record MICROSECONDS`: what is handed over at this moment.
+fn record(queue: &SendQueue, line: Line<'_>, output: &mut Output) -> Answer {
+    let mut state = SocketHandoverState::empty(output.alloc);
+    let answer = write(queue, line.fine_moment(1), &mut state, output);
+    drop(state);
+    answer
+}
+
+fn number_asked(queue: &SendQueue, line: Line<'_>) -> Option<u64> {
+    let id = line.stream(1);
+    match line.word(0) {
+        "amount" => Some(queue.buffered_amount(id) as u64),
+        "total" => Some(queue.total_buffered_amount() as u64),
+        "priority" => Some(u64::from(queue.get_priority(id))),
+        "threshold" => Some(queue.buffered_amount_low_threshold(id) as u64),
+        "readiness" => Some(u64::from(queue.get_handover_readiness(line.flag(1)).0)),
+        _ => None,
+    }
+}
+
+fn is_asked(queue: &SendQueue, line: Line<'_>) -> Answer {
+    match line.word(0) {
+        "is-empty" => Answer::Is(queue.is_empty()),
+        "has-data" => Answer::Is(queue.has_data_to_send()),
+        "has-ready" => Answer::Is(queue.has_streams_ready_to_be_reset()),
+        "is-interleaved" => Answer::Is(queue.is_interleaved()),
+        _ => Answer::Unknown,
+    }
+}
+
+fn asked(queue: &SendQueue, line: Line<'_>) -> Answer {
+    match number_asked(queue, line) {
+        Some(number) => Answer::Number(number),
+        None => is_asked(queue, line),
+    }
+}
+
+fn change(queue: &mut SendQueue, events: &mut Events, line: Line<'_>) -> Answer {
+    let id = line.stream(1);
+    match line.word(0) {
+        "set-threshold" => {
+            done(queue.set_buffered_amount_low_threshold(id, line.size(2), events))
+        }
+        "set-priority" => done(queue.set_priority(id, line.half(2))),
+        "discard" => done(queue.discard(id, OutgoingMessageId(line.whole(2)), events)),
+        "prepare" => done(queue.prepare_reset_stream(id, events)),
+        "commit" => done(queue.commit_reset_streams(&[id])),
+        "roll-back" => done(queue.rollback_reset_streams(&[id])),
+        "reset" => done(queue.reset()),
+        _ => asked(queue, line),
+    }
+}
+
+pub fn answer(
+    queue: &mut SendQueue,
+    events: &mut Events,
+    line: Line<'_>,
+    output: &mut Output,
+) -> Answer {
+    match line.word(0) {
+        "accept" | "accept-named" | "accept-short" | "accept-once" => accept(
+            output.alloc,
+            queue,
+            line,
+        ),
+        "produce" => produce(queue, events, line, output),
+        "request" => request(queue, line.size(1), output),
+        "record" => record(queue, line, output),
+        "interleave" => {
+            queue.enable_message_interleaving(true);
+            Answer::Done
+        }
+        "options" => restart(output.alloc, queue, line),
+        _ => change(queue, events, line),
+    }
+}

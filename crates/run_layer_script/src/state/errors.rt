@@ -1,0 +1,132 @@
+//! `errors`: why calls fail, in words and by number. A command is the name of a call and of an error.
+
+use crate::output::Output;
+use crate::state::answer::{Answer, Subject, run_commands};
+use crate::words::Line;
+use sctp_state::{
+    BatchFault, BatchSendError, CallError, HandoverError, HandoverReadiness, ResetStreamsError,
+    RestoreError, SendError,
+};
+
+#[derive(Clone, Copy)]
+struct Errors;
+
+pub fn run(commands: &str, output: &mut Output) {
+    run_commands(commands, output, &mut Errors);
+}
+
+impl Subject for Errors {
+    fn obey(&mut self, line: Line<'_>, output: &mut Output) -> Answer {
+        match line.word(0) {
+            "too-large" => too_large(line.numbers(), output),
+            "send" => send(line.last(), output),
+            "batch" => batch(line.last(), output),
+            "call" => call(line.last(), output),
+            "reset" => reset(line.last(), output),
+            "hand-over" => hand_over(line.last(), output),
+            "restore" => restore(line.last(), output),
+            _ => Answer::Unknown,
+        }
+    }
+}
+
+/// `too-large LENGTH LIMIT`
+fn too_large(numbers: [u64; 4], output: &mut Output) -> Answer {
+    let [len, limit, _, _] = numbers;
+    let error = SendError::MessageTooLarge {
+        len: len as usize,
+        limit: limit as usize,
+    };
+    output.show_error(&error, error.number())
+}
+
+fn send(name: &str, output: &mut Output) -> Answer {
+    let error = match name {
+        "empty-payload" => SendError::EmptyPayload,
+        "shutting-down" => SendError::ShuttingDown,
+        "resource-exhaustion" => SendError::ResourceExhaustion,
+        "memory" => SendError::Memory,
+        "failed" => SendError::Failed,
+        _ => return Answer::Unknown,
+    };
+    output.show_error(&error, error.number())
+}
+
+fn batch(name: &str, output: &mut Output) -> Answer {
+    match name {
+        "refused" => refused_batch(output),
+        "memory" => show_batch(&BatchFault::Memory, output),
+        "failed" => show_batch(&BatchFault::Failed, output),
+        _ => Answer::Unknown,
+    }
+}
+
+fn show_batch(fault: &BatchFault, output: &mut Output) -> Answer {
+    output.show_error(fault, fault.number())
+}
+
+/// The second message of a batch is empty.
+fn refused_batch(output: &mut Output) -> Answer {
+    match vec![in output.alloc; (1usize, SendError::EmptyPayload)] {
+        Ok(errors) => {
+            let fault = BatchFault::Refused(BatchSendError(errors));
+            let answer = show_batch(&fault, output);
+            drop(fault);
+            answer
+        }
+        Err(_) => Answer::NoMemory,
+    }
+}
+
+fn call(name: &str, output: &mut Output) -> Answer {
+    let error = match name {
+        "memory" => CallError::Memory,
+        "failed" => CallError::Failed,
+        _ => return Answer::Unknown,
+    };
+    output.show(&error);
+    {
+        write!(output, " ({})", error as u8);
+        Answer::Done
+    }
+}
+
+fn reset(name: &str, output: &mut Output) -> Answer {
+    let error = match name {
+        "not-connected" => ResetStreamsError::NotConnected,
+        "not-supported" => ResetStreamsError::NotSupported,
+        "memory" => ResetStreamsError::Memory,
+        "failed" => ResetStreamsError::Failed,
+        _ => return Answer::Unknown,
+    };
+    output.show(&error);
+    {
+        write!(output, " ({})", error as u8);
+        Answer::Done
+    }
+}
+
+fn hand_over(name: &str, output: &mut Output) -> Answer {
+    let error = match name {
+        "not-ready" => HandoverError::NotReady(HandoverReadiness::PENDING_STREAM_RESET),
+        "memory" => HandoverError::Memory,
+        "failed" => HandoverError::Failed,
+        _ => return Answer::Unknown,
+    };
+    output.show_error(&error, error.number())
+}
+
+fn restore(name: &str, output: &mut Output) -> Answer {
+    let error = match name {
+        "socket-not-closed" => RestoreError::SocketNotClosed,
+        "invalid-state" => RestoreError::InvalidState,
+        "memory" => RestoreError::Memory,
+        "failed" => RestoreError::Failed,
+        _ => return Answer::Unknown,
+    };
+    output.show(&error);
+    {
+        write!(output, " ({})", error as u8);
+        Answer::Done
+    }
+}

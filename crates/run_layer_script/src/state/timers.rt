@@ -1,0 +1,99 @@
+//! `timer MS RESTARTS MS fixed` or `.. exponential`: a timer, by its duration, its greatest count of restarts, its longest wait and
+//! how its waits grow. A word that is no number sets no limit.
+//!
+//! `timeout`: the retransmission timeout, by the samples of a round trip time.
+
+use crate::output::Output;
+use crate::state::answer::{Answer, Subject, run_commands};
+use crate::state::options::set_option;
+use crate::words::Line;
+use sctp_serial::SocketTime;
+use sctp_state::{BackoffAlgorithm, Options, RetransmissionTimeout, Timer};
+use std::time::Duration;
+
+fn timer(line: Line<'_>) -> Timer {
+    let [duration, restarts, longest, _] = line.numbers();
+    let backoff = if line.last() == "fixed" {
+        BackoffAlgorithm::Fixed
+    } else {
+        BackoffAlgorithm::Exponential
+    };
+    let longest = if longest == u64::MAX {
+        None
+    } else {
+        Some(Duration::from_millis(longest))
+    };
+    let restarts = u32::try_from(restarts).ok();
+    Timer::new(Duration::from_millis(duration), backoff, restarts, longest)
+}
+
+pub fn run(line: Line<'_>, commands: &str, output: &mut Output) {
+    let mut timer = timer(line);
+    run_commands(commands, output, &mut timer);
+}
+
+impl Subject for Timer {
+    /// `start MS`, `expire MS`, `duration MS`, `stop`, `running`, `next`, `lasts`.
+    fn obey(&mut self, line: Line<'_>, _output: &mut Output) -> Answer {
+        let time = line.millis(1);
+        match line.word(0) {
+            "start" => self.start(SocketTime::zero() + time),
+            "expire" => return Answer::Flag(self.expire(SocketTime::zero() + time)),
+            "duration" => self.set_duration(time),
+            "stop" => self.stop(),
+            name => return ask(self, name),
+        }
+        Answer::Done
+    }
+}
+
+fn ask(timer: &Timer, name: &str) -> Answer {
+    match name {
+        "running" => Answer::Flag(timer.is_running()),
+        "next" => next(timer),
+        "lasts" => Answer::Number(timer.duration().as_nanos()),
+        _ => Answer::Unknown,
+    }
+}
+
+/// The next expiry, in nanoseconds; "no" for the infinite future.
+fn next(timer: &Timer) -> Answer {
+    let next = timer.next_expiry();
+    if next == SocketTime::infinite_future() {
+        return Answer::Flag(false);
+    }
+    Answer::Number(next.as_nanos())
+}
+
+/// The options that a timeout is made with, and the timeout.
+#[derive(Drop)]
+struct Estimate {
+    options: Options,
+    timeout: RetransmissionTimeout,
+}
+
+pub fn run_timeout(commands: &str, output: &mut Output) {
+    let options = Options::default();
+    let timeout = RetransmissionTimeout::new(&options);
+    let mut estimate = Estimate { options, timeout };
+    run_commands(commands, output, &mut estimate);
+}
+
+impl Subject for Estimate {
+    /// `rto` and `srtt`, in whole milliseconds; `sample MS`; or an option, with which the timeout begins anew.
+    fn obey(&mut self, line: Line<'_>, _output: &mut Output) -> Answer {
+        match line.word(0) {
+            "rto" => Answer::Number(self.timeout.rto().as_millis()),
+            "srtt" => Answer::Number(self.timeout.srtt().as_millis()),
+            "sample" => {
+                self.timeout.observe_rto(line.millis(1));
+                Answer::Done
+            }
+            name => {
+                let answer = set_option(&mut self.options, name, line.number(1));
+                self.timeout = RetransmissionTimeout::new(&self.options);
+                answer
+            }
+        }
+    }
+}

@@ -1,0 +1,96 @@
+//! A builder of packets from port 5000 to port 5001 with the tag 321.
+
+use crate::output::Output;
+use crate::wire::chunks;
+use crate::wire::show::{Hex, refuse};
+use sctp_packet::{Chunk, Data, DataChunk, SctpPacketBuilder};
+use sctp_serial::Tsn;
+use std::alloc::Global;
+use std::mem;
+
+pub fn empty(alloc: Global, limit: usize) -> SctpPacketBuilder {
+    SctpPacketBuilder::new(alloc, 321, 5000, 5001, limit)
+}
+
+/// Whether the line was a command; `number` is 0 where it has none.
+pub fn answer(
+    output: &mut Output,
+    builder: &mut SctpPacketBuilder,
+    name: &str,
+    number: u32,
+) -> bool {
+    match name {
+        "builder" => limit(output, builder, number as usize),
+        "unsummed" => writeln!(output, "{}", Hex(builder.unsummed())),
+        "no-checksum" => builder.write_checksum(false),
+        "build" => build(output, builder, number),
+        "data" => data(output, builder, number as usize),
+        "fragment" => fragment(output),
+        _ => return false,
+    }
+    true
+}
+
+fn limit(output: &mut Output, builder: &mut SctpPacketBuilder, limit: usize) {
+    drop(mem::replace(builder, empty(output.alloc, limit)));
+    room(output, builder);
+}
+
+fn room(output: &mut Output, builder: &SctpPacketBuilder) {
+    writeln!(
+        output,
+        "empty: {}, room {}",
+        builder.is_empty(),
+        builder.bytes_remaining()
+    );
+}
+
+/// Adds the chunk where it fits.
+pub fn add(output: &mut Output, builder: &mut SctpPacketBuilder, bytes: &[u8]) {
+    match chunks::first(output.alloc, bytes) {
+        Ok(chunk) => {
+            add_chunk(output, builder, &chunk);
+            drop(chunk);
+        }
+        Err(fault) => refuse(output, fault),
+    }
+}
+
+fn add_chunk(output: &mut Output, builder: &mut SctpPacketBuilder, chunk: &Chunk) {
+    if builder.fits(chunk) {
+        output.note(builder.add(chunk));
+        room(output, builder);
+    } else {
+        output.push_str("does not fit\n");
+    }
+}
+
+fn build(output: &mut Output, builder: &mut SctpPacketBuilder, word: u32) {
+    let packet = builder.build(word);
+    writeln!(output, "{}", Hex(&packet));
+    room(output, builder);
+}
+
+/// Whether a DATA chunk of so many bytes fits.
+fn data(output: &mut Output, builder: &SctpPacketBuilder, size: usize) {
+    let payload = output.made(vec![in output.alloc; 0u8; size]);
+    let chunk = data_of(output.alloc, payload);
+    writeln!(output, "{}", builder.fits(&chunk));
+    drop(chunk);
+}
+
+fn data_of(alloc: Global, payload: Vec<u8>) -> Chunk {
+    let mut data = Data::empty(alloc);
+    data.payload = payload;
+    Chunk::Data(DataChunk {
+        tsn: Tsn(1),
+        data,
+        immediate_ack: false,
+    })
+}
+
+fn fragment(output: &mut Output) {
+    let data = Data::empty(output.alloc);
+    writeln!(output, "{data:?}");
+    chunks::order(output, data.stream_key);
+}

@@ -1,0 +1,107 @@
+//! Packets, read and built again.
+
+use crate::output::Output;
+use crate::wire::show::{Hex, refuse};
+use sctp_crc32c::crc32c_of;
+use sctp_packet::{Chunk, PacketView, SctpPacket, SctpPacketBuilder, chunk_fits};
+use sctp_wire::Policy;
+
+/// The greatest packet.
+const LIMIT: usize = 65535;
+
+/// No packet has more chunks: each has at least four bytes.
+const MOST_CHUNKS: usize = LIMIT / 4;
+
+/// Lets every checksum through: CRC32c is the caller's.
+pub fn unchecked() -> Policy {
+    Policy {
+        disable_checksum_verification: true,
+        ..Policy::default()
+    }
+}
+
+/// The CRC32c of the bytes, and its own bytes as they are written.
+pub fn crc32c(output: &mut Output, bytes: &[u8]) {
+    let word = crc32c_of(bytes);
+    writeln!(
+        output,
+        "{} {}",
+        Hex(&word.to_be_bytes()),
+        Hex(&word.to_le_bytes())
+    );
+}
+
+/// A packet whose bytes have the checksum `word`.
+pub fn read(output: &mut Output, bytes: &[u8], word: u32, policy: &Policy) {
+    match SctpPacket::from_bytes(output.alloc, bytes, word, policy) {
+        Ok(packet) => {
+            show(output, &packet, bytes);
+            drop(packet);
+        }
+        Err(fault) => refuse(output, fault),
+    }
+}
+
+/// The chunks of a packet where they lie.
+pub fn look(output: &mut Output, bytes: &[u8], word: u32, policy: &Policy) {
+    match PacketView::new(bytes, word, policy) {
+        Ok(view) => walk(output, view),
+        Err(fault) => refuse(output, fault),
+    }
+}
+
+fn walk(output: &mut Output, mut view: PacketView<'_>) {
+    for _ in 0..MOST_CHUNKS {
+        let Some(chunk) = view.next_chunk() else {
+            return;
+        };
+        match chunk.data_view() {
+            Some(fragment) => writeln!(output, "{fragment:?}"),
+            None => writeln!(output, "{chunk:?}"),
+        }
+    }
+}
+
+/// What the packet's chunks say, and whether it is written alike.
+pub fn show(output: &mut Output, packet: &SctpPacket, bytes: &[u8]) {
+    writeln!(output, "{} chunks", packet.chunks.len());
+    for chunk in &packet.chunks {
+        writeln!(output, "{chunk}");
+    }
+    let header = packet.common_header;
+    let mut builder = SctpPacketBuilder::new(
+        output.alloc,
+        header.verification_tag,
+        header.source_port,
+        header.destination_port,
+        LIMIT,
+    );
+    add_all(output, &mut builder, &packet.chunks);
+    show_built(output, &mut builder, header.checksum, bytes);
+    drop(builder);
+}
+
+/// Whether what was built is these bytes.
+fn show_built(output: &mut Output, builder: &mut SctpPacketBuilder, checksum: u32, bytes: &[u8]) {
+    let room = builder.bytes_remaining();
+    let is_alike = is_padded_as(bytes, &builder.build(checksum));
+    writeln!(output, "written alike: {is_alike}, room {room}");
+}
+
+/// Those that fit.
+fn add_all(output: &mut Output, builder: &mut SctpPacketBuilder, chunks: &[Chunk]) {
+    for chunk in chunks {
+        if builder.fits(chunk) {
+            chunk_fits(chunk);
+            output.note(builder.add(chunk));
+        }
+    }
+}
+
+/// Whether it is the bytes, but for the zeros that bring it to a multiple of four.
+fn is_padded_as(bytes: &[u8], again: &[u8]) -> bool {
+    match again.strip_prefix(bytes) {
+        Some(padding) => again.len() % 4 == 0 && matches!(padding, [] | [0] | [0, 0] | [0, 0, 0]),
+        None => false,
+    }
+}
