@@ -37,6 +37,10 @@ use Rattle.proof_awake.proofs.RowLemmas.{Going, EndHolds, where_open_holds, send
 with_reassembly : (b : Bool) (t : Tcb) (r : Reassembly) → BlockHolds b t → BlockHolds b (record t { reassembly = r })
 with_reassembly b t r h = record { sender = h.sender; requests = h.requests; tracker = h.tracker; rtt = h.rtt }
 
+told_if_holds : (b opens : Bool) (t : Tcb) → BlockHolds b t → BlockHolds b (told_if opens t)
+told_if_holds b true t h = ack_forced b t h
+told_if_holds b false t h = h
+
 -- before it is due a timer is as it was
 not_yet : (now : ℕ) (t : Timer) → is_due now t ≡ false → expire now t ≡ t
 not_yet now t e = ap (λ b. let u : Timer = cond b (expire_once t) t in u) e
@@ -154,10 +158,6 @@ module _ {P : Type 0} where
   pub send_many_holds : (ms : List Message) (o : SendOptions) (s : EndpointState P) → EndHolds s → EndHolds (send_many ms o s)
   send_many_holds ms o s h =
       where_open_holds send_in send_in_holds s.state (offer_all ms o (shown_state s.state) s.context) (offers_hold ms o (shown_state s.state) s.state s.context h)
-
-  told_if_holds : (b opens : Bool) (t : Tcb) → BlockHolds b t → BlockHolds b (told_if opens t)
-  told_if_holds b true t h = ack_forced b t h
-  told_if_holds b false t h = h
 
   take_in_holds : (s : State) (c : Context P) → StateHolds s c.options c.heartbeats → EndHolds (take_message (record { state = s; context = c }))
   take_in_holds Closed c h = h
