@@ -204,4 +204,3 @@ pub each_stays_timed : {P : Type 0} (call : Call) (s : Endpoint P) → is_restor
 each_stays_timed call s e h =
     let b : Bool = s.endpoint_state.context.options.avoid_stalls in
     timed_as b (called call s).endpoint_state (each_call b call s e h)
-

@@ -69,6 +69,6 @@ pub calls_leave_no_line : SendingCallsLeaveNoLine
 calls_leave_no_line s h two =
     let b : Bool = s.context.options.avoid_stalls in
     record {
-  sent = λ ms o. sends_then b s.state s.context (offer_all ms o (shown_state s.state) s.context) (offers_same b ms o (shown_state s.state) s.context) two h;
-  reset = λ streams e. reset_sends b (reset_refusal s.state) streams s e two h;
-}
+      sent = λ ms o. sends_then b s.state s.context (offer_all ms o (shown_state s.state) s.context) (offers_same b ms o (shown_state s.state) s.context) two h;
+      reset = λ streams e. reset_sends b (reset_refusal s.state) streams s e two h;
+    }
