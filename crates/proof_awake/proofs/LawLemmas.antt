@@ -1,5 +1,5 @@
 -- The laws of progress.
-use Rattle.std.proofs.Common.{◌≡◌, ℕ, ◌≤◌, ◌<◌, ◌⊎◌, inl, inr, true, false, min, max, Option, Some, None, refl, arith, sym, subst}
+use Rattle.std.proofs.Common.{not, Bool, List, ◌≡◌, ℕ, ◌≤◌, ◌<◌, ◌⊎◌, inl, inr, true, false, min, max, Option, Some, None, refl, arith, sym, subst}
 use Rattle.std.specs.Prelude.{◌==◌, is_some}
 use Rattle.rand_core.specs.Stream.{Stream}
 use Rattle.sctp_serial.specs.Time.{forever}
@@ -11,21 +11,22 @@ use Rattle.spec_endpoint.specs.Association.{Tcb, CookieEchoed, Established, Shut
 use Rattle.spec_endpoint.specs.Timers.{running_expiry, timeout_in, sends_owed}
 use Rattle.spec_endpoint.specs.Sending.{is_before_cookie_ack}
 use Rattle.sctp_tx_outstanding.specs.Forward.{is_forward_due}
-use Rattle.proof_awake.specs.Awake.{Runs, is_none, is_delayed, AckIsTimed, BeatsOn, BlockIsAwake, StateIsAwake, IsAwake}
-use Rattle.proof_awake.specs.Invariant.{HasLimits, StateHolds, IsTimed}
-use Rattle.proof_awake.specs.Laws.{EachCallKeepsTimed, IsInTime, StateIsInTime, StateIsQuiet, OnlyQuietEndsNameNoMoment, DuePointsHaveAMoment}
+use Rattle.sctp_tx_outstanding.specs.Item.{Item}
+use Rattle.proof_awake.specs.Awake.{Runs, is_none, is_delayed, AckIsTimed, BeatsOn, BlockIsAwake, WaitsForItems, StateIsAwake, IsAwake}
+use Rattle.proof_awake.specs.Invariant.{HasLimits, HasItems, StateHolds, IsTimed}
+use Rattle.proof_awake.specs.Laws.{EachCallKeepsTimed, IsInTime, BlockIsInTime, StateIsInTime, Rests, ShutIsQuiet, StateIsQuiet, OnlyQuietEndsNameNoMoment, DuePointsHaveAMoment}
 use Rattle.proof_awake.proofs.BlockLemmas.{block_awake}
-use Rattle.proof_awake.proofs.InputRowLemmas.{each_call}
+use Rattle.proof_awake.proofs.InputRowLemmas.{each_stays_timed}
 
-pub valid_times : (o : Options) → IsValid o → o.avoid_stalls ≡ false → HasLimits o
-valid_times o h off =
+pub valid_times : (o : Options) → IsValid o → HasLimits o.avoid_stalls o
+valid_times o h =
     let a = h.times.rto_min in
     let b = h.times.rto_initial in
     let c = h.times.t1_init in
     let d = h.times.t1_cookie in
     let e = h.times.delayed_ack in
     record {
-      original = off;
+      stalls = refl;
       rto_range = h.times.rto_range;
       rto_min = omega (arith, a);
       rto_initial = omega (arith, b);
@@ -38,24 +39,28 @@ valid_times o h off =
       cwnd_min = h.windows.min_least;
     }
 
-pub new_ends : {P : Type 0} (o : Options) (pack : Packing P) (draws : Stream) → IsValid o → o.avoid_stalls ≡ false → IsTimed (fresh o pack draws).endpoint_state
-new_ends o pack draws h off = record { options = valid_times o h off; restarts = refl; interval = tt }
+pub new_ends : {P : Type 0} (o : Options) (pack : Packing P) (draws : Stream) → IsValid o → IsTimed (fresh o pack draws).endpoint_state
+new_ends o pack draws h = record { options = valid_times o h; restarts = refl; interval = tt }
 
 pub calls_keep : EachCallKeepsTimed
-calls_keep call s e h = each_call call s e h
+calls_keep call s e h = each_stays_timed call s e h
 
-state_awake : (s : State) (o : Options) (h : Heartbeats) → StateHolds s o h → StateIsAwake s h
-state_awake Closed o h k = tt
-state_awake (CookieWait tag first t1) o h k = k.1
-state_awake (Open (CookieEchoed t1 cookie) t) o h k = (k.1.0, block_awake false t k.1.1)
-state_awake (Open Established t) o h k = (k.0.interval, block_awake false t k.1.1)
-state_awake (Open ShutdownPending t) o h k = (k.1.1.sender.some, block_awake true t k.1.1)
-state_awake (Open (ShutdownSent t2) t) o h k = (k.1.0, block_awake false t k.1.1)
-state_awake (Open ShutdownReceived t) o h k = (k.1.1.sender.some, block_awake true t k.1.1)
-state_awake (Open (ShutdownAckSent t2) t) o h k = (k.1.0, block_awake false t k.1.1)
+waits_awake : (avoids : Bool) (kept : List Item) → HasItems (not avoids) kept → WaitsForItems avoids kept
+waits_awake true kept h = tt
+waits_awake false kept h = h
+
+state_awake : (avoids : Bool) (s : State) (o : Options) (h : Heartbeats) → StateHolds avoids s o h → StateIsAwake avoids s h
+state_awake avoids Closed o h k = tt
+state_awake avoids (CookieWait tag first t1) o h k = k.1
+state_awake avoids (Open (CookieEchoed t1 cookie) t) o h k = (k.1.0, block_awake false t k.1.1)
+state_awake avoids (Open Established t) o h k = (k.0.interval, block_awake false t k.1.1)
+state_awake avoids (Open ShutdownPending t) o h k = (waits_awake avoids t.sender.outstanding.items.kept k.1.1.sender.some, block_awake (not avoids) t k.1.1)
+state_awake avoids (Open (ShutdownSent t2) t) o h k = (k.1.0, block_awake false t k.1.1)
+state_awake avoids (Open ShutdownReceived t) o h k = (waits_awake avoids t.sender.outstanding.items.kept k.1.1.sender.some, block_awake (not avoids) t k.1.1)
+state_awake avoids (Open (ShutdownAckSent t2) t) o h k = (k.1.0, block_awake false t k.1.1)
 
 pub awake : {P : Type 0} (s : EndpointState P) → IsTimed s → IsAwake s
-awake s h = state_awake s.state s.context.options s.context.heartbeats h
+awake s h = state_awake s.context.options.avoid_stalls s.state s.context.options s.context.heartbeats h
 
 -- ---- moments
 
@@ -108,30 +113,33 @@ module _ {P : Type 0} (t : Tcb) (c : Context P) (k : BlockIsAwake t) (l : foreve
   waits_on : IsInTime t.sender.t3 → is_none t.sender.outstanding.items.kept ≡ false → ⊥
   waits_on f e = let z = items_rest f in cc
 
-quiet_in : {P : Type 0} (s : State) (c : Context P) → StateIsAwake s c.heartbeats → c.now < forever → StateIsInTime s c.heartbeats → timeout_in s c ≡ forever → StateIsQuiet s c.heartbeats
-quiet_in Closed c k l f e = tt
-quiet_in (CookieWait tag first t1) c k l f e = unnamed t1 f (last (next_expiry t1) c.now l e) k
-quiet_in (Open (CookieEchoed t1 cookie) t) c k l f e = absurd (unnamed t1 f.phase_timer (last (next_expiry t1) c.now l e) k.0)
-quiet_in (Open Established t) c k l f e =
+  rests : {phase : Phase} → BlockIsInTime phase t h → Rests t
+  rests f = record { nothing_kept = items_rest f.t3; no_request = request_rests f.request; no_ack = ack_rests f.delay }
+
+  -- with stalls avoided it may wait for the queue alone
+  shut_rests : {phase : Phase} (avoids : Bool) → WaitsForItems avoids t.sender.outstanding.items.kept → BlockIsInTime phase t h → ShutIsQuiet avoids t
+  shut_rests true w f = rests f
+  shut_rests false w f = absurd (waits_on f.t3 w)
+
+quiet_in : {P : Type 0} (avoids : Bool) (s : State) (c : Context P) → StateIsAwake avoids s c.heartbeats → c.now < forever → StateIsInTime s c.heartbeats → timeout_in s c ≡ forever
+    → StateIsQuiet avoids s c.heartbeats
+quiet_in avoids Closed c k l f e = tt
+quiet_in avoids (CookieWait tag first t1) c k l f e = unnamed t1 f (last (next_expiry t1) c.now l e) k
+quiet_in avoids (Open (CookieEchoed t1 cookie) t) c k l f e = absurd (unnamed t1 f.phase_timer (last (next_expiry t1) c.now l e) k.0)
+quiet_in avoids (Open Established t) c k l f e =
     let m = last (running_expiry t c) c.now l e in
-    record {
-      connected = refl;
-      nothing_kept = items_rest t c k.1 m f.t3;
-      no_request = request_rests t c k.1 m f.request;
-      no_ack = ack_rests t c k.1 m f.delay;
-      no_heartbeats = beats_rest t c k.1 m f.interval k.0;
-    }
-quiet_in (Open ShutdownPending t) c k l f e = absurd (waits_on t c k.1 (last (running_expiry t c) c.now l e) f.t3 k.0)
-quiet_in (Open (ShutdownSent t2) t) c k l f e =
+    (rests t c k.1 m f, beats_rest t c k.1 m f.interval k.0)
+quiet_in avoids (Open ShutdownPending t) c k l f e = shut_rests t c k.1 (last (running_expiry t c) c.now l e) avoids k.0 f
+quiet_in avoids (Open (ShutdownSent t2) t) c k l f e =
     let m = last (min (next_expiry t2) (running_expiry t c)) c.now l e in
     absurd (unnamed t2 f.phase_timer (omega (arith, m)) k.0)
-quiet_in (Open ShutdownReceived t) c k l f e = absurd (waits_on t c k.1 (last (running_expiry t c) c.now l e) f.t3 k.0)
-quiet_in (Open (ShutdownAckSent t2) t) c k l f e =
+quiet_in avoids (Open ShutdownReceived t) c k l f e = shut_rests t c k.1 (last (running_expiry t c) c.now l e) avoids k.0 f
+quiet_in avoids (Open (ShutdownAckSent t2) t) c k l f e =
     let m = last (min (next_expiry t2) (running_expiry t c)) c.now l e in
     absurd (unnamed t2 f.phase_timer (omega (arith, m)) k.0)
 
 pub quiet : OnlyQuietEndsNameNoMoment
-quiet s k l f e = quiet_in s.state s.context k l f e
+quiet s k l f e = quiet_in s.context.options.avoid_stalls s.state s.context k l f e
 
 -- ---- a forward point that is due
 

@@ -27,7 +27,7 @@ use Rattle.proof_awake.proofs.SendingRowLemmas.{lost_goes}
 use Rattle.proof_awake.proofs.RowLemmas.{Going, EndHolds, Steps, shutdown_goes_on}
 use Rattle.proof_awake.proofs.LineLemmas.{none_in_line}
 
-module _ {P : Type 0} where
+module _ {P : Type 0} (avoids : Bool) where
   -- bursts are of two packets or more
   abbrev pub Big : Context P → Type 0
   Big c = 2 ≤ c.options.max_burst
@@ -140,18 +140,18 @@ module _ {P : Type 0} where
       → EndLined (open_with phase (send_with (is_before_cookie_ack phase) p t c))
   sent_lined phase p t c b l w = (big_sent (is_before_cookie_ack phase) p t c b, no_line_by phase p t c b l w)
 
-  pub buffered_lined : (phase : Phase) (t : Tcb) (c : Context P) → Big c → Going phase t c → EndLined (open_with phase (send_buffered (is_before_cookie_ack phase) t c))
+  pub buffered_lined : (phase : Phase) (t : Tcb) (c : Context P) → Big c → Going avoids phase t c → EndLined (open_with phase (send_buffered (is_before_cookie_ack phase) t c))
   buffered_lined phase t c b h =
       let m = h.0.options.mtu_least in
       let l : 44 ≤ round_down_to_4 c.options.mtu = omega (arith, m) in
       sent_lined phase (new_packet c.options t) t c b l h.1.1.sender.windows
 
   pub open_lined : (row : Phase → Tcb → Context P → EndpointState P)
-      → ((phase : Phase) (t : Tcb) (c : Context P) → Going phase t c → Lined (Open phase t) c → EndLined (row phase t c))
-      → (s : EndpointState P) → EndHolds s → EndLined s → EndLined (where_open row s)
+      → ((phase : Phase) (t : Tcb) (c : Context P) → Going avoids phase t c → Lined (Open phase t) c → EndLined (row phase t c))
+      → (s : EndpointState P) → EndHolds avoids s → EndLined s → EndLined (where_open row s)
   open_lined row f s h l = by s.state s.context h l
     where
-      by : (st : State) (c : Context P) → EndHolds (record { state = st; context = c }) → Lined st c → EndLined (where_open row (record { state = st; context = c }))
+      by : (st : State) (c : Context P) → EndHolds avoids (record { state = st; context = c }) → Lined st c → EndLined (where_open row (record { state = st; context = c }))
       by Closed c h l = l
       by (CookieWait tag first t1) c h l = l
       by (Open phase t) c h l = f phase t c h l
@@ -216,7 +216,7 @@ module _ {P : Type 0} where
   shut_lined ShutdownReceived t c l = l
   shut_lined (ShutdownAckSent t2) t c l = (big_chunk _ t c l.0, tt)
 
-  pub on_shutdown_lined : (phase : Phase) (t : Tcb) (c : Context P) → Going phase t c → Lined (Open phase t) c → EndLined (on_shutdown phase t c)
+  pub on_shutdown_lined : (phase : Phase) (t : Tcb) (c : Context P) → Going avoids phase t c → Lined (Open phase t) c → EndLined (on_shutdown phase t c)
   on_shutdown_lined phase t c h l = shut_lined phase t c l
 
   ack_open_lined : (tag : ℕ) (phase : Phase) (t : Tcb) (c : Context P) → Lined (Open phase t) c → EndLined (on_shutdown_ack_open tag phase t c)
@@ -232,7 +232,7 @@ module _ {P : Type 0} where
   on_shutdown_ack_lined tag (CookieWait my_tag first t1) c l = out_lined (add (shutdown_complete_chunk true) (packet_to tag c.options.mtu)) (CookieWait my_tag first t1) c l
   on_shutdown_ack_lined tag (Open phase t) c l = ack_open_lined tag phase t c l
 
-  pub on_complete_lined : (phase : Phase) (t : Tcb) (c : Context P) → Going phase t c → Lined (Open phase t) c → EndLined (on_shutdown_complete phase t c)
+  pub on_complete_lined : (phase : Phase) (t : Tcb) (c : Context P) → Going avoids phase t c → Lined (Open phase t) c → EndLined (on_shutdown_complete phase t c)
   on_complete_lined (CookieEchoed t1 cookie) t c h l = l
   on_complete_lined Established t c h l = l
   on_complete_lined ShutdownPending t c h l = l
@@ -289,13 +289,13 @@ module _ {P : Type 0} where
 
   -- ---- SACK
 
-  after_lined : (t : Tcb) (o : PhaseStep P) → Steps t o → Big o.context → EndLined (send_after_sack t o)
+  after_lined : (t : Tcb) (o : PhaseStep P) → Steps avoids t o → Big o.context → EndLined (send_after_sack t o)
   after_lined t o h b =
       let x : AfterSending P = send_lost t o.context in
-      let k = lost_goes (is_established o.phase) (waits o.phase) t o.context (h.0, h.1.1) in
+      let k = lost_goes avoids (is_established o.phase) (waits avoids o.phase) t o.context (h.0, h.1.1) in
       buffered_lined o.phase x.tcb x.context (big_fast (nat_lt 0 (fast_items t.sender.outstanding.items)) t o.context b) (k.0, (h.1.0, k.1))
 
-  answered_lined : (rtt : Option ℕ) (n a_rwnd : ℕ) (blocks : List GapAckBlock) (phase : Phase) (t : Tcb) (c : Context P) → Going phase t c → Lined (Open phase t) c → EndLined (after_sack
+  answered_lined : (rtt : Option ℕ) (n a_rwnd : ℕ) (blocks : List GapAckBlock) (phase : Phase) (t : Tcb) (c : Context P) → Going avoids phase t c → Lined (Open phase t) c → EndLined (after_sack
       (Valid rtt (nat_lt 0 (sack.acked_bytes n blocks t.sender.outstanding.items))) phase (record t { sender = sender_if true c.now n a_rwnd blocks t.sender c.emitted })
       (record c { emitted = emitted_if true n blocks t.sender c.emitted }))
   answered_lined rtt n a_rwnd blocks phase t c h l =
@@ -303,18 +303,18 @@ module _ {P : Type 0} where
       let u : Tcb = record t { sender = s } in
       let progress : Bool = nat_lt 0 (sack.acked_bytes n blocks t.sender.outstanding.items) in
       let d : Context P = clear_errors_if progress (record c { emitted = emitted_if true n blocks t.sender c.emitted }) in
-      let k : BlockHolds false u = with_sender (waits phase) false t s (sack_holds c.now n a_rwnd blocks t.sender c.emitted (waits phase) true h.1.1.sender) h.1.1 in
-      after_lined (sample_rtt rtt u) (maybe_send_shutdown_or_ack phase (sample_rtt rtt u) d) (shutdown_goes_on phase (sample_rtt rtt u) d h.0 h.1.0 (sampled_holds false rtt u k))
+      let k : BlockHolds false u = with_sender (waits avoids phase) false t s (sack_holds c.now n a_rwnd blocks t.sender c.emitted (waits avoids phase) true h.1.1.sender) h.1.1 in
+      after_lined (sample_rtt rtt u) (maybe_send_shutdown_or_ack phase (sample_rtt rtt u) d) (shutdown_goes_on avoids phase (sample_rtt rtt u) d h.0 h.1.0 (sampled_holds false rtt u k))
       (big_goes_on phase (sample_rtt rtt u) d l.0)
 
-  clean_lined : (late valid : Bool) (n a_rwnd : ℕ) (blocks : List GapAckBlock) (phase : Phase) (t : Tcb) (c : Context P) → Going phase t c → Lined (Open phase t) c → EndLined (after_sack
+  clean_lined : (late valid : Bool) (n a_rwnd : ℕ) (blocks : List GapAckBlock) (phase : Phase) (t : Tcb) (c : Context P) → Going avoids phase t c → Lined (Open phase t) c → EndLined (after_sack
       (sampled_unless late (answer_if valid c.now n blocks t.sender)) phase (record t { sender = sender_if valid c.now n a_rwnd blocks t.sender c.emitted }) (record c { emitted = emitted_if valid n blocks t.sender c.emitted }))
   clean_lined true true n a_rwnd blocks phase t c h l = answered_lined None n a_rwnd blocks phase t c h l
   clean_lined false true n a_rwnd blocks phase t c h l = answered_lined (sack.sample c.now n t.sender.outstanding.items) n a_rwnd blocks phase t c h l
   clean_lined true false n a_rwnd blocks phase t c h l = l
   clean_lined false false n a_rwnd blocks phase t c h l = l
 
-  pub on_sack_lined : (k : SackTree) (s : State) (c : Context P) → EndHolds (record { state = s; context = c }) → Lined s c → EndLined (on_sack_in s k c)
+  pub on_sack_lined : (k : SackTree) (s : State) (c : Context P) → EndHolds avoids (record { state = s; context = c }) → Lined s c → EndLined (on_sack_in s k c)
   on_sack_lined k Closed c h l = l
   on_sack_lined k (CookieWait tag first t1) c h l = l
   on_sack_lined k (Open phase t) c h l = clean_lined (is_late c.options (number_of t.sender.outstanding k.cumulative_tsn_ack) t.sender.outstanding.items) (sack.is_valid _ (clean_blocks k.gap_ack_blocks) t.sender.outstanding.items) _ k.a_rwnd (clean_blocks k.gap_ack_blocks) phase t c h l

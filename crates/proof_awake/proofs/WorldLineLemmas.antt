@@ -26,7 +26,7 @@ use Rattle.proof_awake.specs.Awake.{is_restore}
 use Rattle.proof_awake.specs.Line.{HasNoLine, chunk_asks_once, all_ask_once, call_asks_once, IsLined}
 use Rattle.proof_awake.specs.Asking.{event_asks_once}
 use Rattle.proof_awake.specs.Worlds.{WorldsHaveNoLine}
-use Rattle.proof_awake.proofs.InputRowLemmas.{each_call}
+use Rattle.proof_awake.proofs.InputRowLemmas.{each_stays_timed}
 use Rattle.proof_awake.proofs.LawLemmas.{new_ends}
 use Rattle.proof_awake.proofs.WorldLemmas.{no_restore}
 use Rattle.proof_awake.proofs.LineInputLemmas.{call_lined, refused_lined}
@@ -60,7 +60,7 @@ pub record SideAsks (o : Options) (x : traces.Side) : Type 0 where
   pub packing : x.end.endpoint_state.context.pack ≡ as_carried
   pub taken : x.end.endpoint_state.context.emitted.events ≡ []
   pub asks : list_all event_asks_once x.emitted ≡ true
-  pub lined : o.avoid_stalls ≡ false → 2 ≤ o.max_burst → IsLined x.end.endpoint_state
+  pub lined : 2 ≤ o.max_burst → IsLined x.end.endpoint_state
 
 -- what is done, of all that a world does
 abbrev MayTurn : EndAction → Type 0
@@ -84,13 +84,13 @@ module _ (o : Options) (x : traces.Side) (h : SideAsks o x) where
         taken = refl;
         asks = list_all-append event_asks_once x.emitted e.endpoint_state.context.emitted.events
             ∙ and_from (list_all event_asks_once x.emitted) (list_all event_asks_once e.endpoint_state.context.emitted.events) h.asks k.emitted;
-        lined = λ off burst. let l : IsLined e.endpoint_state = f (h.lined off burst) in record { timed = l.timed; burst = l.burst; line = l.line };
+        lined = λ burst. let l : IsLined e.endpoint_state = f (h.lined burst) in record { timed = l.timed; burst = l.burst; line = l.line };
       }
 
   called_lined : (call : Call) → is_restore call ≡ false → call_asks_once call ≡ true → IsLined x.end.endpoint_state → IsLined (called call x.end).endpoint_state
   called_lined call r e l =
-      let k = call_lined call x.end r e l.timed (l.burst, l.line) in
-      record { timed = each_call call x.end r l.timed; burst = k.0; line = k.1 }
+      let k = call_lined x.end.endpoint_state.context.options.avoid_stalls call x.end r e l.timed (l.burst, l.line) in
+      record { timed = each_stays_timed call x.end r l.timed; burst = k.0; line = k.1 }
 
   given_asks : (q : Option Carried) (checksum : ℕ) → ((p : Carried) → q ≡ Some p → all_ask_once p.chunks ≡ true) → SideAsks o (give_carried q checksum x)
   given_asks None checksum f = h
@@ -101,8 +101,8 @@ module _ (o : Options) (x : traces.Side) (h : SideAsks o x) where
   refused_asks : (r : Option (List ℕ)) (p : PacketTree) → packet_refusal p.header.verification_tag p.chunks x.end.endpoint_state.state ≡ r → SideAsks o (foreign_if r p x)
   refused_asks None p is = h
   refused_asks (Some text) p is = goes_on (ReceivePacket p) x.got_init (λ l.
-      let k = refused_lined p text x.end is (l.burst, l.line) in
-      record { timed = each_call (ReceivePacket p) x.end refl l.timed; burst = k.0; line = k.1 })
+      let k = refused_lined x.end.endpoint_state.context.options.avoid_stalls p text x.end is (l.burst, l.line) in
+      record { timed = each_stays_timed (ReceivePacket p) x.end refl l.timed; burst = k.0; line = k.1 })
 
   turns : (t : EndAction) (y : traces.Side) → MayTurn t → list_all event_asks_once y.emitted ≡ true → SideAsks o (act t x y)
   turns (Calls call) y may asks = goes_on call x.got_init (called_lined call may.0 may.1)
@@ -160,7 +160,7 @@ pair_runs o q f g (action ∷ actions) (t ∷ ts) c are h =
     pair_runs o q f g actions ts (goes t.0 t.1 c) are.2 (pair_goes o q t.0 t.1 c (may_turn f g action t.1 c are.1) h)
 
 new_asks : (o : Options) (draws : Stream) → IsValid o → SideAsks o (new_side o draws)
-new_asks o draws v = record { packing = refl; taken = refl; asks = refl; lined = λ off burst. record { timed = new_ends o as_carried draws v off; burst = burst; line = tt } }
+new_asks o draws v = record { packing = refl; taken = refl; asks = refl; lined = λ burst. record { timed = new_ends o as_carried draws v; burst = burst; line = tt } }
 
 pub worlds_lined : WorldsHaveNoLine
 worlds_lined o actions w l =
@@ -169,6 +169,6 @@ worlds_lined o actions w l =
     pair_runs o.a o.b o.word_of_a o.word_of_b actions r.has.trace (start o.a o.b o.draws_a o.draws_b) r.has.are
     (record { a = new_asks o.a o.draws_a l.valid_a; b = new_asks o.b o.draws_b l.valid_b }) in
     record {
-      at_a = λ off burst. subst (λ (s : Endpoint (List ℕ)). HasNoLine s.endpoint_state) (sym r.has.images.a.socket) (k.a.lined off burst).line;
-      at_b = λ off burst. subst (λ (s : Endpoint (List ℕ)). HasNoLine s.endpoint_state) (sym r.has.images.b.socket) (k.b.lined off burst).line;
+      a = λ burst. subst (λ (s : Endpoint (List ℕ)). HasNoLine s.endpoint_state) (sym r.has.images.a.socket) (k.a.lined burst).line;
+      b = λ burst. subst (λ (s : Endpoint (List ℕ)). HasNoLine s.endpoint_state) (sym r.has.images.b.socket) (k.b.lined burst).line;
     }

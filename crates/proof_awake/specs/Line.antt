@@ -79,4 +79,4 @@ EachCallKeepsLined =
     (call : Call) (s : Endpoint (List ℕ)) → is_restore call ≡ false → call_asks_once call ≡ true → IsLined s.endpoint_state → IsLined (called call s).endpoint_state
 
 abbrev pub NewEndsAreLined : Type 0
-NewEndsAreLined = (o : Options) (pack : Packing (List ℕ)) (draws : Stream) → IsValid o → o.avoid_stalls ≡ false → 2 ≤ o.max_burst → IsLined (fresh o pack draws).endpoint_state
+NewEndsAreLined = (o : Options) (pack : Packing (List ℕ)) (draws : Stream) → IsValid o → 2 ≤ o.max_burst → IsLined (fresh o pack draws).endpoint_state

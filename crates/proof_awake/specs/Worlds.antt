@@ -1,5 +1,5 @@
 -- Each end of a world is awake between events, and has no stream in line while nothing is kept.
-use Rattle.std.specs.Prelude.{ℕ, ◌≤◌, ◌≡◌, false, List}
+use Rattle.std.specs.Prelude.{ℕ, ◌≤◌, List}
 use Rattle.rand_core.specs.Stream.{Stream}
 use Rattle.sctp_state.specs.Options.{Options, IsValid}
 use Rattle.spec_world.specs.Observations.{End}
@@ -15,13 +15,12 @@ EndsAreAwake w = (x : End) → IsAwake (side_of x w).socket.endpoint_state
 abbrev pub WorldsAreAwake : Type 0
 WorldsAreAwake =
     (options_a options_b : Options) (draws_a draws_b : Stream) (word_of_a word_of_b : List ℕ → ℕ) (actions : List Action) (w : World) → IsValid options_a → IsValid options_b
-    → options_a.avoid_stalls ≡ false → options_b.avoid_stalls ≡ false
     → Runs actions (fresh_world options_a options_b draws_a draws_b word_of_a word_of_b) w → EndsAreAwake w
 
--- an end with bursts of two packets or more, without stalls avoided
-pub record EndsHaveNoLine (a b : Options) (w : World) : Type 0 where
-  pub at_a : a.avoid_stalls ≡ false → 2 ≤ a.max_burst → HasNoLine w.a.socket.endpoint_state
-  pub at_b : b.avoid_stalls ≡ false → 2 ≤ b.max_burst → HasNoLine w.b.socket.endpoint_state
+-- an end with bursts of two packets or more
+pub record EndsHaveNoLine (burst_a burst_b : ℕ) (w : World) : Type 0 where
+  pub a : 2 ≤ burst_a → HasNoLine w.a.socket.endpoint_state
+  pub b : 2 ≤ burst_b → HasNoLine w.b.socket.endpoint_state
 
 abbrev pub WorldsHaveNoLine : Type 0
-WorldsHaveNoLine = (o : Origin) (actions : List Action) (w : World) → IsReachable o actions w → EndsHaveNoLine o.a o.b w
+WorldsHaveNoLine = (o : Origin) (actions : List Action) (w : World) → IsReachable o actions w → EndsHaveNoLine o.a.max_burst o.b.max_burst w

@@ -11,8 +11,8 @@ ghost use Rattle.proof_awake.specs.Worlds.{WorldsAreAwake, WorldsHaveNoLine};
 
 /// A new end, with valid options, and what each call leaves of one is awake: where an item is kept T3-rtx runs; where a request to
 /// reset streams waits its timer runs, and where an acknowledgement is delayed its delay; T1 and T2 run in their states, and the
-/// heartbeats' interval once connected. A shutdown waits for nothing but items. The one call that starts no timer takes up the
-/// record of a handover.
+/// heartbeats' interval once connected. A shutdown waits for nothing but items; with stalls avoided for the queue too. The one call
+/// that is left out takes up the record of a handover.
 pub fn ends_are_awake()
     ensures new { NewEndsAreTimed }
     ensures calls { EachCallKeepsTimed }
@@ -20,7 +20,7 @@ pub fn ends_are_awake()
 {}
 
 /// So `poll_timeout` names no moment only of an end that is closed, or connected with nothing kept, no request, no delayed
-/// acknowledgement and no heartbeats.
+/// acknowledgement and no heartbeats; or, with stalls avoided, whose shutdown waits for the queue alone.
 pub fn only_quiet_ends_name_no_moment()
     ensures quiet { OnlyQuietEndsNameNoMoment }
 {}

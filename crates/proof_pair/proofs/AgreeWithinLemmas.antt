@@ -18,7 +18,9 @@ use Rattle.spec_endpoint.specs.Data.{on_data_if}
 use Rattle.spec_endpoint.specs.Sack as acknowledging
 use Rattle.spec_endpoint.specs.StreamReset.{Handling, finish_reconfig_if}
 use Rattle.spec_endpoint.specs.Opening.{CookieResolution, EstablishNew, RestartDetected, SimultaneousInit, MaintainExisting, Discard, InvalidTag, new_if, resolve_by_tags, cookie_in, echo_or_abort, on_resolution, on_read_cookie}
-use Rattle.spec_endpoint.specs.Input.{AfterChunk, receive, received_if, receive_all, receive_rest, violation, on_chunk, in_endpoint_state, ack_if_due, packet_acked, shut_waiting, shut_if, on_packet_end}
+use Rattle.sctp_rx.specs.DataTracker.{is_ack_due}
+use Rattle.spec_endpoint.specs.Sending.{take_due_ack}
+use Rattle.spec_endpoint.specs.Input.{AfterChunk, receive, received_if, receive_all, receive_rest, violation, on_chunk, in_endpoint_state, ack_if_due, at_end, packet_acked, shut_waiting, shut_if, on_packet_end}
 use Rattle.spec_endpoint.specs.Laws.{ReceivePacket as Given, ReceiveNoPacket}
 use Rattle.proof_endpoint.specs.Mapped.{Carried}
 use Rattle.proof_endpoint.proofs.OpeningStepsLemmas.{end_in}
@@ -98,7 +100,7 @@ shut_open true s e = by s.state s.context e
 shut_open false s e = e
 
 acked_open : (phase : Phase) (t : Tcb) (c : Context Carried) → is_opened (packet_acked phase t c).state ≡ true
-acked_open phase t c = ended_if_open _ phase _ _
+acked_open phase t c = let u : Tcb = at_end c.now t in ended_if_open (is_ack_due false u.tracker.tracker.ack) phase (take_due_ack false u) c
 
 ended_open : (st : State) (s : Endpoint Carried) → is_opened st ≡ true → is_opened (in_endpoint_state (where_open on_packet_end) (end_in st s)).endpoint_state.state ≡ true
 ended_open Closed s e = cc

@@ -296,7 +296,8 @@ module _ (once : CallsNumberOnce) (made : MadeConnected) (call : Call) (fits : H
   keeps_time (times_init tag first old new m) = record { asked = λ h. record { association = h.association; queued = h.queued }; numbers = λ q h. h; next = λ q. refl }
   keeps_time (times_cookie old new cookie t m) = block _ _ t t m.context m.context (lasts_same t) (goes_same m.context.queue) refl
   keeps_time (times_request timer phase t m) = block phase phase t _ m.context m.context (lasts_asked t _) (goes_same m.context.queue) refl
-  keeps_time (times_items timer phase t m) = block phase phase t _ m.context m.context (lasts_asked t _) (goes_same m.context.queue) refl
+  keeps_time (times_items timer phase t m) =
+      block phase phase t _ m.context m.context (lasts_sent t (record t.sender { t3 = timer }) (stays_same t.sender.outstanding)) (goes_same m.context.queue) refl
   keeps_time (wakes_request phase t m) = block phase phase t _ m.context m.context (lasts_asked t _) (goes_same m.context.queue) refl
 
   -- ---- calls
