@@ -226,8 +226,10 @@ async def closing(bench, offerer: str) -> None:
             if closer == "ours":
                 bench.check(theirs == list(range(queued)), f"{name}: our messages came, {len(theirs)}")
             again = await pair.both(f"{name} again", {}, opener)
-            if bench.ours or opener == "browser":
+            if opener == "browser":
                 bench.check(again.channel.id == number, f"{name}: the id {number} is used again, {again.channel.id}")
+            elif bench.ours:
+                bench.check(again.channel.id != number, f"{name}: the id {number} is taken last, {again.channel.id}")
             if opener == "ours":
                 bench.check(await again.compare([(True, 1, 10)]) == (1, 0), f"{name}: the next channel works")
             else:

@@ -29,7 +29,7 @@ pub struct Channels {
     limit: usize,
     entries: Entries,
     outputs: VecDeque<Output>,
-    // no stream below it is free for this end to open: where `free_stream` begins
+    // where `free_stream` begins: behind the stream that was opened last, since a peer may still close what stands on one that was just freed
     first_candidate: u16,
 }
 
@@ -109,7 +109,8 @@ impl Channels {
         Ok(())
     }
 
-    /// The first stream of this end's parity without a channel. It is looked for from the one that was found last, or was free since.
+    /// A stream of this end's parity without a channel: the first behind the one that was opened last, or else the first of all. So one that
+    /// is free again is the last to be taken: until its peer knows that both ends have reset it, what is opened there may be closed.
     pub fn free_stream(&mut self) -> Option<StreamId>
         ensures free { IfSome result (λ id. channel_at id.0 self.old.entries ≡ None) }
         ensures own { IfSome result (λ id. is_own self.old.is_client id.0 ≡ true) }
@@ -160,6 +161,7 @@ impl Channels {
         ensures err { OnErr result (self.new ≡ self.old) }
     {
         let channel = Channel::new(self.alloc, Lifecycle::opened(), description);
+        self.first_candidate = id.0.saturating_add(1);
         self.entries.put(id.0, channel)
     }
 
@@ -235,7 +237,6 @@ impl Channels {
             self.emit(Output::Closed(id))?;
         }
         self.entries.forget(id.0);
-        self.first_candidate = self.first_candidate.min(id.0);
         Ok(())
     }
 
