@@ -98,7 +98,7 @@ none_turned old mid x n p no_turn none =
 pub arrives_settled : (x : Held) (s : OrderedStream) (hs : List Held) → nat_lt x.number s.next ≡ false → hs ≡ with_item rank_of x s.held → NoneInTurn s.next (intervals_of hs) → ordered_arrival x s ≡ at_rest s.next hs
 arrives_settled x s hs late made none = rw late (ap (deliver s.next) (sym made) ∙ deliver_ends s.next hs (not_found (is_in_turn s.next) (intervals_of hs) none))
 
-no_items : (hs : List Held) → (length hs == 0) ≡ true → hs ≡ []
+pub no_items : (hs : List Held) → (length hs == 0) ≡ true → hs ≡ []
 no_items [] none = refl
 no_items (h ∷ hs) none = absurd (omega (arith, is_zero (length (h ∷ hs)) none))
   where

@@ -13,7 +13,6 @@ mod KeyAtLemmas
 mod AtEndLemmas
 mod DroppedLemmas
 mod LowLemmas
-mod BoxedLemmas
 mod AddedLemmas
 pub mod StandsLemmas
 pub mod InterruptedQueueLemmas

@@ -1,4 +1,6 @@
 pub mod Delivery
+pub mod OrderedState
+pub mod UnorderedState
 pub mod ReassemblyStreams
 pub mod StreamIdSet
 pub mod ReassemblyQueue
@@ -8,7 +10,6 @@ pub mod ReassemblyMode
 pub mod Waiting
 pub mod Places
 pub mod Listed
-pub mod Boxed
 pub mod Turns
 pub mod ReassemblyHandover
 pub mod SettledLaws

@@ -1,94 +1,73 @@
-//! Fragments in the order of their keys, in intervals: maximal runs without a message's border inside.
+//! Intervals in the order of their keys: maximal runs of fragments without a message's border inside.
 
 ghost use Rattle.std.specs.Prelude.{◌≡◌, ◌==◌, ◌+◌, ◌<◌, ◌≤◌, ◌^◌, ◌++◌, ◌∷◌, [], not, List, true, false, length, option_map, IfOk, OnOk, OnErr, IfSome, IfNone};
 
-use crate::intervals::Intervals;
+use crate::counted::key_at;
+use crate::dropped::{all_sums_of, ends_below, take_low};
+use crate::places::{
+    add_to, begins_below, drop_first, first_key, interval_with, take_if_complete, take_in_turn,
+};
 use sctp_chunk::Data;
-use sctp_fragments::{Interval, ReassemblyKey};
+use sctp_fragments::{Entry, Interval, ReassemblyKey};
 use std::alloc::{AllocError, Global};
+use std::collections::BTreeMap;
 use std::marker::Model;
 
 /// Fragments by their keys, joined to intervals where they have one key after the other. An interval ends where a message
 /// ends, and begins where one begins: so a message is complete exactly where it is an interval.
 ///
-/// Of a list that holds nothing no more is kept than that: so a stream of which all was taken costs little.
+/// The first interval stands alone, so that a list of one takes no map. Each later one is under the key of one of its fragments,
+/// which stays where fragments come at either end: so a fragment in the middle moves no interval.
 #[derive(Drop)]
 pub struct IntervalList<K: ReassemblyKey> {
     alloc: Global,
-    // none exactly where no fragment is held
-    held: Option<Box<Intervals<K>>>,
+    first: Option<Interval<K>>,
+    later: BTreeMap<K, Interval<K>>,
+    bytes: usize,
+    fragments: usize,
 }
 
 impl<K: ReassemblyKey> Model for IntervalList<K> {
     ghost use Rattle.std.specs.Prelude.{List};
     ghost use Rattle.sctp_fragments.specs.Held.{Held};
-    ghost use Rattle.sctp_reassembly.specs.Boxed.{fragments_in, IsUsed};
+    ghost use Rattle.sctp_fragments.specs.Interval.{held_of, entries_of};
+    ghost use Rattle.sctp_reassembly.specs.Places.{all_of};
+    ghost use Rattle.sctp_reassembly.specs.Listed.{IsListed};
 
     ghost Value = { List Held };
 
-    ghost view = { λ s. fragments_in s.held };
+    ghost view = { λ s. entries_of (held_of K.number K.index) (all_of s.first s.later.entries) };
 
-    ghost invariant = { λ s. IsUsed s.held };
-}
-
-ghost use Rattle.std.specs.List.{find};
-ghost use Rattle.sctp_fragments.specs.Runs.{is_held, with_item, from_rank};
-ghost use Rattle.sctp_fragments.specs.Held.{Held, rank_of, intervals_of, bytes_of, is_complete, NoneComplete, is_in_turn, without_first_of, left_by, IsPlaced, IsTaken};
-ghost use Rattle.sctp_fragments.specs.ReassemblyKey.{rank_at};
-ghost use Rattle.sctp_fragments.specs.Interval.{as_held, held_of, run_of};
-ghost use Rattle.sctp_reassembly.specs.Boxed.{fragments_in, IsUsed};
-ghost use Rattle.sctp_reassembly.specs.UnorderedByTsn.{BeginsFrom};
-ghost use Rattle.sctp_reassembly.specs.KeyAt.{IsKeyAt};
-
-/// The intervals of one fragment.
-fn begin<K: ReassemblyKey>(
-    alloc: Global,
-    key: K,
-    fragment: Data,
-) -> Result<Box<Intervals<K>>, AllocError>
-    requires { length fragment.payload.items < 2 ^ 64 }
-    ensures value { IfOk result (λ b. b.value ≡ as_held (K.number key) (K.index key) fragment ∷ []) }
-    ensures place { IfOk result (λ b. IsPlaced [] b.value (as_held (K.number key) (K.index key) fragment)) }
-{
-    let mut intervals = Intervals::new(alloc);
-    intervals.add(key, fragment)?;
-    Ok(Box::new(alloc, intervals)?)
-}
-
-/// Whether there is memory, and no fragment in it.
-fn is_spare<K: ReassemblyKey>(held: &Option<Box<Intervals<K>>>) -> bool
-    ensures spare { result ≡ true → fragments_in held.now ≡ [] }
-    ensures used { result ≡ false → IsUsed held.now }
-{
-    match held {
-        Some(intervals) => intervals.is_empty(),
-        None => false,
-    }
-}
-
-/// Gives the memory back where no fragment is held.
-fn give_back<K: ReassemblyKey>(held: &mut Option<Box<Intervals<K>>>)
-    ensures same { fragments_in held.new ≡ fragments_in held.old }
-    ensures used { IsUsed held.new }
-{
-    if is_spare(held) {
-        *held = None;
-    }
+    ghost invariant = { λ s. IsListed K.is_key K.number K.index s.first s.later.entries s.bytes s.fragments };
 }
 
 impl<K: ReassemblyKey> IntervalList<K> {
+    ghost use Rattle.std.specs.List.{find};
+    ghost use Rattle.sctp_fragments.specs.Runs.{is_held, with_item, from_rank};
+    ghost use Rattle.sctp_fragments.specs.Held.{Held, rank_of, intervals_of, bytes_of, is_complete, NoneComplete, is_in_turn, without_first_of, left_by, IsPlaced, IsTaken};
+    ghost use Rattle.sctp_fragments.specs.ReassemblyKey.{rank_at};
+    ghost use Rattle.sctp_fragments.specs.Interval.{as_held, held_of, run_of};
+    ghost use Rattle.sctp_reassembly.specs.UnorderedByTsn.{BeginsFrom};
+    ghost use Rattle.sctp_reassembly.specs.KeyAt.{IsKeyAt};
+
     /// No fragments. Takes no memory.
     pub fn new(alloc: Global) -> IntervalList<K>
         ensures { result ≡ [] }
     {
-        IntervalList { alloc, held: None }
+        IntervalList {
+            alloc,
+            first: None,
+            later: BTreeMap::new(alloc),
+            bytes: 0,
+            fragments: 0,
+        }
     }
 
     /// Whether it holds no fragment.
     pub fn is_empty(&self) -> bool
         ensures { result ≡ (length self.now == 0) }
     {
-        self.held.is_none()
+        self.first.is_none()
     }
 
     /// The key of the first fragment.
@@ -96,40 +75,31 @@ impl<K: ReassemblyKey> IntervalList<K> {
         ensures some { IfSome result (λ k. BeginsFrom (rank_at K.number K.index k) self.now) }
         ensures none { IfNone result (self.now ≡ []) }
     {
-        match &self.held {
-            Some(intervals) => intervals.first(),
-            None => None,
-        }
+        first_key(&self.first)
     }
 
     /// How many bytes of payload it holds.
     pub fn total_bytes(&self) -> usize
         ensures { result ≡ bytes_of self.now }
     {
-        match &self.held {
-            Some(intervals) => intervals.total_bytes(),
-            None => 0,
-        }
+        self.bytes
     }
 
     /// How many fragments it holds.
     pub fn held_fragments(&self) -> usize
         ensures { result ≡ length self.now }
     {
-        match &self.held {
-            Some(intervals) => intervals.held_fragments(),
-            None => 0,
-        }
+        self.fragments
     }
 
     /// How many intervals it has.
     pub fn len(&self) -> usize
         ensures { result ≡ length (intervals_of self.now) }
     {
-        match &self.held {
-            Some(intervals) => intervals.len(),
-            None => 0,
+        if self.first.is_none() {
+            return 0;
         }
+        self.later.len() + 1
     }
 
     /// The key of the first fragment of the interval at the place.
@@ -137,10 +107,7 @@ impl<K: ReassemblyKey> IntervalList<K> {
         ensures some { IfSome result (λ k. IsKeyAt (rank_at K.number K.index k) place (intervals_of self.now)) }
         ensures none { IfNone result (length (intervals_of self.now) ≤ place) }
     {
-        match &self.held {
-            Some(intervals) => intervals.key_at(place),
-            None => None,
-        }
+        key_at(&self.first, &self.later, place)
     }
 
     /// Adds the fragment, and says whether it is new; where its key is held nothing changes. Without memory nothing changes
@@ -155,19 +122,23 @@ impl<K: ReassemblyKey> IntervalList<K> {
         ensures fragments { length self.new ≤ length self.old + 1 }
         ensures err { OnErr result (self.new ≡ self.old) }
     {
-        let Some(intervals) = &mut self.held else {
-            self.held = Some(begin(self.alloc, key, fragment)?);
-            return Ok(true);
-        };
-        intervals.add(key, fragment)
+        key.known();
+        let bytes = fragment.payload.len();
+        let entry = Entry { key, fragment };
+        if !add_to(self.alloc, &mut self.first, &mut self.later, entry)? {
+            return Ok(false);
+        }
+        self.bytes += bytes;
+        self.fragments += 1;
+        Ok(true)
     }
 
     /// Whether the interval with the key is a complete message with the number.
     pub fn is_in_turn_at(&self, key: K, number: u128) -> bool
         ensures { (front back : List (List Held)) (r : List Held) → intervals_of self.now ≡ front ++ r ∷ back → is_held rank_of (rank_at K.number K.index key) r ≡ true → result ≡ is_in_turn number r }
     {
-        match &self.held {
-            Some(intervals) => intervals.is_in_turn_at(key, number),
+        match interval_with(&self.first, &self.later, key) {
+            Some(interval) => interval.is_in_turn(number),
             None => false,
         }
     }
@@ -181,12 +152,10 @@ impl<K: ReassemblyKey> IntervalList<K> {
         ensures none { IfNone result (self.new ≡ self.old) }
         ensures incomplete { IfNone result ((front back : List (List Held)) (r : List Held) → intervals_of self.old ≡ front ++ r ∷ back → is_held rank_of (rank_at K.number K.index key) r ≡ true → is_complete r ≡ false) }
     {
-        let Some(intervals) = &mut self.held else {
-            return None;
-        };
-        let taken = intervals.pop_if_complete(key);
-        give_back(&mut self.held);
-        taken
+        let interval = take_if_complete(&mut self.first, &mut self.later, key)?;
+        self.bytes -= interval.total_bytes();
+        self.fragments -= interval.len();
+        Some(interval)
     }
 
     /// Takes out the first of the intervals that is a complete message with the number. Other intervals before it, also
@@ -198,24 +167,54 @@ impl<K: ReassemblyKey> IntervalList<K> {
         ensures bytes { IfSome result (λ i. bytes_of self.old ≡ bytes_of (run_of (held_of K.number K.index) i) + bytes_of self.new) }
         ensures fragments { IfSome result (λ i. length self.old ≡ length (run_of (held_of K.number K.index) i) + length self.new) }
     {
-        let Some(intervals) = &mut self.held else {
-            return None;
-        };
-        let taken = intervals.pop_front_if_complete_and(number);
-        give_back(&mut self.held);
-        taken
+        let interval = take_in_turn(&mut self.first, &mut self.later, number)?;
+        self.bytes -= interval.total_bytes();
+        self.fragments -= interval.len();
+        Some(interval)
     }
 
     /// Whether a fragment is before the key; else there is nothing to drop.
     pub(crate) fn begins_below(&self, key: K) -> bool
         ensures { result ≡ false → from_rank rank_of (rank_at K.number K.index key) self.now ≡ self.now }
     {
-        match &self.held {
-            Some(intervals) => intervals.begins_below(key),
-            None => false,
-        }
+        begins_below(&self.first, key)
     }
 
+    /// Whether all fragments are before the key.
+    fn ends_below(&self, key: K) -> bool
+        ensures { result ≡ true → from_rank rank_of (rank_at K.number K.index key) self.now ≡ [] }
+    {
+        ends_below(&self.first, &self.later, key)
+    }
+
+    /// Drops intervals that are before the key, by one cut: of those that begin before it at most two stay.
+    fn drop_low(&mut self, key: K)
+        ensures same { from_rank rank_of (rank_at K.number K.index key) self.new ≡ from_rank rank_of (rank_at K.number K.index key) self.old }
+        ensures others { NoneComplete (intervals_of self.old) → NoneComplete (intervals_of self.new) }
+        ensures bytes { bytes_of self.new ≤ bytes_of self.old }
+        ensures fragments { length self.new ≤ length self.old }
+    {
+        let Some(low) = take_low(&mut self.first, &mut self.later, key) else {
+            return;
+        };
+        let (bytes, fragments) = all_sums_of(&low);
+        self.bytes -= bytes;
+        self.fragments -= fragments;
+    }
+
+    /// Drops the fragments before the key, one after the other.
+    fn drop_before(&mut self, key: K)
+        ensures value { self.new ≡ from_rank rank_of (rank_at K.number K.index key) self.old }
+        ensures others { NoneComplete (intervals_of self.old) → NoneComplete (intervals_of self.new) }
+        ensures bytes { bytes_of self.new ≤ bytes_of self.old }
+        ensures fragments { length self.new ≤ length self.old }
+    {
+        while begins_below(&self.first, key) {
+            let bytes = drop_first(&mut self.first, &mut self.later);
+            self.bytes -= bytes;
+            self.fragments -= 1;
+        }
+    }
     /// Keeps the fragments from the key on, and drops those before it.
     pub fn retain(&mut self, key: K)
         ensures value { self.new ≡ from_rank rank_of (rank_at K.number K.index key) self.old }
@@ -223,15 +222,11 @@ impl<K: ReassemblyKey> IntervalList<K> {
         ensures bytes { bytes_of self.new ≤ bytes_of self.old }
         ensures fragments { length self.new ≤ length self.old }
     {
-        let Some(intervals) = &mut self.held else {
-            return;
-        };
-        if intervals.ends_below(key) {
-            self.held = None;
+        if self.ends_below(key) {
+            *self = IntervalList::new(self.alloc);
             return;
         }
-        intervals.drop_low(key);
-        intervals.retain(key);
-        give_back(&mut self.held);
+        self.drop_low(key);
+        self.drop_before(key);
     }
 }

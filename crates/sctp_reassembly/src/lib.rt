@@ -5,8 +5,8 @@ mod counted;
 mod dropped;
 pub mod interval_laws;
 pub mod interval_list;
-mod intervals;
 mod near;
+mod ordered_fragments;
 mod ordered_stream;
 mod ordered_streams;
 mod places;
@@ -20,6 +20,7 @@ mod sorted_skips;
 pub mod stream_id_set;
 mod stream_map;
 mod unordered_by_tsn;
+mod unordered_fragments;
 mod unordered_stream;
 mod unordered_streams;
 

@@ -1,19 +1,18 @@
 //! A stream whose messages become ready in the order of their numbers.
 
-ghost use Rattle.std.specs.Prelude.{◌≡◌, ◌==◌, ◌+◌, ◌<◌, ◌≤◌, ◌^◌, ◌++◌, ◌∷◌, ℕ, max, length, OnOk, OnErr, IfOk, [], true, false};
+ghost use Rattle.std.specs.Prelude.{◌≡◌, ◌==◌, ◌+◌, ◌<◌, ◌≤◌, ◌^◌, ◌++◌, ◌∷◌, ℕ, suc, length, nat_lt, OnOk, OnErr, IfSome, IfNone, [], true, false};
 ghost use Rattle.sctp_serial.specs.Unwrapped.{origin};
-ghost use Rattle.sctp_fragments.specs.Held.{bytes_of, rank_of, intervals_of, is_in_turn, message_of_run, NoneInTurn};
+ghost use Rattle.sctp_fragments.specs.Held.{bytes_of, is_in_turn, message_of_run};
 ghost use Rattle.sctp_fragments.specs.Interval.{as_held};
-ghost use Rattle.sctp_fragments.specs.ReassemblyKey.{rank_at};
-ghost use Rattle.sctp_fragments.specs.Runs.{from_rank, with_item};
-ghost use Rattle.sctp_reassembly.specs.Delivery.{deliver, ordered_arrival, ready_bytes, Extends};
-ghost use Rattle.sctp_reassembly.specs.InterruptedStreams.{deliver_in_part, ordered_arrival_in_part};
+ghost use Rattle.sctp_reassembly.specs.Delivery.{ordered_arrival, ordered_forward, ready_bytes, Extends};
+ghost use Rattle.sctp_reassembly.specs.InterruptedStreams.{ordered_arrival_in_part, ordered_forward_in_part};
+ghost use Rattle.sctp_reassembly.specs.OrderedState.{ordered_of, IsUsed};
 
-use crate::interval_list::IntervalList;
+use crate::ordered_fragments::OrderedFragments;
 use crate::ready_messages::ReadyMessages;
 use crate::reassembly_stream::ReassemblyStream;
 use sctp_chunk::Data;
-use sctp_fragments::{ReassemblyKey, message_of};
+use sctp_fragments::ReassemblyKey;
 use sctp_serial::Message;
 use std::alloc::{AllocError, Global};
 use std::marker::Model;
@@ -21,77 +20,32 @@ use std::marker::Model;
 /// The number of a stream's first message. Numbers may lie below it, as those of messages from before a reset.
 pub const FIRST: u64 = 1 << 32;
 
-/// The fragments of a stream's ordered messages, and which message is next.
+/// What is kept of a stream.
+#[derive(Drop)]
+pub(crate) enum OrderedState<K: ReassemblyKey> {
+    /// No fragment is held: the number before that of the next message.
+    Idle(u64),
+    /// Fragments are held.
+    Holding(Box<OrderedFragments<K>>),
+}
+
+/// The fragments of a stream's ordered messages, and which message is next. Where no fragment is held no more is kept than the
+/// number: so a stream of which all was taken costs little.
 #[derive(Drop)]
 pub struct OrderedStream<K: ReassemblyKey> {
     alloc: Global,
-    // the number before that of the next message: so it is one that a key may have
-    last: u64,
-    list: IntervalList<K>,
-    // whether nothing in the list is known to be in turn: not after want of memory, nor where a message was handed on
-    is_settled: bool,
+    state: OrderedState<K>,
 }
 
 impl<K: ReassemblyKey> Model for OrderedStream<K> {
-    ghost use Rattle.std.specs.Prelude.{◌+◌};
-    ghost use Rattle.sctp_reassembly.specs.Delivery.{OrderedStream, IsOrdered};
+    ghost use Rattle.sctp_reassembly.specs.Delivery.{OrderedStream};
+    ghost use Rattle.sctp_reassembly.specs.OrderedState.{ordered_of, IsOrderedState};
 
     ghost Value = { OrderedStream };
 
-    ghost view = { λ s. record { next = s.last + 1; held = s.list } };
+    ghost view = { λ s. ordered_of s.state };
 
-    ghost invariant = { λ s. IsOrdered (record { next = s.last + 1; held = s.list }) s.is_settled };
-}
-
-/// Makes the complete messages ready that are in turn, one after the other, behind the last one.
-#[tactic(auto, using(crate::proofs::ExtendsLemmas::extends_none, crate::proofs::ExtendsLemmas::extends_both))]
-fn deliver<K: ReassemblyKey>(
-    alloc: Global,
-    last: &mut u64,
-    list: &mut IntervalList<K>,
-    ready: &mut ReadyMessages,
-) -> Result<(), AllocError>
-    requires { bytes_of list.old + ready_bytes ready.old < 2 ^ 64 }
-    ensures next { OnOk result (last.new + 1 ≡ (deliver (last.old + 1) list.old).stream.next) }
-    ensures held { OnOk result (list.new ≡ (deliver (last.old + 1) list.old).stream.held) }
-    ensures ready { OnOk result (ready.new ≡ ready.old ++ (deliver (last.old + 1) list.old).messages) }
-    ensures settled { OnOk result (NoneInTurn (last.new + 1) (intervals_of list.new)) }
-    ensures onward { last.old ≤ last.new }
-    ensures err { OnErr result ((count : ℕ) × ((record { next = last.new + 1; held = list.new } ≡ (deliver_in_part count (last.old + 1) list.old).stream) × (ready.new ≡ ready.old ++ (deliver_in_part count (last.old + 1) list.old).messages))) }
-    ensures kept { Extends ready.old ready.new }
-    ensures bytes { bytes_of list.new + ready_bytes ready.new ≤ bytes_of list.old + ready_bytes ready.old }
-    ensures fragments { length list.new ≤ length list.old }
-{
-    // (that a number fits is known once it is read)
-    let _last = *last;
-    while let Some(interval) = list.pop_front_if_complete_and(*last as u128 + 1) {
-        let number = interval.first().key.number();
-        let message = message_of(alloc, interval)?;
-        ready.push(message)?;
-        *last = number;
-    }
-    Ok(())
-}
-
-/// Adds a fragment, and says whether the interval that took it is in turn.
-fn add_in<K: ReassemblyKey>(
-    list: &mut IntervalList<K>,
-    key: K,
-    fragment: Data,
-    next: u128,
-) -> Result<bool, AllocError>
-    requires room { bytes_of list.old + length fragment.payload.items < 2 ^ 64 }
-    requires fragments { length list.old + 1 < 2 ^ 64 }
-    ensures value { OnOk result (list.new ≡ with_item rank_of (as_held (K.number key) (K.index key) fragment) list.old) }
-    ensures none { IfOk result (λ turn. turn ≡ false → NoneInTurn next (intervals_of list.old) → NoneInTurn next (intervals_of list.new)) }
-    ensures bytes { bytes_of list.new ≤ bytes_of list.old + length fragment.payload.items }
-    ensures fragments { length list.new ≤ length list.old + 1 }
-    ensures err { OnErr result (list.new ≡ list.old) }
-{
-    if !list.add(key, fragment)? {
-        return Ok(false);
-    }
-    Ok(list.is_in_turn_at(key, next))
+    ghost invariant = { λ s. IsOrderedState s.state };
 }
 
 /// Whether the fragment is all of the message with the number.
@@ -115,12 +69,85 @@ fn hand_on(fragment: Data, ready: &mut ReadyMessages) -> Result<(), AllocError>
     ready.push(Message::new(id, fragment.ppid, fragment.payload))
 }
 
-/// Whether nothing is in turn: nothing was before, and no interval came to be.
-fn stays_settled(is_settled: bool, is_turn: bool) -> bool
-    ensures settled { result ≡ true → is_settled ≡ true }
-    ensures turn { result ≡ true → is_turn ≡ false }
+/// The number before that of the next message, where there is memory for fragments, and none in it.
+fn spare<K: ReassemblyKey>(state: &OrderedState<K>) -> Option<u64>
+    ensures spare { IfSome result (λ last. ordered_of state.now ≡ record { next = last + 1; held = [] }) }
+    ensures used { IfNone result (IsUsed state.now) }
 {
-    is_settled && !is_turn
+    match state {
+        OrderedState::Idle(_) => None,
+        OrderedState::Holding(fragments) => fragments.idle(),
+    }
+}
+
+/// Gives the memory back where no fragment is held.
+fn give_back<K: ReassemblyKey>(state: &mut OrderedState<K>)
+    ensures same { ordered_of state.new ≡ ordered_of state.old }
+    ensures used { IsUsed state.new }
+{
+    if let Some(last) = spare(state) {
+        *state = OrderedState::Idle(last);
+    }
+}
+
+/// Adds a fragment to those that are held, or as the first one, and makes ready what is then in turn.
+#[tactic(auto, using(crate::proofs::ExtendsLemmas::extends_none))]
+fn keep_in<K: ReassemblyKey>(
+    alloc: Global,
+    state: &mut OrderedState<K>,
+    key: K,
+    fragment: Data,
+    ready: &mut ReadyMessages,
+) -> Result<(), AllocError>
+    requires least { origin ≤ (ordered_of state.old).next }
+    requires due { nat_lt (K.number key) (ordered_of state.old).next ≡ false }
+    requires room { bytes_of (ordered_of state.old).held + ready_bytes ready.old + length fragment.payload.items < 2 ^ 64 }
+    requires fragments { length (ordered_of state.old).held + 1 < 2 ^ 64 }
+    ensures ok { OnOk result ((ordered_of state.new) ≡ (ordered_arrival (as_held (K.number key) (K.index key) fragment) (ordered_of state.old)).stream) }
+    ensures ready { OnOk result (ready.new ≡ ready.old ++ (ordered_arrival (as_held (K.number key) (K.index key) fragment) (ordered_of state.old)).messages) }
+    ensures err { OnErr result ((steps : ℕ) × (((ordered_of state.new) ≡ (ordered_arrival_in_part steps (as_held (K.number key) (K.index key) fragment) (ordered_of state.old)).stream) × (ready.new ≡ ready.old ++ (ordered_arrival_in_part steps (as_held (K.number key) (K.index key) fragment) (ordered_of state.old)).messages))) }
+    ensures kept { Extends ready.old ready.new }
+    ensures bytes { bytes_of (ordered_of state.new).held + ready_bytes ready.new ≤ bytes_of (ordered_of state.old).held + ready_bytes ready.old + length fragment.payload.items }
+    ensures fragments { length (ordered_of state.new).held ≤ length (ordered_of state.old).held + 1 }
+    ensures least { origin ≤ (ordered_of state.new).next }
+{
+    match state {
+        OrderedState::Holding(fragments) => fragments.keep(key, fragment, ready),
+        OrderedState::Idle(last) => {
+            let mut fragments = Box::new(alloc, OrderedFragments::new(alloc, *last))?;
+            let kept = fragments.keep(key, fragment, ready);
+            *state = OrderedState::Holding(fragments);
+            kept
+        }
+    }
+}
+
+/// Drops the messages before that of the key, and moves the next number to it, never back. What is in turn then becomes ready.
+#[tactic(auto, using(crate::proofs::ExtendsLemmas::extends_none))]
+fn forward_in<K: ReassemblyKey>(
+    state: &mut OrderedState<K>,
+    first: K,
+    ready: &mut ReadyMessages,
+) -> Result<(), AllocError>
+    requires least { origin ≤ (ordered_of state.old).next }
+    requires room { bytes_of (ordered_of state.old).held + ready_bytes ready.old < 2 ^ 64 }
+    requires some { 0 < K.number first }
+    requires small { K.number first < 2 ^ 63 }
+    ensures ok { (n : ℕ) → K.number first ≡ suc n → K.index first ≡ 0 → OnOk result (ordered_of state.new ≡ (ordered_forward n (ordered_of state.old)).stream) }
+    ensures ready { (n : ℕ) → K.number first ≡ suc n → K.index first ≡ 0 → OnOk result (ready.new ≡ ready.old ++ (ordered_forward n (ordered_of state.old)).messages) }
+    ensures err { (n : ℕ) → K.number first ≡ suc n → K.index first ≡ 0 → OnErr result ((steps : ℕ) × ((ordered_of state.new ≡ (ordered_forward_in_part steps n (ordered_of state.old)).stream) × (ready.new ≡ ready.old ++ (ordered_forward_in_part steps n (ordered_of state.old)).messages))) }
+    ensures kept { Extends ready.old ready.new }
+    ensures bytes { bytes_of (ordered_of state.new).held + ready_bytes ready.new ≤ bytes_of (ordered_of state.old).held + ready_bytes ready.old }
+    ensures fragments { length (ordered_of state.new).held ≤ length (ordered_of state.old).held }
+    ensures least { origin ≤ (ordered_of state.new).next }
+{
+    match state {
+        OrderedState::Holding(fragments) => fragments.forward(first, ready),
+        OrderedState::Idle(last) => {
+            *last = (*last).max(first.number() - 1);
+            Ok(())
+        }
+    }
 }
 
 impl<K: ReassemblyKey> OrderedStream<K> {
@@ -131,9 +158,7 @@ impl<K: ReassemblyKey> OrderedStream<K> {
     {
         OrderedStream {
             alloc,
-            last: next - 1,
-            list: IntervalList::new(alloc),
-            is_settled: true,
+            state: OrderedState::Idle(next - 1),
         }
     }
 
@@ -142,7 +167,10 @@ impl<K: ReassemblyKey> OrderedStream<K> {
         ensures value { result ≡ self.now.next }
         ensures range { origin ≤ result }
     {
-        self.last as u128 + 1
+        match &self.state {
+            OrderedState::Idle(last) => *last as u128 + 1,
+            OrderedState::Holding(fragments) => fragments.last() as u128 + 1,
+        }
     }
 
     /// Makes the next message ready, which is one fragment, where none is held.
@@ -165,12 +193,11 @@ impl<K: ReassemblyKey> OrderedStream<K> {
     {
         let number = key.number();
         hand_on(fragment, ready)?;
-        self.is_settled = false;
-        self.last = number;
+        self.state = OrderedState::Idle(number);
         Ok(())
     }
 
-    /// Adds a fragment to those that are held, and makes ready what is then in turn.
+    /// Adds a fragment, unless its message is below the next one, and makes ready what is then in turn.
     #[tactic(auto, using(crate::proofs::ExtendsLemmas::extends_none))]
     fn keep(&mut self, key: K, fragment: Data, ready: &mut ReadyMessages) -> Result<(), AllocError>
         requires room { bytes_of self.old.held + ready_bytes ready.old + length fragment.payload.items < 2 ^ 64 }
@@ -182,30 +209,12 @@ impl<K: ReassemblyKey> OrderedStream<K> {
         ensures bytes { bytes_of self.new.held + ready_bytes ready.new ≤ bytes_of self.old.held + ready_bytes ready.old + length fragment.payload.items }
         ensures fragments { length self.new.held ≤ length self.old.held + 1 }
     {
-        let next = self.last as u128 + 1;
-        if (key.number() as u128) < next {
+        if (key.number() as u128) < self.next() {
             return Ok(());
         }
-        let is_turn = add_in(&mut self.list, key, fragment, next)?;
-        self.is_settled = stays_settled(self.is_settled, is_turn);
-        if self.is_settled {
-            return Ok(());
-        }
-        deliver(self.alloc, &mut self.last, &mut self.list, ready)?;
-        self.is_settled = true;
-        Ok(())
-    }
-
-    /// Whether nothing is before the key, and nothing in turn: then a forward point to it changes nothing.
-    fn is_passed(&self, first: K) -> bool
-        ensures next { result ≡ true → K.number first ≤ self.now.next }
-        ensures held { result ≡ true → from_rank rank_of (rank_at K.number K.index first) self.now.held ≡ self.now.held }
-        ensures settled { result ≡ true → NoneInTurn self.now.next (intervals_of self.now.held) }
-    {
-        if !self.is_settled {
-            return false;
-        }
-        first.number() as u128 <= self.last as u128 + 1 && !self.list.begins_below(first)
+        let kept = keep_in(self.alloc, &mut self.state, key, fragment, ready);
+        give_back(&mut self.state);
+        kept
     }
 }
 
@@ -240,25 +249,32 @@ impl<K: ReassemblyKey> ReassemblyStream for OrderedStream<K> {
     fn new(alloc: Global) -> OrderedStream<K> {
         OrderedStream {
             alloc,
-            last: FIRST - 1,
-            list: IntervalList::new(alloc),
-            is_settled: true,
+            state: OrderedState::Idle(FIRST - 1),
         }
     }
 
     /// Whether fragments are held.
     fn is_held(&self) -> bool {
-        !self.list.is_empty()
+        match &self.state {
+            OrderedState::Idle(_) => false,
+            OrderedState::Holding(_) => true,
+        }
     }
 
     /// How many bytes of payload are held.
     fn queued_bytes(&self) -> usize {
-        self.list.total_bytes()
+        match &self.state {
+            OrderedState::Idle(_) => 0,
+            OrderedState::Holding(fragments) => fragments.total_bytes(),
+        }
     }
 
     /// How many fragments are held.
     fn held_fragments(&self) -> usize {
-        self.list.held_fragments()
+        match &self.state {
+            OrderedState::Idle(_) => 0,
+            OrderedState::Holding(fragments) => fragments.len(),
+        }
     }
 
     /// Adds a fragment, unless its message is below the next one; what is in turn then becomes ready. Takes a search by
@@ -267,7 +283,7 @@ impl<K: ReassemblyKey> ReassemblyStream for OrderedStream<K> {
     /// Without memory the fragment, or a message that was in turn, may be lost; what was ready stays ready.
     #[tactic(auto, using(crate::proofs::ExtendsLemmas::extends_none))]
     fn add(&mut self, key: K, fragment: Data, ready: &mut ReadyMessages) -> Result<(), AllocError> {
-        if self.list.is_empty() && is_whole_at(key, &fragment, self.last as u128 + 1) {
+        if !self.is_held() && is_whole_at(key, &fragment, self.next()) {
             return self.pass_on(key, fragment, ready);
         }
         self.keep(key, fragment, ready)
@@ -279,15 +295,9 @@ impl<K: ReassemblyKey> ReassemblyStream for OrderedStream<K> {
     /// Without memory a message that was in turn may be lost; what was ready stays ready.
     #[tactic(auto, using(crate::proofs::ExtendsLemmas::extends_none))]
     fn forward(&mut self, first: K, ready: &mut ReadyMessages) -> Result<(), AllocError> {
-        if self.is_passed(first) {
-            return Ok(());
-        }
-        self.is_settled = false;
-        self.list.retain(first);
-        self.last = self.last.max(first.number() - 1);
-        deliver(self.alloc, &mut self.last, &mut self.list, ready)?;
-        self.is_settled = true;
-        Ok(())
+        let forwarded = forward_in(&mut self.state, first, ready);
+        give_back(&mut self.state);
+        forwarded
     }
 
     ghost is_blank = { refl };

@@ -1,83 +1,150 @@
 //! A stream whose messages become ready when they are complete.
 
-ghost use Rattle.std.specs.Prelude.{◌≡◌, ◌+◌, ◌<◌, ◌≤◌, ◌^◌, ◌++◌, ◌⊎◌, max, length, OnOk, OnErr, IfSome, IfNone, []};
+ghost use Rattle.std.specs.Prelude.{◌≡◌, ◌+◌, ◌<◌, ◌≤◌, ◌^◌, ◌++◌, ℕ, suc, length, OnOk, OnErr, IfSome, IfNone, []};
 ghost use Rattle.sctp_serial.specs.Unwrapped.{origin};
+ghost use Rattle.sctp_fragments.specs.Held.{bytes_of};
+ghost use Rattle.sctp_fragments.specs.Interval.{as_held};
+ghost use Rattle.sctp_fragments.specs.ReassemblyKey.{rank_at};
+ghost use Rattle.sctp_reassembly.specs.Delivery.{held_from, unordered_arrival, unordered_forward, ready_bytes, Extends};
+ghost use Rattle.sctp_reassembly.specs.InterruptedStreams.{unordered_arrival_in_part};
+ghost use Rattle.sctp_reassembly.specs.UnorderedByTsn.{BeginsFrom};
+ghost use Rattle.sctp_reassembly.specs.UnorderedState.{unordered_of, AreNumbers, IsUsed};
 
-use crate::interval_list::IntervalList;
 use crate::ordered_stream::FIRST;
 use crate::ready_messages::ReadyMessages;
 use crate::reassembly_stream::ReassemblyStream;
+use crate::unordered_fragments::UnorderedFragments;
 use sctp_chunk::Data;
-use sctp_fragments::{ReassemblyKey, message_of};
+use sctp_fragments::ReassemblyKey;
 use std::alloc::{AllocError, Global};
 use std::marker::Model;
 
-/// The fragments of a stream's unordered messages.
+/// What is kept of a stream.
+#[derive(Drop)]
+pub(crate) enum UnorderedState<K: ReassemblyKey> {
+    /// No fragment is held: the last number that came, and the one below which messages are late.
+    Idle(u64, u64),
+    /// Fragments are held.
+    Holding(Box<UnorderedFragments<K>>),
+}
+
+/// The fragments of a stream's unordered messages. Where no fragment is held no more is kept than the numbers.
 #[derive(Drop)]
 pub struct UnorderedStream<K: ReassemblyKey> {
     alloc: Global,
-    near: u64,
-    passed: u64,
-    list: IntervalList<K>,
+    state: UnorderedState<K>,
 }
 
 impl<K: ReassemblyKey> Model for UnorderedStream<K> {
-    ghost use Rattle.sctp_reassembly.specs.Delivery.{UnorderedStream, IsUnordered};
+    ghost use Rattle.sctp_reassembly.specs.Delivery.{UnorderedStream};
+    ghost use Rattle.sctp_reassembly.specs.UnorderedState.{unordered_of, IsUnorderedState};
 
     ghost Value = { UnorderedStream };
 
-    ghost view = { λ s. record { near = s.near; passed = s.passed; held = s.list } };
+    ghost view = { λ s. unordered_of s.state };
 
-    ghost invariant = { λ s. IsUnordered (record { near = s.near; passed = s.passed; held = s.list }) };
+    ghost invariant = { λ s. IsUnorderedState s.state };
 }
 
-ghost use Rattle.sctp_fragments.specs.Runs.{with_item};
-ghost use Rattle.sctp_fragments.specs.Held.{rank_of, bytes_of, intervals_of, is_complete, left_by, NoneComplete};
-ghost use Rattle.sctp_fragments.specs.Interval.{as_held};
-ghost use Rattle.sctp_reassembly.specs.Delivery.{first_complete, ready_bytes, Extends};
+/// The numbers of a stream, where there is memory for fragments, and none in it.
+fn spare<K: ReassemblyKey>(state: &UnorderedState<K>) -> Option<(u64, u64)>
+    ensures spare { IfSome result (λ numbers. unordered_of state.now ≡ record { near = numbers.0; passed = numbers.1; held = [] }) }
+    ensures used { IfNone result (IsUsed state.now) }
+{
+    match state {
+        UnorderedState::Idle(_, _) => None,
+        UnorderedState::Holding(fragments) => fragments.idle(),
+    }
+}
 
-/// Adds a fragment, and makes the message ready that it completes.
+/// Gives the memory back where no fragment is held.
+fn give_back<K: ReassemblyKey>(state: &mut UnorderedState<K>)
+    ensures same { unordered_of state.new ≡ unordered_of state.old }
+    ensures used { IsUsed state.new }
+{
+    if let Some((near, passed)) = spare(state) {
+        *state = UnorderedState::Idle(near, passed);
+    }
+}
+
+/// Adds a fragment to those that are held, or as the first one. Of a message that a forward point passed only the number is kept.
 #[tactic(auto, using(crate::proofs::ExtendsLemmas::extends_none))]
-fn take_in<K: ReassemblyKey>(
+fn add_in<K: ReassemblyKey>(
     alloc: Global,
-    list: &mut IntervalList<K>,
+    state: &mut UnorderedState<K>,
     key: K,
     fragment: Data,
     ready: &mut ReadyMessages,
 ) -> Result<(), AllocError>
-    requires room { bytes_of list.old + ready_bytes ready.old + length fragment.payload.items < 2 ^ 64 }
-    requires fragments { length list.old + 1 < 2 ^ 64 }
-    requires settled { NoneComplete (intervals_of list.old) }
-    ensures held { OnOk result (list.new ≡ left_by is_complete (with_item rank_of (as_held (K.number key) (K.index key) fragment) list.old)) }
-    ensures ready { OnOk result (ready.new ≡ ready.old ++ first_complete (with_item rank_of (as_held (K.number key) (K.index key) fragment) list.old)) }
-    ensures settled { NoneComplete (intervals_of list.new) }
-    ensures err { OnErr result ((list.new ≡ list.old) ⊎ (list.new ≡ left_by is_complete (with_item rank_of (as_held (K.number key) (K.index key) fragment) list.old))) }
-    ensures unready { OnErr result (ready.new ≡ ready.old) }
+    requires numbers { AreNumbers (unordered_of state.old) }
+    requires room { bytes_of (unordered_of state.old).held + ready_bytes ready.old + length fragment.payload.items < 2 ^ 64 }
+    requires fragments { length (unordered_of state.old).held + 1 < 2 ^ 64 }
+    requires small { K.number key < 2 ^ 63 }
+    ensures ok { OnOk result (unordered_of state.new ≡ (unordered_arrival (as_held (K.number key) (K.index key) fragment) (unordered_of state.old)).stream) }
+    ensures ready { OnOk result (ready.new ≡ ready.old ++ (unordered_arrival (as_held (K.number key) (K.index key) fragment) (unordered_of state.old)).messages) }
+    ensures err { OnErr result ((steps : ℕ) × ((unordered_of state.new ≡ (unordered_arrival_in_part steps (as_held (K.number key) (K.index key) fragment) (unordered_of state.old)).stream) × (ready.new ≡ ready.old ++ (unordered_arrival_in_part steps (as_held (K.number key) (K.index key) fragment) (unordered_of state.old)).messages))) }
     ensures kept { Extends ready.old ready.new }
-    ensures bytes { bytes_of list.new + ready_bytes ready.new ≤ bytes_of list.old + ready_bytes ready.old + length fragment.payload.items }
-    ensures fragments { length list.new ≤ length list.old + 1 }
+    ensures bytes { bytes_of (unordered_of state.new).held + ready_bytes ready.new ≤ bytes_of (unordered_of state.old).held + ready_bytes ready.old + length fragment.payload.items }
+    ensures fragments { length (unordered_of state.new).held ≤ length (unordered_of state.old).held + 1 }
+    ensures numbers { AreNumbers (unordered_of state.new) }
 {
-    if !list.add(key, fragment)? {
-        return Ok(());
+    match state {
+        UnorderedState::Holding(fragments) => fragments.add(key, fragment, ready),
+        UnorderedState::Idle(near, passed) => {
+            *near = key.number().max(FIRST);
+            if key.number() < *passed {
+                return Ok(());
+            }
+            let mut fragments = Box::new(alloc, UnorderedFragments::new(alloc, *near, *passed))?;
+            let added = fragments.add(key, fragment, ready);
+            *state = UnorderedState::Holding(fragments);
+            added
+        }
     }
-    let Some(interval) = list.pop_if_complete(key) else {
-        return Ok(());
-    };
-    let message = message_of(alloc, interval)?;
-    ready.push(message)
+}
+
+/// Drops the messages before that of the key, which later fragments won't bring back.
+fn forward_in<K: ReassemblyKey>(state: &mut UnorderedState<K>, first: K)
+    requires numbers { AreNumbers (unordered_of state.old) }
+    requires some { 0 < K.number first }
+    requires small { K.number first < 2 ^ 63 }
+    ensures value { (n : ℕ) → K.number first ≡ suc n → K.index first ≡ 0 → unordered_of state.new ≡ unordered_forward n (unordered_of state.old) }
+    ensures bytes { bytes_of (unordered_of state.new).held ≤ bytes_of (unordered_of state.old).held }
+    ensures fragments { length (unordered_of state.new).held ≤ length (unordered_of state.old).held }
+    ensures numbers { AreNumbers (unordered_of state.new) }
+{
+    match state {
+        UnorderedState::Holding(fragments) => fragments.forward(first),
+        UnorderedState::Idle(near, passed) => {
+            *near = (*near).max(first.number() - 1);
+            *passed = (*passed).max(first.number());
+        }
+    }
+}
+
+/// Drops the fragments before the key.
+fn drop_before<K: ReassemblyKey>(state: &mut UnorderedState<K>, first: K)
+    requires numbers { AreNumbers (unordered_of state.old) }
+    ensures value { unordered_of state.new ≡ held_from (rank_at K.number K.index first) (unordered_of state.old) }
+    ensures bytes { bytes_of (unordered_of state.new).held ≤ bytes_of (unordered_of state.old).held }
+    ensures fragments { length (unordered_of state.new).held ≤ length (unordered_of state.old).held }
+    ensures numbers { AreNumbers (unordered_of state.new) }
+{
+    if let UnorderedState::Holding(fragments) = state {
+        fragments.forward_to(first);
+    }
 }
 
 impl<K: ReassemblyKey> UnorderedStream<K> {
-    ghost use Rattle.sctp_reassembly.specs.Delivery.{held_from};
-    ghost use Rattle.sctp_fragments.specs.ReassemblyKey.{rank_at};
-    ghost use Rattle.sctp_reassembly.specs.UnorderedByTsn.{BeginsFrom};
-
     /// The key of the first fragment.
     pub fn first(&self) -> Option<K>
         ensures some { IfSome result (λ k. BeginsFrom (rank_at K.number K.index k) self.now.held) }
         ensures none { IfNone result (self.now.held ≡ []) }
     {
-        self.list.first()
+        match &self.state {
+            UnorderedState::Idle(_, _) => None,
+            UnorderedState::Holding(fragments) => fragments.first(),
+        }
     }
 
     /// The last number that came.
@@ -86,7 +153,10 @@ impl<K: ReassemblyKey> UnorderedStream<K> {
         ensures least { origin ≤ result }
         ensures most { result < 2 ^ 63 }
     {
-        self.near
+        match &self.state {
+            UnorderedState::Idle(near, _) => *near,
+            UnorderedState::Holding(fragments) => fragments.near(),
+        }
     }
 
     /// Drops the fragments before the key.
@@ -95,7 +165,8 @@ impl<K: ReassemblyKey> UnorderedStream<K> {
         ensures bytes { bytes_of self.new.held ≤ bytes_of self.old.held }
         ensures fragments { length self.new.held ≤ length self.old.held }
     {
-        self.list.retain(first);
+        drop_before(&mut self.state, first);
+        give_back(&mut self.state);
     }
 }
 
@@ -130,25 +201,32 @@ impl<K: ReassemblyKey> ReassemblyStream for UnorderedStream<K> {
     fn new(alloc: Global) -> UnorderedStream<K> {
         UnorderedStream {
             alloc,
-            near: FIRST,
-            passed: 0,
-            list: IntervalList::new(alloc),
+            state: UnorderedState::Idle(FIRST, 0),
         }
     }
 
     /// Whether fragments are held.
     fn is_held(&self) -> bool {
-        !self.list.is_empty()
+        match &self.state {
+            UnorderedState::Idle(_, _) => false,
+            UnorderedState::Holding(_) => true,
+        }
     }
 
     /// How many bytes of payload are held.
     fn queued_bytes(&self) -> usize {
-        self.list.total_bytes()
+        match &self.state {
+            UnorderedState::Idle(_, _) => 0,
+            UnorderedState::Holding(fragments) => fragments.total_bytes(),
+        }
     }
 
     /// How many fragments are held.
     fn held_fragments(&self) -> usize {
-        self.list.held_fragments()
+        match &self.state {
+            UnorderedState::Idle(_, _) => 0,
+            UnorderedState::Holding(fragments) => fragments.len(),
+        }
     }
 
     /// Adds a fragment, unless a forward point passed its message; a message that it completes becomes ready. Takes a search
@@ -157,20 +235,16 @@ impl<K: ReassemblyKey> ReassemblyStream for UnorderedStream<K> {
     /// Without memory the fragment, or the message that it completes, may be lost; what was ready stays ready.
     #[tactic(auto, using(crate::proofs::ExtendsLemmas::extends_none))]
     fn add(&mut self, key: K, fragment: Data, ready: &mut ReadyMessages) -> Result<(), AllocError> {
-        let number = key.number();
-        self.near = number.max(FIRST);
-        if number < self.passed {
-            return Ok(());
-        }
-        take_in(self.alloc, &mut self.list, key, fragment, ready)
+        let added = add_in(self.alloc, &mut self.state, key, fragment, ready);
+        give_back(&mut self.state);
+        added
     }
 
     /// Drops the messages before that of the key, which later fragments won't bring back.
     #[tactic(auto, using(crate::proofs::ExtendsLemmas::extends_none))]
     fn forward(&mut self, first: K, _ready: &mut ReadyMessages) -> Result<(), AllocError> {
-        self.list.retain(first);
-        self.near = self.near.max(first.number() - 1);
-        self.passed = self.passed.max(first.number());
+        forward_in(&mut self.state, first);
+        give_back(&mut self.state);
         Ok(())
     }
 

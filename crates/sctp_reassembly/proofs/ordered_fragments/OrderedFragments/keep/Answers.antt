@@ -1,0 +1,32 @@
+use Rattle.std.proofs.Common.{◌≡◌, ◌+◌, false, ap, sym, ◌∙◌, rules}
+use Rattle.std.specs.Prelude.{nat_lt}
+use Rattle.sctp_fragments.specs.Interval.{as_held}
+use Rattle.sctp_reassembly.specs.Delivery.{OrderedStream, ordered_arrival}
+use Rattle.sctp_reassembly.proofs.DeliverLemmas.{arrives_settled, nothing_more}
+use Rattle.sctp_reassembly.proofs.InterruptedLemmas.{on_err, arrived_in_part}
+use Rattle.sctp_reassembly.proofs.ordered_fragments.OrderedFragments.keep.Goals as goal
+
+pub returns-then-self-clause-ok : goal.returns-then-self-clause-ok
+returns-then-self-clause-ok g c =
+    let x = as_held (g.K.ReassemblyKey.number c.args.key) (g.K.ReassemblyKey.index c.args.key) c.args.fragment in
+    let s : OrderedStream = record { next = c.self.inside.last + 1; held = c.self.inside.list } in
+    let late : nat_lt x.number s.next ≡ false = search rules in
+    let still_settled = c.stays_settled-self-inside.ensures in
+    let none = c.in_ok-is_turn.ensures.none (still_settled.turn c.if-self.true) (c.self.invariant.settled (still_settled.settled c.if-self.true)) in
+    let arrived = arrives_settled x s c.add_in.new.list late c.in_ok-is_turn.ensures.value none in
+    sym (ap (λ d. d.stream) arrived) ∙ ap (λ t. (ordered_arrival x t).stream) c.self.view_is
+
+pub returns-then-self-clause-ready : goal.returns-then-self-clause-ready
+returns-then-self-clause-ready g c =
+    let x = as_held (g.K.ReassemblyKey.number c.args.key) (g.K.ReassemblyKey.index c.args.key) c.args.fragment in
+    let s : OrderedStream = record { next = c.self.inside.last + 1; held = c.self.inside.list } in
+    let late : nat_lt x.number s.next ≡ false = search rules in
+    let still_settled = c.stays_settled-self-inside.ensures in
+    let none = c.in_ok-is_turn.ensures.none (still_settled.turn c.if-self.true) (c.self.invariant.settled (still_settled.settled c.if-self.true)) in
+    let arrived = arrives_settled x s c.add_in.new.list late c.in_ok-is_turn.ensures.value none in
+    nothing_more c.args.ready.now _ (ap (λ t. (ordered_arrival x t).messages) (sym c.self.view_is) ∙ ap (λ d. d.messages) arrived)
+
+pub returns-in_err-deliver-clause-err : goal.returns-in_err-deliver-clause-err
+returns-in_err-deliver-clause-err g c =
+    let x = as_held (g.K.ReassemblyKey.number c.args.key) (g.K.ReassemblyKey.index c.args.key) c.args.fragment in
+    on_err c.from_residual-in_err-deliver.result (arrived_in_part x c.args.self.now _ _ c.add_in.new.list c.args.ready.now c.deliver.new.ready c.self.view_is c.in_ok-is_turn.ensures.value c.in_err-deliver.ensures.err)

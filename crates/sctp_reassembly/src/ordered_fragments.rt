@@ -1,0 +1,214 @@
+//! Fragments of a stream whose messages become ready in the order of their numbers.
+
+ghost use Rattle.std.specs.Prelude.{◌≡◌, ◌+◌, ◌<◌, ◌≤◌, ◌^◌, ◌++◌, ℕ, suc, length, OnOk, OnErr, IfOk, IfSome, IfNone, nat_lt, [], true, false};
+ghost use Rattle.sctp_serial.specs.Unwrapped.{origin};
+ghost use Rattle.sctp_fragments.specs.Held.{bytes_of, rank_of, intervals_of, NoneInTurn};
+ghost use Rattle.sctp_fragments.specs.Interval.{as_held};
+ghost use Rattle.sctp_fragments.specs.ReassemblyKey.{rank_at};
+ghost use Rattle.sctp_fragments.specs.Runs.{from_rank, with_item};
+ghost use Rattle.sctp_reassembly.specs.Delivery.{deliver, ordered_arrival, ordered_forward, ready_bytes, Extends};
+ghost use Rattle.sctp_reassembly.specs.InterruptedStreams.{deliver_in_part, ordered_arrival_in_part, ordered_forward_in_part};
+
+use crate::interval_list::IntervalList;
+use crate::ready_messages::ReadyMessages;
+use sctp_chunk::Data;
+use sctp_fragments::{ReassemblyKey, message_of};
+use std::alloc::{AllocError, Global};
+use std::marker::Model;
+
+/// The fragments of a stream's ordered messages, and which message is next.
+#[derive(Drop)]
+pub(crate) struct OrderedFragments<K: ReassemblyKey> {
+    alloc: Global,
+    // the number before that of the next message: so it is one that a key may have
+    last: u64,
+    list: IntervalList<K>,
+    // whether nothing in the list is known to be in turn: not after want of memory
+    is_settled: bool,
+}
+
+impl<K: ReassemblyKey> Model for OrderedFragments<K> {
+    ghost use Rattle.std.specs.Prelude.{◌+◌};
+    ghost use Rattle.sctp_reassembly.specs.Delivery.{OrderedStream, IsOrdered};
+
+    ghost Value = { OrderedStream };
+
+    ghost view = { λ s. record { next = s.last + 1; held = s.list } };
+
+    ghost invariant = { λ s. IsOrdered (record { next = s.last + 1; held = s.list }) s.is_settled };
+}
+
+/// Makes the complete messages ready that are in turn, one after the other, behind the last one.
+#[tactic(auto, using(crate::proofs::ExtendsLemmas::extends_none, crate::proofs::ExtendsLemmas::extends_both))]
+fn deliver<K: ReassemblyKey>(
+    alloc: Global,
+    last: &mut u64,
+    list: &mut IntervalList<K>,
+    ready: &mut ReadyMessages,
+) -> Result<(), AllocError>
+    requires { bytes_of list.old + ready_bytes ready.old < 2 ^ 64 }
+    ensures next { OnOk result (last.new + 1 ≡ (deliver (last.old + 1) list.old).stream.next) }
+    ensures held { OnOk result (list.new ≡ (deliver (last.old + 1) list.old).stream.held) }
+    ensures ready { OnOk result (ready.new ≡ ready.old ++ (deliver (last.old + 1) list.old).messages) }
+    ensures settled { OnOk result (NoneInTurn (last.new + 1) (intervals_of list.new)) }
+    ensures onward { last.old ≤ last.new }
+    ensures err { OnErr result ((count : ℕ) × ((record { next = last.new + 1; held = list.new } ≡ (deliver_in_part count (last.old + 1) list.old).stream) × (ready.new ≡ ready.old ++ (deliver_in_part count (last.old + 1) list.old).messages))) }
+    ensures kept { Extends ready.old ready.new }
+    ensures bytes { bytes_of list.new + ready_bytes ready.new ≤ bytes_of list.old + ready_bytes ready.old }
+    ensures fragments { length list.new ≤ length list.old }
+{
+    // (that a number fits is known once it is read)
+    let _last = *last;
+    while let Some(interval) = list.pop_front_if_complete_and(*last as u128 + 1) {
+        let number = interval.first().key.number();
+        let message = message_of(alloc, interval)?;
+        ready.push(message)?;
+        *last = number;
+    }
+    Ok(())
+}
+
+/// Adds a fragment, and says whether the interval that took it is in turn.
+fn add_in<K: ReassemblyKey>(
+    list: &mut IntervalList<K>,
+    key: K,
+    fragment: Data,
+    next: u128,
+) -> Result<bool, AllocError>
+    requires room { bytes_of list.old + length fragment.payload.items < 2 ^ 64 }
+    requires fragments { length list.old + 1 < 2 ^ 64 }
+    ensures value { OnOk result (list.new ≡ with_item rank_of (as_held (K.number key) (K.index key) fragment) list.old) }
+    ensures none { IfOk result (λ turn. turn ≡ false → NoneInTurn next (intervals_of list.old) → NoneInTurn next (intervals_of list.new)) }
+    ensures bytes { bytes_of list.new ≤ bytes_of list.old + length fragment.payload.items }
+    ensures fragments { length list.new ≤ length list.old + 1 }
+    ensures err { OnErr result (list.new ≡ list.old) }
+{
+    if !list.add(key, fragment)? {
+        return Ok(false);
+    }
+    Ok(list.is_in_turn_at(key, next))
+}
+
+/// Whether nothing is in turn: nothing was before, and no interval came to be.
+fn stays_settled(is_settled: bool, is_turn: bool) -> bool
+    ensures settled { result ≡ true → is_settled ≡ true }
+    ensures turn { result ≡ true → is_turn ≡ false }
+{
+    is_settled && !is_turn
+}
+
+impl<K: ReassemblyKey> OrderedFragments<K> {
+    /// None yet. Takes no memory.
+    pub fn new(alloc: Global, last: u64) -> OrderedFragments<K>
+        requires { origin ≤ last + 1 }
+        ensures { result ≡ record { next = last + 1; held = [] } }
+    {
+        OrderedFragments {
+            alloc,
+            last,
+            list: IntervalList::new(alloc),
+            is_settled: true,
+        }
+    }
+
+    /// The number before that of the next message.
+    pub fn last(&self) -> u64
+        ensures value { result + 1 ≡ self.now.next }
+        ensures range { origin ≤ result + 1 }
+    {
+        self.last
+    }
+
+    /// The number before that of the next message, where there are no fragments.
+    pub fn idle(&self) -> Option<u64>
+        ensures some { IfSome result (λ last. self.now ≡ record { next = last + 1; held = [] }) }
+        ensures none { IfNone result (0 < length self.now.held) }
+    {
+        if !self.list.is_empty() {
+            return None;
+        }
+        Some(self.last)
+    }
+
+    /// How many bytes of payload they have.
+    pub fn total_bytes(&self) -> usize
+        ensures { result ≡ bytes_of self.now.held }
+    {
+        self.list.total_bytes()
+    }
+
+    /// How many there are.
+    pub fn len(&self) -> usize
+        ensures { result ≡ length self.now.held }
+    {
+        self.list.held_fragments()
+    }
+
+    /// Adds a fragment, and makes ready what is then in turn.
+    #[tactic(auto, using(crate::proofs::ExtendsLemmas::extends_none))]
+    pub fn keep(
+        &mut self,
+        key: K,
+        fragment: Data,
+        ready: &mut ReadyMessages,
+    ) -> Result<(), AllocError>
+        requires due { nat_lt (K.number key) self.old.next ≡ false }
+        requires room { bytes_of self.old.held + ready_bytes ready.old + length fragment.payload.items < 2 ^ 64 }
+        requires fragments { length self.old.held + 1 < 2 ^ 64 }
+        ensures ok { OnOk result (self.new ≡ (ordered_arrival (as_held (K.number key) (K.index key) fragment) self.old).stream) }
+        ensures ready { OnOk result (ready.new ≡ ready.old ++ (ordered_arrival (as_held (K.number key) (K.index key) fragment) self.old).messages) }
+        ensures err { OnErr result ((steps : ℕ) × ((self.new ≡ (ordered_arrival_in_part steps (as_held (K.number key) (K.index key) fragment) self.old).stream) × (ready.new ≡ ready.old ++ (ordered_arrival_in_part steps (as_held (K.number key) (K.index key) fragment) self.old).messages))) }
+        ensures kept { Extends ready.old ready.new }
+        ensures bytes { bytes_of self.new.held + ready_bytes ready.new ≤ bytes_of self.old.held + ready_bytes ready.old + length fragment.payload.items }
+        ensures fragments { length self.new.held ≤ length self.old.held + 1 }
+        ensures least { origin ≤ self.new.next }
+    {
+        let next = self.last as u128 + 1;
+        let is_turn = add_in(&mut self.list, key, fragment, next)?;
+        self.is_settled = stays_settled(self.is_settled, is_turn);
+        if self.is_settled {
+            return Ok(());
+        }
+        deliver(self.alloc, &mut self.last, &mut self.list, ready)?;
+        self.is_settled = true;
+        Ok(())
+    }
+
+    /// Whether nothing is before the key, and nothing in turn: then a forward point to it changes nothing.
+    fn is_passed(&self, first: K) -> bool
+        ensures next { result ≡ true → K.number first ≤ self.now.next }
+        ensures held { result ≡ true → from_rank rank_of (rank_at K.number K.index first) self.now.held ≡ self.now.held }
+        ensures settled { result ≡ true → NoneInTurn self.now.next (intervals_of self.now.held) }
+    {
+        if !self.is_settled {
+            return false;
+        }
+        first.number() as u128 <= self.last as u128 + 1 && !self.list.begins_below(first)
+    }
+
+    /// Drops the messages before that of the key, and moves the next number to it, never back. What is in turn then becomes
+    /// ready. Where it passes nothing, nothing is looked through.
+    #[tactic(auto, using(crate::proofs::ExtendsLemmas::extends_none))]
+    pub fn forward(&mut self, first: K, ready: &mut ReadyMessages) -> Result<(), AllocError>
+        requires room { bytes_of self.old.held + ready_bytes ready.old < 2 ^ 64 }
+        requires some { 0 < K.number first }
+        requires small { K.number first < 2 ^ 63 }
+        ensures ok { (n : ℕ) → K.number first ≡ suc n → K.index first ≡ 0 → OnOk result (self.new ≡ (ordered_forward n self.old).stream) }
+        ensures ready { (n : ℕ) → K.number first ≡ suc n → K.index first ≡ 0 → OnOk result (ready.new ≡ ready.old ++ (ordered_forward n self.old).messages) }
+        ensures err { (n : ℕ) → K.number first ≡ suc n → K.index first ≡ 0 → OnErr result ((steps : ℕ) × ((self.new ≡ (ordered_forward_in_part steps n self.old).stream) × (ready.new ≡ ready.old ++ (ordered_forward_in_part steps n self.old).messages))) }
+        ensures kept { Extends ready.old ready.new }
+        ensures bytes { bytes_of self.new.held + ready_bytes ready.new ≤ bytes_of self.old.held + ready_bytes ready.old }
+        ensures fragments { length self.new.held ≤ length self.old.held }
+        ensures least { origin ≤ self.new.next }
+    {
+        if self.is_passed(first) {
+            return Ok(());
+        }
+        self.is_settled = false;
+        self.list.retain(first);
+        self.last = self.last.max(first.number() - 1);
+        deliver(self.alloc, &mut self.last, &mut self.list, ready)?;
+        self.is_settled = true;
+        Ok(())
+    }
+}
