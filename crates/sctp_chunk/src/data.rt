@@ -236,6 +236,7 @@ pub struct DataChunk {
 
 #[tactic(auto, unfolding(crate::specs::Written::data_value))]
 impl DataChunk {
+    /// The chunk type.
     pub const TYPE: u8 = 0;
 
     /// What the chunk says; `InvalidType` where it is of another type, `InvalidLength` where its value has under 12 bytes.
@@ -287,6 +288,7 @@ pub struct IDataChunk {
 
 #[tactic(auto, unfolding(crate::specs::Written::idata_value))]
 impl IDataChunk {
+    /// The chunk type.
     pub const TYPE: u8 = 64;
 
     /// What the chunk says; `InvalidType` where it is of another type, `InvalidLength` where its value has under 16 bytes.

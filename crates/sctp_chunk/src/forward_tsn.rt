@@ -137,6 +137,7 @@ pub struct ForwardTsnChunk {
 
 #[tactic(auto, unfolding(crate::specs::Written::forward_value))]
 impl ForwardTsnChunk {
+    /// The chunk type.
     pub const TYPE: u8 = 192;
 
     /// What the chunk says; `InvalidType` where it is of another type, `InvalidLength` where its value is no four bytes
@@ -163,6 +164,7 @@ pub struct IForwardTsnChunk {
 }
 
 impl IForwardTsnChunk {
+    /// The chunk type.
     pub const TYPE: u8 = 194;
 
     /// What the chunk says; `InvalidType` where it is of another type, `InvalidLength` where its value is no four bytes

@@ -27,6 +27,7 @@ pub struct GapAckBlock {
 }
 
 impl GapAckBlock {
+    /// The block of these two offsets from the cumulative TSN.
     pub fn new(start: u16, end: u16) -> GapAckBlock
         ensures { result ≡ record { start = start; end = end } }
     {
@@ -77,6 +78,7 @@ pub struct SackChunk {
 
 #[tactic(auto, unfolding(crate::specs::Written::sack_value))]
 impl SackChunk {
+    /// The chunk type.
     pub const TYPE: u8 = 3;
 
     /// What the chunk says; `InvalidType` where it is of another type, `InvalidLength` where its value does not hold

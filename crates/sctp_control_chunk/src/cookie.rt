@@ -19,6 +19,7 @@ pub struct CookieEchoChunk {
 }
 
 impl CookieEchoChunk {
+    /// The chunk type.
     pub const TYPE: u8 = 10;
 
     /// What the chunk says; `InvalidType` where it is of another type, `InvalidLength` where there is no cookie.
@@ -41,6 +42,7 @@ impl CookieEchoChunk {
 pub struct CookieAckChunk {}
 
 impl CookieAckChunk {
+    /// The chunk type.
     pub const TYPE: u8 = 11;
 
     /// What the chunk says; `InvalidType` where it is of another type, `InvalidLength` where it has a value.

@@ -23,6 +23,7 @@ pub struct AbortChunk {
 }
 
 impl AbortChunk {
+    /// The chunk type.
     pub const TYPE: u8 = 6;
 
     /// What the chunk says; `InvalidType` where it is of another type, else the fault of its first cause that cannot be
@@ -46,6 +47,7 @@ pub struct ErrorChunk {
 }
 
 impl ErrorChunk {
+    /// The chunk type.
     pub const TYPE: u8 = 9;
 
     /// What the chunk says; `InvalidType` where it is of another type, else the fault of its first cause that cannot be

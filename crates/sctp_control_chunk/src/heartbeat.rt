@@ -20,6 +20,7 @@ pub struct HeartbeatRequestChunk {
 }
 
 impl HeartbeatRequestChunk {
+    /// The chunk type.
     pub const TYPE: u8 = 4;
 
     /// What the chunk says; `InvalidType` where it is of another type, else the fault of its first parameter that cannot
@@ -40,6 +41,7 @@ pub struct HeartbeatAckChunk {
 }
 
 impl HeartbeatAckChunk {
+    /// The chunk type.
     pub const TYPE: u8 = 5;
 
     /// What the chunk says; `InvalidType` where it is of another type, else the fault of its first parameter that cannot

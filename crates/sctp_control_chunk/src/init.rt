@@ -105,6 +105,7 @@ pub struct InitChunk {
 
 #[tactic(auto, unfolding(sctp_chunk::specs::Written::init_fields))]
 impl InitChunk {
+    /// The chunk type.
     pub const TYPE: u8 = 1;
 
     /// What the chunk says; `InvalidType` where it is of another type, `InvalidLength` where its value has under 16
@@ -154,6 +155,7 @@ pub struct InitAckChunk {
 
 #[tactic(auto, unfolding(sctp_chunk::specs::Written::init_fields))]
 impl InitAckChunk {
+    /// The chunk type.
     pub const TYPE: u8 = 2;
 
     /// What the chunk says; `InvalidType` where it is of another type, `InvalidLength` where its value has under 16

@@ -20,6 +20,7 @@ pub struct ReConfigChunk {
 }
 
 impl ReConfigChunk {
+    /// The chunk type.
     pub const TYPE: u8 = 130;
 
     /// What the chunk says; `InvalidType` where it is of another type, else the fault of its first parameter that cannot

@@ -21,6 +21,7 @@ pub struct ShutdownChunk {
 }
 
 impl ShutdownChunk {
+    /// The chunk type.
     pub const TYPE: u8 = 7;
 
     /// What the chunk says; `InvalidType` where it is of another type, `InvalidLength` where its value has not four bytes.
@@ -42,6 +43,7 @@ impl ShutdownChunk {
 pub struct ShutdownAckChunk {}
 
 impl ShutdownAckChunk {
+    /// The chunk type.
     pub const TYPE: u8 = 8;
 
     /// What the chunk says; `InvalidType` where it is of another type, `InvalidLength` where it has a value.
@@ -62,6 +64,7 @@ pub struct ShutdownCompleteChunk {
 }
 
 impl ShutdownCompleteChunk {
+    /// The chunk type.
     pub const TYPE: u8 = 14;
 
     /// What the chunk says; `InvalidType` where it is of another type, `InvalidLength` where it has a value.

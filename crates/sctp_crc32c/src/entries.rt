@@ -1,6 +1,6 @@
 //! What steps of the division make of each byte: of 8 steps first, then of 16, up to 128.
 
-/// A proof computes it anew, bit by bit.
+/// At 256 * `n` + `b` is the remainder of the byte `b` with `n` bytes of zeros behind it.
 pub const TABLES: [u32; 4096] = [
     0x00000000, 0xf26b8303, 0xe13b70f7, 0x1350f3f4, 0xc79a971f, 0x35f1141c, 0x26a1e7e8, 0xd4ca64eb,
     0x8ad958cf, 0x78b2dbcc, 0x6be22838, 0x9989ab3b, 0x4d43cfd0, 0xbf284cd3, 0xac78bf27, 0x5e133c24,

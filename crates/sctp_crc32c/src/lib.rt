@@ -105,7 +105,7 @@ fn entry(entries: &[u32; 4096], zeros: usize, byte: u8) -> u32
     entries[256 * zeros + byte as usize]
 }
 
-/// The tables, which their proof computes anew.
+/// The tables.
 #[tactic(auto, unfolding(crate::specs::Crc32c::tables, crate::specs::Crc32c::take_zeros, crate::specs::Crc32c::take_bits, crate::specs::Crc32c::take_bit))]
 fn tables() -> &'static [u32; 4096]
     ensures { result.now ≡ tables }

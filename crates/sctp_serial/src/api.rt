@@ -118,6 +118,7 @@ impl LifecycleId {
         }
     }
 
+    /// The identifier of this number, which is above 0.
     pub fn from(n: u64) -> LifecycleId
         requires { 0 < n }
         ensures { result ≡ n }
@@ -125,6 +126,7 @@ impl LifecycleId {
         LifecycleId { value: n }
     }
 
+    /// Its number, above 0.
     pub fn value(&self) -> u64
         ensures value { result ≡ self.now }
         ensures not_zero { 0 < result }
@@ -198,6 +200,7 @@ pub struct Message {
 }
 
 impl Message {
+    /// A message of this stream, payload protocol identifier and payload.
     pub fn new(stream_id: StreamId, ppid: PpId, payload: Vec<u8>) -> Message
         ensures stream { result.stream_id ≡ stream_id }
         ensures ppid { result.ppid ≡ ppid }

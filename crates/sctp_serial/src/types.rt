@@ -57,6 +57,7 @@ pub enum StreamKey {
 }
 
 impl StreamKey {
+    /// The key of this stream, for messages without or with an order.
     pub fn new(is_unordered: bool, id: StreamId) -> StreamKey
         ensures { result ≡ (if is_unordered then StreamKey.Unordered id else StreamKey.Ordered id) }
     {
@@ -77,12 +78,14 @@ impl StreamKey {
         }
     }
 
+    /// Whether its messages are handed out in their order.
     pub fn is_ordered(&self) -> bool
         ensures { IsTrue result ↔ (self.now ≡ StreamKey.Ordered (stream_of self.now)) }
     {
         matches!(self, StreamKey::Ordered(_))
     }
 
+    /// Whether its messages are handed out as they become complete.
     pub fn is_unordered(&self) -> bool
         ensures { IsTrue result ↔ (self.now ≡ StreamKey.Unordered (stream_of self.now)) }
     {

@@ -16,7 +16,7 @@ use sctp_state::{
 /// All calls go by the moment to which the time was advanced last, so a turn begins with `advance_time`, and ends with
 /// `poll_timeout`.
 ///
-/// Write what drives a socket over `S: DcSctpSocket`: it is proved in seconds, over one concrete `Socket` in minutes.
+/// Write what drives a socket over `S: DcSctpSocket`: it then serves a socket of tests too.
 pub trait DcSctpSocket {
     /// Takes the event that was emitted first. Take all of them each turn: those that wait are kept, however many there are. An arm
     /// that passes events over is written `Some(_event) => ()`, since `Some(_)` doesn't take it.

@@ -53,6 +53,7 @@ impl StreamScheduler {
         self.is_interleaved = is_interleaved;
     }
 
+    /// Whether fragments of messages may lie between each other (RFC 8260).
     pub fn is_interleaved(&self) -> bool
         ensures { result ≡ self.now.is_interleaved }
     {
