@@ -131,6 +131,39 @@ fn resets(alloc: Global) -> bool {
     hold(alloc, &steps)
 }
 
+/// An association ends with a message that is partly sent and others that wait, of two streams.
+fn ends(alloc: Global) -> bool {
+    let steps = [
+        Priority(1, 7),
+        AcceptNamed(4, 5, 6),
+        Gives(0, 3, (4, 0, 0, 0, 0, 3)),
+        AcceptNamed(1, 6, 7),
+        AcceptNamed(1, 5, 8),
+        Empty,
+        Ended(1),
+        Ended(2),
+        Ended(0),
+        NoneGivenUp,
+        Emits(Emitted::Expired(7)),
+        Emits(Emitted::End(7)),
+        Emits(Emitted::Expired(8)),
+        Emits(Emitted::End(8)),
+        Emits(Emitted::Expired(6)),
+        Emits(Emitted::End(6)),
+        Emits(Emitted::Nothing),
+        IsEmpty(true),
+        Amount(4, 0),
+        HasPriority(1, 7),
+        GivesNone(0),
+        Accept(1, 2),
+        GivesWhole(1, 3, 0, 2),
+        Accept(4, 2),
+        GivesWhole(4, 4, 1, 2),
+        IsEmpty(true),
+    ];
+    hold(alloc, &steps)
+}
+
 /// Another queue takes up the record of a socket without anything else.
 fn takes_up(
     queue: &SendQueue,
@@ -195,5 +228,6 @@ fn tells_want_of_memory(rt: HostRuntime) {
     assert!(rt; sends(rt.alloc()));
     assert!(rt; sends_whole(rt.alloc()));
     assert!(rt; resets(rt.alloc()));
+    assert!(rt; ends(rt.alloc()));
     assert!(rt; goes_on(rt.alloc()));
 }

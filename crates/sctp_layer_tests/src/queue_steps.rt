@@ -46,12 +46,16 @@ pub enum Step {
     Commit(u16),
     RollBack(u16),
     Reset,
+    /// The association ends.
+    Empty,
     /// The next event.
     Emits(Emitted),
     /// The next record says that the lifetime of this message passed.
     GivenUp(u32),
     /// It says that the reset of its stream dropped this message.
     Dropped(u32),
+    /// It says that this message's association ended.
+    Ended(u32),
     NoneGivenUp,
     Amount(u16, usize),
     Total(usize),
@@ -247,9 +251,14 @@ pub fn holds(
             queue.prepare_reset_stream(StreamId(id), events)?;
             Ok(true)
         }
+        Step::Empty => {
+            queue.empty(events)?;
+            Ok(true)
+        }
         Step::Emits(want) => Ok(next_heard(events) == want),
         Step::GivenUp(message) => Ok(is_given_up(events, message, GivenUpCause::Lifetime)),
         Step::Dropped(message) => Ok(is_given_up(events, message, GivenUpCause::Reset)),
+        Step::Ended(message) => Ok(is_given_up(events, message, GivenUpCause::Ended)),
         Step::NoneGivenUp => Ok(events.next_given_up().is_none()),
         _ => settles(alloc, queue, step),
     }

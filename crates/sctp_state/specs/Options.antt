@@ -2,6 +2,7 @@
 use Rattle.std.specs.Prelude.{ℕ, ℤ, pos, negsuc, ◌*◌, ◌≤◌, Bool, true, false, Option, Some, None, option_map}
 use Rattle.std.specs.Duration.{as_nanos}
 use Rattle.sctp_state.specs.Numbers.{ms, most_u32}
+use Rattle.sctp_state.specs.Timer.{cap_at}
 use Rattle.sctp_state.specs.declared.api.options.Options as given
 use Rattle.sctp_state.specs.declared.api.options.SendOptions as given_to_send
 
@@ -43,6 +44,7 @@ pub record Options : Type 0 where
   pub zero_checksum_method : ℕ
   pub disable_checksum_verification : Bool
   pub enable_handover_with_outstanding_data : Bool
+  pub avoid_stalls : Bool
 
 abbrev pub at_least_zero : ℤ → ℕ
 at_least_zero (pos n) = n
@@ -88,6 +90,7 @@ options_of o = record {
   zero_checksum_method = o.zero_checksum_alternate_error_detection_method.0;
   disable_checksum_verification = o.disable_checksum_verification;
   enable_handover_with_outstanding_data = o.enable_handover_with_outstanding_data;
+  avoid_stalls = o.avoid_stalls;
 }
 
 abbrev pub defaults : Options
@@ -129,6 +132,7 @@ defaults = record {
   zero_checksum_method = 0;
   disable_checksum_verification = false;
   enable_handover_with_outstanding_data = false;
+  avoid_stalls = false;
 }
 
 -- ---- which options a socket can be made with
@@ -165,6 +169,24 @@ pub record IsValid (o : Options) : Type 0 where
   pub sizes : HasValidSizes o
   pub times : HasValidTimes o
   pub windows : HasValidWindows o
+
+-- ---- how long timers wait at most, once they have backed off
+
+-- T3-rtx: with stalls avoided no longer than the greatest timeout (RFC 9260 section 6.3.3, rule E2)
+abbrev pub t3_backoff_if : (avoids_stalls : Bool) → Options → Option ℕ
+t3_backoff_if true o = Some (cap_at o.max_timer_backoff_duration o.rto_max)
+t3_backoff_if false o = o.max_timer_backoff_duration
+
+abbrev pub t3_backoff : Options → Option ℕ
+t3_backoff o = t3_backoff_if o.avoid_stalls o
+
+-- the timer of requests to reset streams, alike (RFC 6525 section 5.1.1)
+abbrev pub reconfig_backoff_if : (avoids_stalls : Bool) → Options → Option ℕ
+reconfig_backoff_if true o = Some o.rto_max
+reconfig_backoff_if false o = None
+
+abbrev pub reconfig_backoff : Options → Option ℕ
+reconfig_backoff o = reconfig_backoff_if o.avoid_stalls o
 
 -- ---- what a message is sent with
 

@@ -111,6 +111,8 @@ pub enum GivenUpCause {
     Retransmissions(u32),
     /// Its stream was to be reset, and nothing of it had been sent.
     Reset,
+    /// Its association ended before all of it was sent. With `avoid_stalls` alone.
+    Ended,
 }
 
 /// The record of a message that was given up (RFC 3758 section 3.5).

@@ -50,6 +50,7 @@ impl Model for Events {
 impl Events {
     ghost use Rattle.sctp_state.specs.Events.{nothing_emitted, emit_event, emit_record, given_up_of, mark_of, rolled_back};
 
+    /// No event.
     pub fn new(alloc: Global) -> Events
         ensures { result ≡ nothing_emitted }
     {

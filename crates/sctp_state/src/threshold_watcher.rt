@@ -32,12 +32,14 @@ impl ThresholdWatcher {
         }
     }
 
+    /// The amount, in bytes.
     pub fn amount(&self) -> usize
         ensures { result ≡ self.now.amount }
     {
         self.amount
     }
 
+    /// The threshold, in bytes.
     pub fn low_threshold(&self) -> usize
         ensures { result ≡ self.now.low_threshold }
     {

@@ -78,6 +78,7 @@ impl Timer {
         };
     }
 
+    /// Stops the timer: it expires no more until it is started.
     pub fn stop(&mut self)
         ensures { self.new ≡ stop self.old }
     {
@@ -114,6 +115,7 @@ impl Timer {
         self.next_expiry.unwrap_or(SocketTime::infinite_future())
     }
 
+    /// Whether an expiry lies ahead.
     pub fn is_running(&self) -> bool
         ensures { result ≡ is_running self.now }
     {
@@ -127,6 +129,7 @@ impl Timer {
         self.duration = duration;
     }
 
+    /// The duration that is set.
     pub fn duration(&self) -> Duration
         ensures { as_nanos result ≡ self.now.duration }
     {

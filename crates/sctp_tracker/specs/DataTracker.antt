@@ -74,6 +74,10 @@ update_rto rto t = record t { delay = set_duration (ack_delay rto t.most_delay) 
 abbrev pub acking : AckState → Tracker → Tracker
 acking a t = record t { ack = a; delay = stop t.delay }
 
+-- one is to go out at once
+abbrev pub force_ack : Tracker → Tracker
+force_ack t = acking Immediate t
+
 -- one more packet is to be acknowledged, and the second one at once
 abbrev pub after_packet : AckState → AckState
 after_packet Idle = Becoming

@@ -245,6 +245,13 @@ impl DataTracker {
         true
     }
 
+    /// Whether an acknowledgement is to go out at once.
+    pub fn owes_ack(&self) -> bool
+        ensures { result ≡ is_ack_due false self.now.tracker.ack }
+    {
+        self.ack_state.is_ack_due(false)
+    }
+
     /// Whether observing this TSN would raise the cumulative TSN.
     pub fn will_increase_cum_ack_tsn(&self, tsn: Tsn) -> bool
         ensures { result ≡ (number_of self.now tsn.0 == self.now.tracker.seen.front + 1) }

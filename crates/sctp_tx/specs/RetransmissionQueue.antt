@@ -3,7 +3,7 @@ use Rattle.std.specs.Prelude.{ℕ, ◌-◌, ◌==◌, ◌&&◌, ◌||◌, not, n
 use Rattle.std.specs.Duration.{as_nanos}
 use Rattle.sctp_chunk.specs.declared.sack.GapAckBlock.{GapAckBlock}
 use Rattle.sctp_state.specs.Events.{Emitted}
-use Rattle.sctp_state.specs.Options.{Options}
+use Rattle.sctp_state.specs.Options.{Options, t3_backoff}
 use Rattle.sctp_state.specs.Timer.{Timer, timer, start, stop, is_running, expire}
 use Rattle.sctp_state.specs.declared.timer.BackoffAlgorithm.TheVariants.{Exponential}
 use Rattle.sctp_tx_outstanding.specs.OutstandingData.{Outstanding, Items, no_items, next_number, flight_bytes, flight_payload, flight_items}
@@ -24,7 +24,7 @@ abbrev pub sender : Options → (first a_rwnd : ℕ) → (is_partial is_interlea
 sender o first a_rwnd is_partial is_interleaved = record {
   outstanding = record { first = first; items = no_items is_partial is_interleaved };
   windows = at_first o a_rwnd;
-  t3 = timer o.rto_initial Exponential None o.max_timer_backoff_duration;
+  t3 = timer o.rto_initial Exponential None (t3_backoff o);
   rtx_packets = 0;
   rtx_bytes = 0;
 }
@@ -43,6 +43,10 @@ restart_or_stop is_empty now t = if is_empty then stop t else start now t
 
 abbrev pub t3_after_sack : (moved : Bool) → Items → ℕ → Timer → Timer
 t3_after_sack moved s now t = kept_running (nothing_in_flight s) now (if moved then restart_or_stop (length s.kept == 0) now t else t)
+
+-- what is kept is timed from now on
+abbrev pub wake : ℕ → Sender → Sender
+wake now s = record s { t3 = restart_or_stop (length s.outstanding.items.kept == 0) now s.t3 }
 
 -- ---- a SACK
 

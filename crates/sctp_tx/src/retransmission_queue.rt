@@ -9,8 +9,8 @@ ghost use Rattle.sctp_tx_outstanding.specs.Losses.{nack_all, expire_outstanding}
 ghost use Rattle.sctp_tx_outstanding.specs.Forward.{is_forward_due};
 ghost use Rattle.sctp_control_chunk.specs.ChunkView.{chunk_tree};
 ghost use Rattle.sctp_tx.specs.ForwardPoints.{abandon_expired, forward_chunk};
-ghost use Rattle.sctp_tx_outstanding.specs.Sack.{is_valid, acked_bytes};
-ghost use Rattle.sctp_tx.specs.RetransmissionQueue.{sender, handle_sack, step_of, sender_if, emitted_if, answer_if, answer_of, windows_after, t3_after_sack, kept_running, nothing_in_flight, timed_out_sender};
+ghost use Rattle.sctp_tx_outstanding.specs.Sack.{is_valid, is_open_at, acked_bytes};
+ghost use Rattle.sctp_tx.specs.RetransmissionQueue.{sender, wake, handle_sack, step_of, sender_if, emitted_if, answer_if, answer_of, windows_after, t3_after_sack, kept_running, nothing_in_flight, timed_out_sender};
 ghost use Rattle.sctp_tx.specs.Interrupted.{PartlyAcknowledged, PartlyTimedOut, PartlyExpired, PartlyResentFast, PartlyResent, LostOrKept, TurnStopped, PartlyFilled, SomeDiscarded, PartlySent};
 ghost use Rattle.sctp_tx.specs.Flight.{StaysWithin, AddsAtMost, FitWithin};
 ghost use Rattle.sctp_tx.specs.Windows.{saturate_u64};
@@ -98,7 +98,7 @@ impl RetransmissionQueue {
                 options.rto_initial,
                 BackoffAlgorithm::Exponential,
                 None,
-                options.max_timer_backoff_duration,
+                options.t3_backoff(),
             ),
             rtx_packets_count: 0,
             rtx_bytes_count: 0,
@@ -141,6 +141,7 @@ impl RetransmissionQueue {
         self.windows.cwnd()
     }
 
+    /// Sets the congestion window, in bytes.
     pub fn set_cwnd(&mut self, cwnd: usize)
         ensures { self.new ≡ record self.old { windows = record self.old.windows { cwnd = cwnd } } }
     {
@@ -288,16 +289,37 @@ impl RetransmissionQueue {
         }
     }
 
+    /// Whether the item with this TSN is kept, and neither acknowledged by a block nor given up.
+    pub fn is_open(&self, tsn: Tsn) -> bool
+        ensures { result ≡ is_open_at (number_of self.now.outstanding tsn.0) self.now.outstanding.items }
+    {
+        self.outstanding.is_open(tsn)
+    }
+
+    /// Whether the first item that is kept is given up: a forward point is due.
+    pub fn has_forward_point(&self) -> bool
+        ensures { result ≡ is_forward_due self.now.outstanding.items }
+    {
+        self.outstanding.should_send_forward_tsn()
+    }
+
+    /// t3-rtx begins anew where items are kept, as those of a record that was taken up (RFC 9260 section 6.3.2).
+    pub fn wake(&mut self, now: SocketTime)
+        ensures { self.new ≡ wake now self.old }
+    {
+        if self.outstanding.is_empty() {
+            self.t3_rtx.stop();
+        } else {
+            self.t3_rtx.start(now);
+        }
+    }
+
     /// t3-rtx begins anew where the cumulative TSN moved, and runs while something is in flight or missing.
     fn run_timer(&mut self, now: SocketTime, moved: bool)
         ensures { self.new ≡ record self.old { t3 = t3_after_sack moved self.old.outstanding.items now self.old.t3 } }
     {
         if moved {
-            if self.outstanding.is_empty() {
-                self.t3_rtx.stop();
-            } else {
-                self.t3_rtx.start(now);
-            }
+            self.wake(now);
         }
         self.keep_running(now);
     }

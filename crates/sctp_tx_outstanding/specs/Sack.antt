@@ -129,6 +129,14 @@ acked_bytes cumulative blocks s = departing_bytes cumulative s + newly_acked blo
 
 -- ---- round trips
 
+abbrev pub is_open_of : Option Item → Bool
+is_open_of None = false
+is_open_of (Some i) = is_open i
+
+-- whether the item with this number is kept, and neither acknowledged by a block nor given up
+abbrev pub is_open_at : ℕ → Items → Bool
+is_open_at number s = if nat_le number s.acked then false else is_open_of (slice_get s.kept (number - s.acked - 1))
+
 abbrev pub sample_of : ℕ → Option Item → Option ℕ
 sample_of now None = None
 sample_of now (Some i) = if i.sent == 1 then Some (rtt_from now i) else None

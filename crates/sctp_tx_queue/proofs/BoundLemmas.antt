@@ -34,6 +34,9 @@ pub record Keeps (ms ns : List Queued) : Type 0 where
 pub keeps_same : (ms : List Queued) → Keeps ms ms
 keeps_same ms = record { small = λ h. h; fewer = omega arith }
 
+pub keeps_none : (ms : List Queued) → Keeps ms []
+keeps_none ms = record { small = λ h. refl; fewer = omega arith }
+
 behind : (m : Queued) (rest : List Queued) → Keeps (m ∷ rest) rest
 behind m rest = record { small = λ h. (and_parts (is_small m) (list_all is_small rest) h).1; fewer = omega arith }
 

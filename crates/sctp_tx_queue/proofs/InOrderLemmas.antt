@@ -46,7 +46,7 @@ inserted_here id s (e ∷ es) = go (nat_cmp id e.0) refl (inserted_here id s es)
     go Equal h ih = ap (λ t. cond t (Some s) rest) (at_equal id e.0 h)
     go Greater h ih = ap (λ t. cond t (Some e.1) (lookup (is_at (nat_cmp id)) (insert_entry nat_cmp es id s))) (not_at_greater id e.0 h) ∙ ih
 
-is_none : (o : Option Stream) → is_some o ≡ false → o ≡ None
+pub is_none : (o : Option Stream) → is_some o ≡ false → o ≡ None
 is_none None h = refl
 is_none (Some s) h = absurd (cc)
 
@@ -288,7 +288,7 @@ restarted_unsent (id ∷ ids) k q h = restarted_unsent ids k (restarted_one id q
         (at_id (lookup (is_at (nat_cmp id)) q.streams.entries) refl (subst (λ i. is_first_begun (stream i q.streams).messages ≡ false) same h))
     go false e = ap (λ o. is_first_begun (unwrap_or o (blank q.streams)).messages) (written_elsewhere k id s q.streams.entries e) ∙ h
 
-abbrev is_among : ℕ → List ℕ → Bool
+abbrev pub is_among : ℕ → List ℕ → Bool
 is_among k [] = false
 is_among k (id ∷ ids) = (k == id) || is_among k ids
 
@@ -318,7 +318,7 @@ or_true : (a : Bool) → a || true ≡ true
 or_true true = refl
 or_true false = refl
 
-found_among : (k : ℕ) (es : Entries) → is_some (lookup (is_at (nat_cmp k)) es) ≡ true → is_among k (keys_of es) ≡ true
+pub found_among : (k : ℕ) (es : Entries) → is_some (lookup (is_at (nat_cmp k)) es) ≡ true → is_among k (keys_of es) ≡ true
 found_among k [] h = absurd (cc)
 found_among k (e ∷ es) h = go (is_at (nat_cmp k) e.0) refl h (found_among k es)
   where

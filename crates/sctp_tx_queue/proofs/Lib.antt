@@ -13,6 +13,8 @@ pub mod StaysBegunLemmas
 pub mod StreamLemmas
 pub mod StreamsLemmas
 pub mod EmittingLemmas
+pub mod EmptiedLemmas
+pub mod InTurnLemmas
 pub mod TakenUpLemmas
 pub mod UnfinishedLemmas
 pub mod WholeLemmas

@@ -5,6 +5,7 @@ use Rattle.std.specs.Map.{keys_of}
 use Rattle.std.proofs.Math.Nat.{mod-eq_of_lt}
 use Rattle.std.proofs.lemmas.Bool.Decides.{nat_tests}
 use Rattle.std.proofs.lemmas.Bool.{leb-true, ltb-true, and_parts}
+use Rattle.sctp_tx_queue.proofs.EmptiedLemmas.{emptied_numbered}
 use Rattle.sctp_tx_queue.proofs.StreamLemmas.{step_messages}
 use Rattle.sctp_state.specs.Events.{Emitted}
 use Rattle.sctp_tx_queue.specs.declared.send_queue.message.MessageNumbers.{MessageNumbers}
@@ -201,4 +202,5 @@ calls_number = record {
       (filter_rising 0 q.next_number is_partly (stream id q.streams).messages (h.rising id)) h;
   steps = steps_numbered;
   restarted = λ q h. let r = restarted_numbered (keys_of q.streams.entries) q h in record { rising = r.rising };
+  emptied = λ q emitted. emptied_numbered q emitted;
 }

@@ -7,6 +7,7 @@ use Rattle.std.proofs.lemmas.List.{length-take}
 use Rattle.std.proofs.lemmas.Bool.Decides.{nat_tests}
 use Rattle.std.proofs.lemmas.Option.{none-some, same_Some}
 use Rattle.std.proofs.lemmas.Bool.{ltb-true, and_parts}
+use Rattle.sctp_tx_queue.proofs.EmptiedLemmas.{emptied_rests}
 use Rattle.sctp_tx_queue.proofs.StreamLemmas.{step_messages}
 use Rattle.sctp_state.specs.Events.{Emitted}
 use Rattle.sctp_tx_queue.specs.declared.send_queue.message.MessageNumbers.{MessageNumbers}
@@ -172,4 +173,5 @@ calls_leave_rests = record {
       put_stream_keeps_rests id (prepare_stream (stream id q.streams)) (with_stream id q.streams) q (prepare_reset id q emitted).queue (λ k. opened_same k id q.streams) refl (all_filter is_partly (stream id q.streams).messages (h.rests id)) h;
   steps = steps_rests;
   restarted = λ q h. let r = restarted_rests (keys_of q.streams.entries) q h in record { rests = r.rests };
+  emptied = λ q emitted. emptied_rests q emitted;
 }

@@ -9,6 +9,7 @@ use Rattle.sctp_tx_queue.specs.Produced.{Produced, move_past, ends}
 use Rattle.sctp_tx_queue.specs.Settings.{set_low_threshold, set_priority, set_mode, discard}
 use Rattle.sctp_tx_queue.specs.Resets.{prepare_reset, each_stepped}
 use Rattle.sctp_tx_queue.specs.Restarted.{reset}
+use Rattle.sctp_tx_queue.specs.Emptied.{empty}
 
 -- the number of the first message, if it is partly sent
 abbrev pub begun_number : List Queued → Option ℕ
@@ -63,6 +64,10 @@ DiscardStays = (id message : ℕ) (q : Queue) (emitted : Emitted (List ℕ)) →
 -- a new association begins with none
 abbrev pub ResetEnds : Type 0
 ResetEnds = (q : Queue) → (reset q).begun ≡ None
+
+-- one that ended leaves none
+abbrev pub EmptiedEnds : Type 0
+EmptiedEnds = (q : Queue) (emitted : Emitted (List ℕ)) → (empty q emitted).queue.begun ≡ None
 
 -- ---- the payloads of a message's fragments, of at most these sizes in turn, joined
 

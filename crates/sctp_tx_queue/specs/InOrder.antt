@@ -10,6 +10,7 @@ use Rattle.sctp_tx_queue.specs.Produced.{Produced, produce}
 use Rattle.sctp_tx_queue.specs.Settings.{set_low_threshold, set_priority, set_mode, discard}
 use Rattle.sctp_tx_queue.specs.Resets.{prepare_reset, each_stepped}
 use Rattle.sctp_tx_queue.specs.Restarted.{reset}
+use Rattle.sctp_tx_queue.specs.Emptied.{empty}
 
 -- nothing of it is sent, and it has no numbers
 abbrev pub is_unsent : Queued → Bool
@@ -89,6 +90,12 @@ pub record RestartedInOrder : Type 0 where
   pub order : (q : Queue) → IsInOrder q → IsInOrder (reset q)
   pub unsent : (q : Queue) → IsUnsent (reset q)
 
+-- whatever the queue was before
+pub record EmptiedInOrder : Type 0 where
+  pub order : (q : Queue) (emitted : Emitted (List ℕ)) → IsInOrder (empty q emitted).queue
+  pub unsent : (q : Queue) (emitted : Emitted (List ℕ)) → IsUnsent (empty q emitted).queue
+  pub messages : (q : Queue) (emitted : Emitted (List ℕ)) (k : ℕ) → (stream k (empty q emitted).queue.streams).messages ≡ []
+
 -- as long as the numbers of messages don't wrap
 pub record CallsNumber : Type 0 where
   pub new : (o : Options) → IsNumbered (queue o)
@@ -101,6 +108,7 @@ pub record CallsNumber : Type 0 where
   pub prepared : (id : ℕ) (q : Queue) (emitted : Emitted (List ℕ)) → IsNumbered q → IsNumbered (prepare_reset id q emitted).queue
   pub steps : (step : ResetStep) (ids : List ℕ) (q : Queue) → IsNumbered q → IsNumbered (each_stepped step ids q)
   pub restarted : (q : Queue) → IsNumbered q → IsNumbered (reset q)
+  pub emptied : (q : Queue) (emitted : Emitted (List ℕ)) → IsNumbered (empty q emitted).queue
 
 pub record CallsLeaveRests : Type 0 where
   pub new : (o : Options) → HasRests (queue o)
@@ -114,3 +122,4 @@ pub record CallsLeaveRests : Type 0 where
   pub prepared : (id : ℕ) (q : Queue) (emitted : Emitted (List ℕ)) → HasRests q → HasRests (prepare_reset id q emitted).queue
   pub steps : (step : ResetStep) (ids : List ℕ) (q : Queue) → HasRests q → HasRests (each_stepped step ids q)
   pub restarted : (q : Queue) → HasRests q → HasRests (reset q)
+  pub emptied : (q : Queue) (emitted : Emitted (List ℕ)) → HasRests (empty q emitted).queue

@@ -3,6 +3,7 @@ pub mod Begun
 pub mod Bounded
 pub mod Handover
 pub mod InOrder
+pub mod Emptied
 pub mod Interrupted
 pub mod Produced
 pub mod SendQueue

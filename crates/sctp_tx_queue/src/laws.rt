@@ -1,9 +1,9 @@
 //! What holds over several calls of the send queue.
 
 ghost use Rattle.std.specs.Prelude.{◌≡◌, true, drop};
-ghost use Rattle.sctp_tx_queue.specs.Begun.{fragments_payload, is_ended, AddedStays, ThresholdStays, PriorityStays, ModeStays, PreparedStays, StepsStay, DiscardStays, ResetEnds};
+ghost use Rattle.sctp_tx_queue.specs.Begun.{fragments_payload, is_ended, AddedStays, ThresholdStays, PriorityStays, ModeStays, PreparedStays, StepsStay, DiscardStays, ResetEnds, EmptiedEnds};
 ghost use Rattle.sctp_tx_queue.specs.Again.{EachComesBack};
-ghost use Rattle.sctp_tx_queue.specs.InOrder.{NewIsInOrder, AddedInOrder, ProducedInOrder, SettingsInOrder, DiscardedInOrder, ResetsInOrder, RestartedInOrder, CallsNumber, CallsLeaveRests, IsInOrder, IsNumbered, HasRests};
+ghost use Rattle.sctp_tx_queue.specs.InOrder.{NewIsInOrder, AddedInOrder, ProducedInOrder, SettingsInOrder, DiscardedInOrder, ResetsInOrder, RestartedInOrder, EmptiedInOrder, CallsNumber, CallsLeaveRests, IsInOrder, IsNumbered, HasRests};
 ghost use Rattle.sctp_tx_queue.specs.TakenUp.{RestoredInOrder, WrittenAsSent};
 ghost use Rattle.sctp_tx_queue.specs.Unfinished.{IsKept};
 
@@ -16,7 +16,8 @@ pub fn fragments_are_what_is_left(message: &QueuedMessage, numbers: MessageNumbe
 {}
 
 /// Without interleaving a message that is begun is ended before another begins (RFC 9260 section 6.9): `produce` goes on
-/// with it, and the other calls leave it begun. A discard may drop its rest, and a new association begins with none.
+/// with it, and the other calls leave it begun. A discard may drop its rest, an association that ends leaves none, and a
+/// new one begins with none.
 pub fn a_begun_message_stays_begun()
     ensures added { AddedStays }
     ensures threshold { ThresholdStays }
@@ -26,6 +27,7 @@ pub fn a_begun_message_stays_begun()
     ensures steps { StepsStay }
     ensures discarded { DiscardStays }
     ensures reset { ResetEnds }
+    ensures emptied { EmptiedEnds }
 {}
 
 /// A queue that is written into a record, which is taken up at the same moment, has its streams and messages again, in
@@ -44,6 +46,7 @@ pub fn queues_stay_in_order()
     ensures discarded { DiscardedInOrder }
     ensures resets { ResetsInOrder }
     ensures restarted { RestartedInOrder }
+    ensures emptied { EmptiedInOrder }
 {}
 
 /// A queue that takes a valid record up is in order, if a message of the record has its MID exactly where something of it

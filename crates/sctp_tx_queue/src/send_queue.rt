@@ -20,6 +20,7 @@ ghost use Rattle.sctp_state.specs.Handover.{handover_state_of};
 ghost use Rattle.sctp_tx_queue.specs.Handover.{write_handover};
 ghost use Rattle.sctp_tx_queue.specs.Readiness.{readiness};
 ghost use Rattle.sctp_tx_queue.specs.Restarted.{reset, restarted_one, each_restarted, SomeRestarted, NumbersGoOn};
+ghost use Rattle.sctp_tx_queue.specs.Emptied.{empty, emptied_one, each_emptied};
 ghost use Rattle.sctp_tx_queue.specs.Views.{produced_of, queued_of};
 
 mod emitting;
@@ -541,6 +542,40 @@ impl SendQueue {
         self.streams.restart(id);
         self.begun = begun_without(id, self.begun);
         Ok(())
+    }
+
+    /// The association has ended: all messages are given up, each with its record, and their lifecycles end. Streams keep
+    /// their settings and numbers. Without memory nothing changes.
+    pub fn empty(&mut self, events: &mut Events) -> Result<(), AllocError>
+        ensures queue { OnOk result (self.new ≡ (empty self.old events.old).queue) }
+        ensures emitted { OnOk result (events.new ≡ (empty self.old events.old).emitted) }
+        ensures err { OnErr result (Same self.old events.old self.new events.new) }
+    {
+        let ids = self.streams.ids(self.alloc)?;
+        let mark = events.mark();
+        if self.streams.emit_ended(events).is_err() {
+            events.roll_back(mark);
+            return Err(AllocError);
+        }
+        self.empty_each(&ids);
+        self.begun = None;
+        Ok(())
+    }
+
+    fn empty_each(&mut self, ids: &[StreamId])
+        ensures { self.new ≡ each_emptied (map (λ id. id.0) ids.now) self.old }
+    {
+        for id in ids {
+            self.empty_one(*id);
+        }
+    }
+
+    /// Drops the messages of a stream, which takes no memory: it has nothing to send from then on.
+    fn empty_one(&mut self, id: StreamId)
+        ensures { self.new ≡ emptied_one id.0 self.old }
+    {
+        self.scheduler.leave(id);
+        self.streams.empty(id);
     }
 
     /// Whether a stream can be reset, and is in no request.

@@ -25,6 +25,7 @@ impl Subject for Options {
             "intervals" => intervals(self, output),
             "switches" => switches(self, output),
             "fragments" => fragments(self, output),
+            "stalls" => stalls(self, output),
             "send" => send_options(line.number(1), output),
             "copy" => copy(self),
             name => set_option(self, name, line.number(1)),
@@ -132,6 +133,15 @@ fn fragments(o: &Options, output: &mut Output) -> Answer {
     Answer::Done
 }
 
+/// Whether they are avoided, and how long timers wait at most, in milliseconds.
+fn stalls(o: &Options, output: &mut Output) -> Answer {
+    let t3 = o.t3_backoff().map(|span| span.as_millis());
+    let reconfig = o.reconfig_backoff().map(|span| span.as_millis());
+    let avoided = o.avoid_stalls;
+    write!(output, ": avoided {avoided} backoff {t3:?} {reconfig:?}");
+    Answer::Done
+}
+
 fn send_options(id: u64, output: &mut Output) -> Answer {
     let mut options = laws::plain_send_options();
     options.lifecycle_id = LifecycleId::new(id);
@@ -154,6 +164,8 @@ pub fn set_option(options: &mut Options, name: &str, value: u64) -> Answer {
         "least" => options.rto_min = time,
         "most" => options.rto_max = time,
         "variance" => options.min_rtt_variance = time,
+        "backoff" => options.max_timer_backoff_duration = Some(time),
+        "avoid-stalls" => options.avoid_stalls = value == 1,
         _ => return set_announced(options, name, value),
     }
     Answer::Done

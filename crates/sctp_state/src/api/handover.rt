@@ -57,6 +57,7 @@ pub struct HandoverStreamMessage {
 }
 
 impl HandoverStreamMessage {
+    /// No payload, all numbers 0. Takes no memory.
     pub fn empty(alloc: Global) -> HandoverStreamMessage
         ensures { stream_message_of result ≡ no_message }
     {
@@ -112,6 +113,7 @@ pub struct HandoverOutstandingData {
 }
 
 impl HandoverOutstandingData {
+    /// No payload, all numbers 0. Takes no memory.
     pub fn empty(alloc: Global) -> HandoverOutstandingData
         ensures { outstanding_data_of result ≡ no_data }
     {
@@ -175,6 +177,7 @@ pub struct HandoverTransmission {
 }
 
 impl HandoverTransmission {
+    /// Nothing sent, all numbers 0. Takes no memory.
     pub fn empty(alloc: Global) -> HandoverTransmission
         ensures { transmission_of result ≡ no_transmission }
     {
@@ -224,6 +227,7 @@ pub struct HandoverReceive {
 }
 
 impl HandoverReceive {
+    /// Nothing received, all numbers 0. Takes no memory.
     pub fn empty(alloc: Global) -> HandoverReceive
         ensures { receive_of result ≡ no_reception }
     {

@@ -1,8 +1,8 @@
 //! What a socket is made with, and what a message is sent with.
 
-ghost use Rattle.std.specs.Prelude.{◌≡◌, ◌↔◌, IsTrue};
+ghost use Rattle.std.specs.Prelude.{◌≡◌, ◌↔◌, IsTrue, option_map};
 ghost use Rattle.std.specs.Duration.{as_nanos};
-ghost use Rattle.sctp_state.specs.Options.{options_of, defaults, IsValid, HasValidSizes, HasValidTimes, HasValidWindows};
+ghost use Rattle.sctp_state.specs.Options.{options_of, defaults, IsValid, HasValidSizes, HasValidTimes, HasValidWindows, t3_backoff, reconfig_backoff};
 
 use sctp_serial::{
     LifecycleId, ZERO_CHECKSUM_ALTERNATE_ERROR_DETECTION_METHOD_NONE,
@@ -62,7 +62,8 @@ pub struct Options {
     pub rtt_max: Duration,
     /// The retransmission timeout before the first sample. At least a millisecond.
     pub rto_initial: Duration,
-    /// The greatest retransmission timeout, at least `rto_min`. It doesn't bound the waits to which timers back off.
+    /// The greatest retransmission timeout, at least `rto_min`. With `avoid_stalls` alone it bounds the waits to which T3-rtx and the timer of reset
+    /// requests back off.
     pub rto_max: Duration,
     /// The least retransmission timeout, at least a millisecond. It should exceed the peer's delay of acknowledgements.
     pub rto_min: Duration,
@@ -107,6 +108,12 @@ pub struct Options {
     pub disable_checksum_verification: bool,
     /// Whether a socket may be handed over while messages are queued or unacknowledged.
     pub enable_handover_with_outstanding_data: bool,
+    /// Whether the socket does what the RFCs ask where the original stands still, or loses; our own, and off by default. The next TSN is taken above
+    /// nine tenths of the window too, with room for `max_message_size` more (RFC 9260 section 6.2); a drop, and a window that opens again, is
+    /// told at once; forward points that are due, and what a restored socket took up, are timed (RFC 3758 section 3.5, RFC 9260 section 6.3.2);
+    /// `shutdown` waits for the queue (section 9.2); T3-rtx and the timer of reset requests back off to `rto_max` at most (section 6.3.3); and
+    /// what waits as an association ends is given up, each message with its record.
+    pub avoid_stalls: bool,
 }
 
 impl Default for Options {
@@ -151,6 +158,7 @@ impl Default for Options {
             zero_checksum_alternate_error_detection_method: ZERO_CHECKSUM_ALTERNATE_ERROR_DETECTION_METHOD_NONE,
             disable_checksum_verification: false,
             enable_handover_with_outstanding_data: false,
+            avoid_stalls: false,
         }
     }
 }
@@ -161,6 +169,36 @@ impl Options {
         ensures { IsTrue result ↔ IsValid (options_of self.now) }
     {
         self.has_valid_sizes() && self.has_valid_times() && self.has_valid_windows()
+    }
+
+    /// The longest wait to which the retransmission timer backs off, where there is one (RFC 9260 section 6.3.3).
+    pub fn t3_backoff(&self) -> Option<Duration>
+        ensures { option_map as_nanos result ≡ t3_backoff (options_of self.now) }
+    {
+        if !self.avoid_stalls {
+            return self.max_timer_backoff_duration;
+        }
+        match self.max_timer_backoff_duration {
+            Some(longest) => {
+                if longest.as_nanos() < self.rto_max.as_nanos() {
+                    Some(longest)
+                } else {
+                    Some(self.rto_max)
+                }
+            }
+            None => Some(self.rto_max),
+        }
+    }
+
+    /// The same of the timer of requests to reset streams (RFC 6525 section 5.1.1).
+    pub fn reconfig_backoff(&self) -> Option<Duration>
+        ensures { option_map as_nanos result ≡ reconfig_backoff (options_of self.now) }
+    {
+        if self.avoid_stalls {
+            Some(self.rto_max)
+        } else {
+            None
+        }
     }
 
     fn has_valid_sizes(&self) -> bool

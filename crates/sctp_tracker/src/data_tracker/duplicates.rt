@@ -30,6 +30,7 @@ impl Model for Duplicates {
 }
 
 impl Duplicates {
+    /// No number. Takes no memory.
     pub fn new(alloc: Global) -> Duplicates
         ensures { result ≡ [] }
     {
@@ -47,6 +48,7 @@ impl Duplicates {
         remember(&mut self.numbers, number)
     }
 
+    /// Forgets all numbers.
     pub fn clear(&mut self)
         ensures { self.new ≡ [] }
     {

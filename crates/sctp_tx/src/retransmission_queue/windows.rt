@@ -49,36 +49,42 @@ impl Windows {
         self.congestion.mtu
     }
 
+    /// The congestion window, in bytes.
     pub fn cwnd(&self) -> usize
         ensures { result ≡ self.now.cwnd }
     {
         self.congestion.cwnd
     }
 
+    /// Sets the congestion window, in bytes.
     pub fn set_cwnd(&mut self, cwnd: usize)
         ensures { self.new ≡ record self.old { cwnd = cwnd } }
     {
         self.congestion.cwnd = cwnd;
     }
 
+    /// The slow start threshold, in bytes.
     pub fn ssthresh(&self) -> usize
         ensures { result ≡ self.now.ssthresh }
     {
         self.congestion.ssthresh
     }
 
+    /// The bytes acknowledged in congestion avoidance since the window last grew (RFC 9260 section 7.2.2).
     pub fn partial_bytes_acked(&self) -> usize
         ensures { result ≡ self.now.partial_bytes_acked }
     {
         self.congestion.partial_bytes_acked
     }
 
+    /// What the peer's window has left, in bytes.
     pub fn rwnd(&self) -> usize
         ensures { result ≡ self.now.rwnd }
     {
         self.rwnd
     }
 
+    /// Whether a fast recovery lasts (RFC 9260 section 7.2.4).
     pub fn is_recovering(&self) -> bool
         ensures { result ≡ is_some self.now.fast_recovery_exit }
     {

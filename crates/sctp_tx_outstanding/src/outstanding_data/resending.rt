@@ -2,6 +2,8 @@
 
 ghost use Rattle.std.specs.Prelude.{◌≡◌, ◌≤◌, nat_lt, length, map, true, false, IfOk, OnOk, OnErr};
 ghost use Rattle.sctp_tx_outstanding.specs.Views.{resent_of, chunk_of};
+ghost use Rattle.sctp_tx_outstanding.specs.OutstandingData.{number_of};
+ghost use Rattle.sctp_tx_outstanding.specs.Sack.{is_open_at};
 ghost use Rattle.sctp_tx_outstanding.specs.Resending.{again_at, allowance, waiting_for, turn_at, step_at, resent_below, resend, empty_packet, chunk_bytes, IsFull, SomeResent};
 
 use crate::item::copy_of;
@@ -12,6 +14,20 @@ use sctp_serial::Tsn;
 use std::alloc::AllocError;
 
 impl OutstandingData {
+    /// Whether the item with this TSN is kept, and neither acknowledged by a block nor given up.
+    pub fn is_open(&self, tsn: Tsn) -> bool
+        ensures { result ≡ is_open_at (number_of self.now tsn.0) self.now.items }
+    {
+        let number = self.unwrapped(tsn);
+        if number <= self.acked {
+            return false;
+        }
+        match self.kept.get((number - self.acked - 1) as usize) {
+            Some(item) => item.is_outstanding() || item.should_be_retransmitted(),
+            None => false,
+        }
+    }
+
     /// Hands the item at the place out to be sent once more.
     fn resend_at(&mut self, place: usize, filling: &mut Filling) -> Result<(), AllocError>
         ensures ok { OnOk result (resent_of self.new filling.new ≡ again_at place (resent_of self.old filling.old)) }

@@ -3,10 +3,14 @@
 ghost use Rattle.std.specs.Prelude.{◌≡◌, OnOk, OnErr};
 ghost use Rattle.sctp_state.specs.Events.{event_of, expired_events, emit_given_up, emit_events, Grown};
 ghost use Rattle.sctp_tx_queue.specs.Produced.{when, fully_sent, production};
+ghost use Rattle.sctp_tx_queue.specs.Resets.{emit_unsent};
+ghost use Rattle.sctp_tx_queue.specs.Emptied.{emit_ended};
 
+use crate::send_queue::message::QueuedMessage;
 use sctp_serial::{LifecycleId, OutgoingMessageId, StreamId};
 use sctp_state::{Events, GivenUp, GivenUpCause, SocketEvent};
 use std::alloc::AllocError;
+use std::collections::VecDeque;
 
 /// Which amounts fall to their thresholds.
 #[derive(Clone, Copy)]
@@ -42,6 +46,38 @@ pub(crate) fn emit_dropped(
 {
     events.add_given_up(GivenUp { number, cause })?;
     emit_expired(events, lifecycle_id)?;
+    Ok(())
+}
+
+/// Emits of the messages of which nothing is sent that they are given up, since their stream is reset.
+pub(crate) fn emit_waiting(
+    messages: &VecDeque<QueuedMessage>,
+    events: &mut Events,
+) -> Result<(), AllocError>
+    ensures ok { OnOk result (events.new ≡ emit_unsent messages.now.items events.old) }
+    ensures err { OnErr result (Grown events.old events.new) }
+{
+    for message in messages.iter() {
+        if !message.is_partly_sent() {
+            let reset = GivenUpCause::Reset;
+            emit_dropped(events, message.message_id(), reset, message.lifecycle_id())?;
+        }
+    }
+    Ok(())
+}
+
+/// Emits of all messages that they are given up, as their association ended.
+pub(crate) fn emit_ended(
+    messages: &VecDeque<QueuedMessage>,
+    events: &mut Events,
+) -> Result<(), AllocError>
+    ensures ok { OnOk result (events.new ≡ emit_ended messages.now.items events.old) }
+    ensures err { OnErr result (Grown events.old events.new) }
+{
+    for message in messages.iter() {
+        let ended = GivenUpCause::Ended;
+        emit_dropped(events, message.message_id(), ended, message.lifecycle_id())?;
+    }
     Ok(())
 }
 

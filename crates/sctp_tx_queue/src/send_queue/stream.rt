@@ -7,6 +7,7 @@ ghost use Rattle.sctp_tx_queue.specs.SendQueue.{remaining_bytes, amount_of, watc
 ghost use Rattle.sctp_tx_queue.specs.Produced.{is_front_stale, fresh, emit_expired, without_stale, front_numbers, front_made, front_ends, moved_front, front_took, next_fragment, advance, front_left_after, pause_after, pause_if_pending};
 ghost use Rattle.sctp_tx_queue.specs.Settings.{with_threshold, with_priority, without_front, front_discarded, is_front};
 ghost use Rattle.sctp_tx_queue.specs.Resets.{is_ready, after_step, is_partly, emit_unsent, prepare_stream, pause_for_reset};
+ghost use Rattle.sctp_tx_queue.specs.Emptied.{emptied, emit_ended};
 ghost use Rattle.sctp_state.specs.Handover.{stream_message_of};
 ghost use Rattle.sctp_tx_queue.specs.Handover.{queued_message, messages_of, outgoing_stream};
 ghost use Rattle.sctp_tx_queue.specs.Readiness.{has_reset_pending};
@@ -16,7 +17,7 @@ ghost use Rattle.sctp_tx_queue.specs.Whole.{is_front_whole, front_ended, front_l
 ghost use Rattle.sctp_tx_queue.specs.Views.{produced_of};
 
 use crate::data_to_send::DataToSend;
-use crate::send_queue::emitting::emit_dropped;
+use crate::send_queue::emitting::{emit_dropped, emit_ended, emit_waiting};
 use crate::send_queue::message::{MessageNumbers, QueuedMessage};
 use sctp_serial::{LifecycleId, Mid, OutgoingMessageId, SerialNumber, SocketTime, Ssn, StreamId};
 use sctp_state::api::handover::{HandoverOutgoingStream, HandoverStreamMessage};
@@ -154,20 +155,6 @@ fn pop_front(messages: &mut VecDeque<QueuedMessage>, buffered: &mut ThresholdWat
     if let Some(message) = messages.pop_front() {
         buffered.decrease(message.left());
     }
-}
-
-/// Emits of the messages of which nothing is sent that they are given up.
-fn emit_waiting(messages: &VecDeque<QueuedMessage>, events: &mut Events) -> Result<(), AllocError>
-    ensures ok { OnOk result (events.new ≡ emit_unsent messages.now.items events.old) }
-    ensures err { OnErr result (Grown events.old events.new) }
-{
-    for message in messages.iter() {
-        if !message.is_partly_sent() {
-            let reset = GivenUpCause::Reset;
-            emit_dropped(events, message.message_id(), reset, message.lifecycle_id())?;
-        }
-    }
-    Ok(())
 }
 
 fn bytes_left(messages: &VecDeque<QueuedMessage>) -> usize
@@ -739,6 +726,23 @@ impl Stream {
     {
         keep_partly_sent(&mut self.messages, &mut self.buffered);
         self.pause_state = waiting(self.messages.is_empty(), self.pause_state);
+    }
+
+    /// Emits of all messages that they are given up, as their association ended.
+    pub(crate) fn emit_ended(&self, events: &mut Events) -> Result<(), AllocError>
+        ensures ok { OnOk result (events.new ≡ emit_ended self.now.messages events.old) }
+        ensures err { OnErr result (Grown events.old events.new) }
+    {
+        emit_ended(&self.messages, events)
+    }
+
+    /// Drops all messages.
+    pub(crate) fn empty(&mut self)
+        ensures { self.new ≡ emptied self.old }
+    {
+        self.messages.clear();
+        let bytes = self.buffered.amount();
+        self.buffered.decrease(bytes);
     }
 
     /// A new association begins: the message at the front is whole again, and the numbers begin again.

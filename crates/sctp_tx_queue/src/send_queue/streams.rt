@@ -18,6 +18,7 @@ ghost use Rattle.sctp_tx_queue.specs.Handover.{outgoing_streams, queued_messages
 ghost use Rattle.sctp_tx_queue.specs.Readiness.{has_reset_pending};
 ghost use Rattle.sctp_tx_queue.specs.Bounded.{one};
 ghost use Rattle.sctp_tx_queue.specs.Restarted.{restart};
+ghost use Rattle.sctp_tx_queue.specs.Emptied.{emptied, emit_all_ended};
 ghost use Rattle.sctp_state.specs.Validity.{are_valid_messages, queued_bytes, outgoing_ids, rises_from};
 ghost use Rattle.sctp_state.specs.Handover.{transmission_of};
 ghost use Rattle.sctp_tx_queue.specs.Restored.{entries_from, streams_from};
@@ -496,6 +497,28 @@ impl Streams {
         self.ready_count = ready_count_after(self.ready_count, was_ready, stream.is_ready());
     }
 
+    /// Emits of all messages that they are given up, as their association ended.
+    pub(crate) fn emit_ended(&self, events: &mut Events) -> Result<(), AllocError>
+        ensures ok { OnOk result (events.new ≡ emit_all_ended (values_of self.now.entries) events.old) }
+        ensures ordered { IsStrictlySortedBy nat_cmp (keys_of self.now.entries) }
+        ensures err { OnErr result (Grown events.old events.new) }
+    {
+        // (read for its clause: the ids ascend)
+        let _count = self.streams.len();
+        emit_each_ended(&self.streams, events)
+    }
+
+    /// Drops all messages of a stream.
+    pub(crate) fn empty(&mut self, id: StreamId)
+        ensures { self.new ≡ put_stream id.0 (emptied (stream id.0 self.old)) self.old }
+    {
+        let Some(stream) = self.streams.get_mut(&id.0) else {
+            return;
+        };
+        self.total.decrease(stream.amount());
+        stream.empty();
+    }
+
     /// The streams in the record of a socket that is handed over.
     pub(crate) fn handed_over(
         &self,
@@ -571,6 +594,16 @@ fn ready_streams(
         }
     }
     Ok(ids)
+}
+
+fn emit_each_ended(streams: &BTreeMap<u16, Stream>, events: &mut Events) -> Result<(), AllocError>
+    ensures ok { OnOk result (events.new ≡ emit_all_ended (values_of streams.now.entries) events.old) }
+    ensures err { OnErr result (Grown events.old events.new) }
+{
+    for (_, stream) in streams {
+        stream.emit_ended(events)?;
+    }
+    Ok(())
 }
 
 fn stream_ids(alloc: Global, streams: &BTreeMap<u16, Stream>) -> Result<Vec<StreamId>, AllocError>

@@ -1,4 +1,5 @@
 use Rattle.sctp_tx_queue.proofs.StaysBegunLemmas.{added_stays, threshold_stays, priority_stays, mode_stays, prepared_stays, steps_stay, discard_stays, reset_begun}
+use Rattle.sctp_tx_queue.proofs.EmptiedLemmas.{emptied_begun}
 use Rattle.sctp_tx_queue.proofs.laws.a_begun_message_stays_begun.Goals as goal
 
 pub returns : goal.returns
@@ -11,4 +12,5 @@ returns c = record {
   steps = steps_stay;
   discarded = λ id message q emitted. discard_stays id message q emitted;
   reset = reset_begun;
+  emptied = λ q emitted. emptied_begun q emitted;
 }

@@ -1,4 +1,5 @@
 use Rattle.sctp_tx_queue.proofs.InOrderLemmas.{new_in_order, added_in_order, produced_in_order, threshold_in_order, priority_in_order, mode_in_order, discarded_in_order, prepared_in_order, steps_in_order, reset_in_order, reset_unsent}
+use Rattle.sctp_tx_queue.proofs.EmptiedLemmas.{emptied_messages, emptied_in_order, emptied_unsent}
 use Rattle.sctp_tx_queue.proofs.laws.queues_stay_in_order.Goals as goal
 
 pub returns : goal.returns
@@ -10,4 +11,5 @@ returns c = record {
   discarded = λ id message q emitted h. discarded_in_order id message q emitted h;
   resets = record { prepared = λ id q emitted h. prepared_in_order id q emitted h; steps = steps_in_order };
   restarted = record { order = reset_in_order; unsent = reset_unsent };
+  emptied = record { order = λ q emitted. emptied_in_order q emitted; unsent = λ q emitted. emptied_unsent q emitted; messages = λ q emitted k. emptied_messages k q emitted };
 }

@@ -1,0 +1,16 @@
+use Rattle.std.proofs.Common.{ap, sym, ◌∙◌}
+use Rattle.std.specs.Prelude.{option_map}
+use Rattle.sctp_stream_scheduler.specs.StreamScheduler.{Scheduler, set_bytes_remaining}
+use Rattle.sctp_tx_queue.specs.SendQueue.{Queue, Streams, stream, put_stream}
+use Rattle.sctp_tx_queue.specs.Emptied.{emptied, emptied_one}
+use Rattle.sctp_tx_queue.proofs.EmptiedLemmas.{emptied_sendable}
+use Rattle.sctp_tx_queue.proofs.send_queue.SendQueue.empty_one.Goals as goal
+
+pub returns : goal.returns
+returns c =
+    let id = c.args.id.0 in
+    let queue : Streams → Scheduler → Queue = λ ss sch. record { streams = ss; scheduler = sch; next_number = c.self.inside.next_message_id.0; begun = option_map (λ i. i.0) c.self.inside.begun } in
+    let after : Streams = put_stream id (emptied (stream id c.self.inside.streams)) c.self.inside.streams in
+    ap (λ ss. queue ss c.leave.new.self) c.empty.ensures
+    ∙ ap (λ sch. queue after sch) (c.leave.ensures ∙ sym (ap (λ n. set_bytes_remaining id n (stream id after).priority c.self.inside.scheduler) (emptied_sendable id c.self.inside.streams)))
+    ∙ ap (λ q. emptied_one id q) c.self.view_is

@@ -1,0 +1,11 @@
+use Rattle.std.proofs.Common.{◌≡◌}
+use Rattle.std.specs.VecDeque.Iter.{deque_iter_rest}
+use Rattle.sctp_state.specs.Events.{Grown}
+use Rattle.sctp_tx_queue.specs.Resets.{emit_unsent}
+use Rattle.sctp_tx_queue.proofs.send_queue.emitting.emit_waiting.Given as goal
+
+abbrev pub invariant-loop-message : goal.invariant-loop-message
+invariant-loop-message l = record {
+  emitted : emit_unsent (deque_iter_rest l.message-iterator) l.events ≡ emit_unsent l.messages.items l.initial.events;
+  grown : Grown l.initial.events l.events;
+}

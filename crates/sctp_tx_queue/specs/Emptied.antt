@@ -1,0 +1,42 @@
+-- An association has ended: what waits or is partly sent is given up.
+use Rattle.std.specs.Prelude.{ℕ, List, [], ◌∷◌}
+use Rattle.std.specs.Map.{keys_of}
+use Rattle.sctp_state.specs.Events.{Emitted, emit_events, emit_given_up, expired_events}
+use Rattle.sctp_state.specs.declared.api.GivenUpCause.TheVariants.{Ended}
+use Rattle.sctp_tx_queue.specs.SendQueue.{Queued, Stream, Streams, Queue, stream, put_stream, set_sendable}
+use Rattle.sctp_tx_queue.specs.Restarted.{unbegun}
+use Rattle.sctp_tx_queue.specs.Settings.{Changed}
+
+abbrev pub emptied : Stream → Stream
+emptied s = record s { messages = [] }
+
+abbrev pub emptied_one : ℕ → Queue → Queue
+emptied_one id q =
+    let ss : Streams = put_stream id (emptied (stream id q.streams)) q.streams in
+    record q { streams = ss; scheduler = set_sendable id (stream id ss) q.scheduler }
+
+abbrev pub each_emptied : List ℕ → Queue → Queue
+each_emptied [] q = q
+each_emptied (id ∷ ids) q = each_emptied ids (emptied_one id q)
+
+-- what is emitted of messages: each is given up
+abbrev pub emit_ended : {P : Type 0} → List Queued → Emitted P → Emitted P
+emit_ended [] emitted = emitted
+emit_ended (m ∷ rest) emitted = emit_ended rest (emit_events (expired_events m.lifecycle) (emit_given_up m.number Ended emitted))
+
+-- of the messages of all these streams
+abbrev pub emit_all_ended : {P : Type 0} → List Stream → Emitted P → Emitted P
+emit_all_ended [] emitted = emitted
+emit_all_ended (s ∷ ss) emitted = emit_all_ended ss (emit_ended s.messages emitted)
+
+-- of the messages of these streams, each stream emptied in its turn
+abbrev pub emit_each_ended : {P : Type 0} → List ℕ → Queue → Emitted P → Emitted P
+emit_each_ended [] q emitted = emitted
+emit_each_ended (id ∷ ids) q emitted = emit_each_ended ids (emptied_one id q) (emit_ended (stream id q.streams).messages emitted)
+
+-- all streams, ascending by id: their settings and numbers stay
+abbrev pub empty : {P : Type 0} → Queue → Emitted P → Changed P
+empty q emitted = record {
+  queue = unbegun (each_emptied (keys_of q.streams.entries) q);
+  emitted = emit_each_ended (keys_of q.streams.entries) q emitted;
+}
