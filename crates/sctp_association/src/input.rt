@@ -58,7 +58,7 @@ fn maybe_send_sack<C: Checksum>(
     phase: &Phase,
     tcb: &mut TransmissionControlBlock,
 ) -> Result<(), AllocError>
-    ensures ok { OnOk result (opened_of C.word_of phase.now tcb.new context.new ≡ table.on_packet_end (phase_of phase.now) (tcb_of tcb.old) (context_of C.word_of context.old)) }
+    ensures ok { OnOk result (opened_of C.word_of phase.now tcb.new context.new ≡ table.packet_acked (phase_of phase.now) (tcb_of tcb.old) (context_of C.word_of context.old)) }
     ensures goes_on { GoesOn context.old context.new }
     ensures received { tcb.new.reassembly_queue ≡ tcb.old.reassembly_queue }
     ensures identity { tcb.new.identity ≡ tcb.old.identity }
@@ -72,6 +72,41 @@ fn maybe_send_sack<C: Checksum>(
     let sack = tcb.data_tracker.create_selective_ack(window)?;
     packet.add(Chunk::Sack(sack))?;
     context.send_buffered_packets_with(tcb, phase.is_before_cookie_ack(), packet)
+}
+
+/// With stalls avoided a shutdown that waited goes on.
+#[tactic(auto, using(sctp_endpoint::proofs::GoesOnLemmas::goes_on_same, sctp_endpoint::proofs::GoesOnLemmas::goes_on_through))]
+fn shut_if<C: Checksum>(
+    avoids_stalls: bool,
+    context: &mut Context<C>,
+    phase: &mut Phase,
+    tcb: &TransmissionControlBlock,
+) -> Result<(), AllocError>
+    ensures ok { OnOk result (opened_of C.word_of phase.new tcb.now context.new ≡ table.shut_if avoids_stalls (opened_of C.word_of phase.old tcb.now context.old)) }
+    ensures goes_on { GoesOn context.old context.new }
+{
+    if avoids_stalls {
+        context.maybe_send_shutdown_or_ack(phase, tcb)
+    } else {
+        Ok(())
+    }
+}
+
+/// The end of a packet: behind all that is sent then, since what a shutdown waited for may have expired.
+#[tactic(auto, using(sctp_endpoint::proofs::GoesOnLemmas::goes_on_same, sctp_endpoint::proofs::GoesOnLemmas::goes_on_through))]
+fn end_packet<C: Checksum>(
+    context: &mut Context<C>,
+    phase: &mut Phase,
+    tcb: &mut TransmissionControlBlock,
+) -> Result<(), AllocError>
+    ensures ok { OnOk result (opened_of C.word_of phase.new tcb.new context.new ≡ table.on_packet_end (phase_of phase.old) (tcb_of tcb.old) (context_of C.word_of context.old)) }
+    ensures goes_on { GoesOn context.old context.new }
+    ensures received { tcb.new.reassembly_queue ≡ tcb.old.reassembly_queue }
+    ensures identity { tcb.new.identity ≡ tcb.old.identity }
+{
+    let avoids_stalls = context.options.avoid_stalls;
+    maybe_send_sack(context, phase, tcb)?;
+    shut_if(avoids_stalls, context, phase, tcb)
 }
 
 /// After the own SHUTDOWN: it goes out again, and its timer starts anew (RFC 9260 section 9.2).
@@ -329,7 +364,7 @@ fn on_packet_end<C: Checksum>(state: &mut State, context: &mut Context<C>) -> Re
 {
     match state {
         State::Closed | State::CookieWait(_) => Ok(()),
-        State::Open(phase, tcb) => maybe_send_sack(context, phase, tcb),
+        State::Open(phase, tcb) => end_packet(context, phase, tcb),
     }
 }
 

@@ -91,7 +91,7 @@ impl<R: Rng + Drop, C: Checksum + Drop> Socket<R, C> {
         })
     }
 
-    /// The socket is let go: what a helper over any socket calls, which is then proved without its parts.
+    /// Lets the socket go, as a drop does.
     pub fn let_go(self) {
         self.state.let_go();
         self.context.let_go();
@@ -198,7 +198,7 @@ impl<R: Rng, C: Checksum> DcSctpSocket for Socket<R, C> {
         ensures rest { endpoint R.stream C.word_of self.new ≡ in_endpoint_state calls.take_message (endpoint R.stream C.word_of self.old) }
         ensures failure { self.new.has_failed ≡ self.old.has_failed }
     {
-        get_next_message(&mut self.state)
+        get_next_message(&mut self.state, &self.context.options)
     }
 
     #[tactic(auto, using(crate::proofs::StandsLemmas::stands_same, crate::proofs::StandsLemmas::stands_by, crate::proofs::StandsLemmas::stands_on))]

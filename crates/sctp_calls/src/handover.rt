@@ -11,7 +11,7 @@ ghost use Rattle.spec_endpoint.specs.Calls.{ready_in};
 ghost use Rattle.spec_endpoint.specs.Shown.{association_in};
 ghost use Rattle.spec_endpoint.specs.Packets.{emit_event_in};
 ghost use Rattle.sctp_endpoint.specs.GoesOn.{GoesOn};
-ghost use Rattle.sctp_endpoint.specs.Views.{context_of, phase_of, endpoint_state_of, state_of, tcb_of};
+ghost use Rattle.sctp_endpoint.specs.Views.{after_sending_of, context_of, phase_of, endpoint_state_of, state_of, tcb_of};
 ghost use Rattle.spec_endpoint.specs.Handover as table;
 
 use sctp_capabilities::Capabilities;
@@ -167,7 +167,36 @@ pub fn hand_over<C: Checksum>(
     }
 }
 
-/// The association of a record goes on; it is new to the user of this socket.
+/// With stalls avoided the timers of items and of heartbeats start; else they do with the first data that is sent.
+#[tactic(auto, using(sctp_endpoint::proofs::GoesOnLemmas::goes_on_same, sctp_endpoint::proofs::GoesOnLemmas::goes_on_through))]
+fn wake<C: Checksum>(context: &mut Context<C>, tcb: &mut TransmissionControlBlock)
+    ensures ok { after_sending_of C.word_of tcb.new context.new ≡ table.woken_if context.old.options.avoid_stalls (tcb_of tcb.old) (context_of C.word_of context.old) }
+    ensures goes_on { GoesOn context.old context.new }
+    ensures association { association_in (Open Established (tcb_of tcb.new)) ≡ association_in (Open Established (tcb_of tcb.old)) }
+{
+    if context.options.avoid_stalls {
+        tcb.retransmission_queue.wake(context.clock);
+        context.restart_heartbeat_interval();
+    }
+}
+
+/// The association goes on; it is new to the user of this socket.
+#[tactic(auto, using(sctp_endpoint::proofs::GoesOnLemmas::goes_on_same, sctp_endpoint::proofs::GoesOnLemmas::goes_on_through))]
+fn go_on<C: Checksum>(
+    state: &mut State,
+    context: &mut Context<C>,
+    tcb: TransmissionControlBlock,
+) -> Result<(), AllocError>
+    ensures ok { OnOk result (endpoint_state_of C.word_of state.new context.new ≡ table.goes_on (after_sending_of C.word_of tcb context.old)) }
+    ensures goes_on { GoesOn context.old context.new }
+    ensures association { association_in (state_of state.new) ≡ association_in (Open Established (tcb_of tcb)) }
+{
+    state.enter(State::Open(Phase::Established, tcb));
+    context.emit_event(SocketEvent::OnConnected())?;
+    send_waiting(state, context)
+}
+
+/// The association of a record goes on.
 #[tactic(auto, using(sctp_endpoint::proofs::GoesOnLemmas::goes_on_same, sctp_endpoint::proofs::GoesOnLemmas::goes_on_through, sctp_endpoint::proofs::GoesOnLemmas::goes_on_as))]
 fn take_up<C: Checksum>(
     state: &mut State,
@@ -186,10 +215,9 @@ fn take_up<C: Checksum>(
     context
         .send_queue
         .restore_from_state(context.clock, handed_over)?;
-    let tcb = tcb_from(context, handed_over)?;
-    state.enter(State::Open(Phase::Established, tcb));
-    context.emit_event(SocketEvent::OnConnected())?;
-    send_waiting(state, context)
+    let mut tcb = tcb_from(context, handed_over)?;
+    wake(context, &mut tcb);
+    go_on(state, context, tcb)
 }
 
 /// A valid record is taken up by a closed socket. Of a socket that was closed there is nothing to take up.

@@ -1,7 +1,11 @@
 -- A call that goes on from what another one left.
-use Rattle.std.proofs.Common.{◌≡◌, ℕ, List, [], ◌∷◌, refl, ap, sym, subst, ◌∙◌}
-use Rattle.sctp_state.specs.Events.{Event, Emitted, Grown, emit_event, emit_events}
+use Rattle.std.proofs.Common.{◌≡◌, ℕ, List, [], ◌∷◌, refl, sym, subst, ◌∙◌}
+use Rattle.std.specs.Map.{keys_of}
+use Rattle.sctp_state.specs.Events.{Event, Emitted, Grown, emit_event}
 use Rattle.sctp_state.proofs.EventLemmas.{grown_same, grown_through, grown_emitted}
+use Rattle.sctp_tx_queue.specs.SendQueue.{Queue}
+use Rattle.sctp_tx_queue.specs.Emptied.{empty}
+use Rattle.sctp_tx_queue.proofs.EmptiedLemmas.{grown_each_ended}
 use Rattle.sctp_endpoint.specs.Views.{ContextValue}
 use Rattle.sctp_endpoint.specs.GoesOn.{GoesOn}
 
@@ -20,6 +24,9 @@ module _ {C : Type 0} where
 
 pub grown_by : (e : Event (List ℕ)) (t u : Emitted (List ℕ)) → u ≡ emit_event e t → Grown t u
 grown_by e t u is = subst (λ (v : Emitted (List ℕ)). Grown t v) (sym is) (grown_emitted (e ∷ []) t)
+
+pub grown_emptied : (q : Queue) (t u : Emitted (List ℕ)) → u ≡ (empty q t).emitted → Grown t u
+grown_emptied q t u is = subst (λ (v : Emitted (List ℕ)). Grown t v) (sym is) (grown_each_ended (keys_of q.streams.entries) q t)
 
 -- the same of what is read of a context
 pub goes_on_from : {C : Type 0} (c v w : ContextValue C) → v ≡ c → Grown v.emitted w.emitted → w.counts.tx_messages ≡ v.counts.tx_messages → GoesOn c w

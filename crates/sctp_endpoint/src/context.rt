@@ -192,14 +192,28 @@ impl<C: Checksum> Context<C> {
         self.events.add(event)
     }
 
-    /// The event that says that the association is over; no heartbeats are sent any more.
+    /// With stalls avoided, what waits doesn't go to another association: it is given up.
+    #[tactic(auto, using(crate::proofs::GoesOnLemmas::goes_on_same, crate::proofs::GoesOnLemmas::goes_on_as))]
+    fn empty_if_avoided(&mut self) -> Result<(), AllocError>
+        ensures ok { OnOk result (context_of C.word_of self.new ≡ closing.emptied_if self.old.options.avoid_stalls (context_of C.word_of self.old)) }
+        ensures goes_on { GoesOn self.old self.new }
+    {
+        if self.options.avoid_stalls {
+            self.send_queue.empty(&mut self.events)?;
+        }
+        Ok(())
+    }
+
+    /// The event that says that the association is over; no heartbeats are sent any more. With stalls avoided, what waits is
+    /// given up.
     #[tactic(auto, using(crate::proofs::GoesOnLemmas::goes_on_same, crate::proofs::GoesOnLemmas::goes_on_through))]
     pub fn internal_close(&mut self, event: SocketEvent) -> Result<(), AllocError>
         ensures ok { OnOk result (context_of C.word_of self.new ≡ closing.over (event_of event) (context_of C.word_of self.old)) }
         ensures goes_on { GoesOn self.old self.new }
     {
         self.stop_heartbeats();
-        self.emit_event(event)
+        self.emit_event(event)?;
+        self.empty_if_avoided()
     }
 
     /// The association is over, as aborted.

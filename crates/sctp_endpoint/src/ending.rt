@@ -110,7 +110,18 @@ impl<C: Checksum> Context<C> {
         self.emit_chunk(tcb, Chunk::ShutdownAck(ShutdownAckChunk {}))
     }
 
-    /// Where nothing is unacknowledged, a shutdown that waited for that goes on.
+    /// What a shutdown waits for: nothing is in flight; with stalls avoided nothing is kept or queued (RFC 9260 section 9.2).
+    fn is_quiet(&self, tcb: &TransmissionControlBlock) -> bool
+        ensures { result ≡ table.is_quiet (tcb_of tcb.now) (context_of C.word_of self.now) }
+    {
+        if self.options.avoid_stalls {
+            tcb.retransmission_queue.is_empty() && self.send_queue.is_empty()
+        } else {
+            tcb.retransmission_queue.unacked_items() == 0
+        }
+    }
+
+    /// Where it is quiet, a shutdown that waited for that goes on.
     #[tactic(auto, using(crate::proofs::GoesOnLemmas::goes_on_same, crate::proofs::GoesOnLemmas::goes_on_through))]
     pub fn maybe_send_shutdown_or_ack(
         &mut self,
@@ -120,7 +131,7 @@ impl<C: Checksum> Context<C> {
         ensures ok { OnOk result (phase_step_of C.word_of phase.new self.new ≡ table.maybe_send_shutdown_or_ack (phase_of phase.old) (tcb_of tcb.now) (context_of C.word_of self.old)) }
         ensures goes_on { GoesOn self.old self.new }
     {
-        if tcb.retransmission_queue.unacked_items() != 0 {
+        if !self.is_quiet(tcb) {
             return Ok(());
         }
         match phase {

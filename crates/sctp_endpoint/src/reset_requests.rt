@@ -111,7 +111,7 @@ impl ResetRequests {
                 options.rto_initial,
                 BackoffAlgorithm::Exponential,
                 None,
-                None,
+                options.reconfig_backoff(),
             ),
             last: peer_initial_tsn.0.wrapping_sub(1),
             result: ReconfigurationResponseResult::SuccessNothingToDo,

@@ -4,7 +4,8 @@ ghost use Rattle.std.specs.Prelude.{◌≡◌, ◌*◌, true, map, OnOk, IfOk, �
 ghost use Rattle.sctp_tx_outstanding.specs.Views.{chunk_of};
 ghost use Rattle.sctp_state.specs.Events.{numbers_of};
 ghost use Rattle.spec_endpoint.specs.Packets.{add_all};
-ghost use Rattle.spec_endpoint.specs.Sending.{burst_with, carrying, data_chunks, filled_as, forward_if, most_streams, request_of, request_started, send_buffered, send_cookie, send_lost, send_with, next_packet, with_ack, with_data, with_forward, with_request, send_in};
+ghost use Rattle.std.specs.Duration.{as_nanos};
+ghost use Rattle.spec_endpoint.specs.Sending.{burst_with, carrying, data_chunks, filled_as, forward_if, forward_pause, most_streams, request_of, request_started, send_buffered, send_cookie, send_lost, send_with, next_packet, with_ack, with_data, with_forward, with_request, send_in};
 ghost use Rattle.spec_endpoint.specs.Calls.{ready_in};
 ghost use Rattle.sctp_endpoint.specs.GoesOn.{GoesOn};
 ghost use Rattle.sctp_endpoint.specs.Views.{context_of, filling_of, after_sending_of, tcb_of, endpoint_state_of, state_of};
@@ -85,8 +86,20 @@ impl<C: Checksum> Context<C> {
         if !packet.add_if_it_fits(chunk)? {
             return Ok(());
         }
-        self.limit_forward_tsn_until = self.clock + tcb.rto.srtt().min(Duration::from_millis(200));
+        let pause = tcb.rto.srtt().min(Duration::from_millis(200));
+        self.limit_forward_tsn_until = self.clock + self.forward_pause(pause);
         Ok(())
+    }
+
+    /// With stalls avoided the end of this span is waited for: it is a millisecond at least.
+    fn forward_pause(&self, span: Duration) -> Duration
+        ensures { as_nanos result ≡ forward_pause self.now.options.avoid_stalls (as_nanos span) }
+    {
+        if self.options.avoid_stalls {
+            span.max(Duration::from_millis(1))
+        } else {
+            span
+        }
     }
 
     /// A request for these streams begins, and goes along.
@@ -244,7 +257,7 @@ impl<C: Checksum> Context<C> {
     }
 
     /// The most packets of a burst.
-    fn max_burst(&self) -> u32
+    pub fn max_burst(&self) -> u32
         ensures { result ≡ self.now.options.max_burst }
     {
         u32::try_from(self.options.max_burst).unwrap_or(0)

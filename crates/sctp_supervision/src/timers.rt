@@ -1,6 +1,6 @@
 //! Time: which timers a state looks at, and what their expiries lead to.
 
-ghost use Rattle.std.specs.Prelude.{◌≡◌, cond, IfOk, OnErr, OnOk};
+ghost use Rattle.std.specs.Prelude.{◌≡◌, ◌||◌, cond, IfOk, OnErr, OnOk};
 ghost use Rattle.sctp_endpoint.specs.GoesOn.{GoesOn};
 ghost use Rattle.sctp_endpoint.specs.Views.{context_of, timer_outcome_of, phase_of, endpoint_state_after, endpoint_state_of, state_of, tcb_of, ticking_of, init_outcome_of};
 ghost use Rattle.sctp_state.specs.Timer.{expire};
@@ -104,18 +104,63 @@ fn abort_or_send<C: Checksum>(
     Ok(false)
 }
 
+/// This moment where something is due at it, else none.
+fn moment_if(is_due: bool, moment: SocketTime) -> SocketTime
+    ensures { result ≡ table.moment_if is_due moment }
+{
+    if is_due {
+        moment
+    } else {
+        SocketTime::infinite_future()
+    }
+}
+
+/// The first moment at which something is owed that no timer brings: an acknowledgement at once, a forward point where its limit ends.
+fn first_owed<C: Checksum>(context: &Context<C>, tcb: &TransmissionControlBlock) -> SocketTime
+    ensures { result ≡ table.first_owed (tcb_of tcb.now) (context_of C.word_of context.now) }
+{
+    let ack = moment_if(tcb.data_tracker.owes_ack(), context.clock);
+    let has_point = tcb.retransmission_queue.has_forward_point();
+    ack.min(moment_if(has_point, context.limit_forward_tsn_until))
+}
+
+/// With stalls avoided what is owed is sent, where packets may go out.
+fn sends_owed<C: Checksum>(context: &Context<C>) -> bool
+    ensures { result ≡ table.sends_owed (context_of C.word_of context.now) }
+{
+    context.options.avoid_stalls && context.max_burst() != 0
+}
+
+/// From when on something is owed that is sent.
+fn owed_moment<C: Checksum>(context: &Context<C>, tcb: &TransmissionControlBlock) -> SocketTime
+    ensures { result ≡ table.owed_moment (tcb_of tcb.now) (context_of C.word_of context.now) }
+{
+    moment_if(sends_owed(context), first_owed(context, tcb))
+}
+
+/// A timer has expired, or something is owed by now.
+fn sends_now<C: Checksum>(
+    context: &Context<C>,
+    tcb: &TransmissionControlBlock,
+    has_expired: bool,
+) -> bool
+    ensures { result ≡ (has_expired || table.is_owed (tcb_of tcb.now) (context_of C.word_of context.now)) }
+{
+    has_expired || (sends_owed(context) && first_owed(context, tcb) <= context.clock)
+}
+
 #[tactic(auto, using(sctp_endpoint::proofs::GoesOnLemmas::goes_on_same, sctp_endpoint::proofs::GoesOnLemmas::goes_on_through))]
 fn after_ticks<C: Checksum>(
     context: &mut Context<C>,
     tcb: &mut TransmissionControlBlock,
     has_expired: bool,
 ) -> Result<bool, AllocError>
-    ensures ok { IfOk result (λ ended. timer_outcome_of C.word_of tcb.new context.new ended ≡ table.after_ticks_if has_expired (tcb_of tcb.old) (context_of C.word_of context.old)) }
+    ensures ok { IfOk result (λ ended. timer_outcome_of C.word_of tcb.new context.new ended ≡ table.after_ticks (ticking_of C.word_of tcb.old context.old has_expired)) }
     ensures goes_on { GoesOn context.old context.new }
     ensures received { tcb.new.reassembly_queue ≡ tcb.old.reassembly_queue }
     ensures identity { tcb.new.identity ≡ tcb.old.identity }
 {
-    if has_expired {
+    if sends_now(context, tcb, has_expired) {
         abort_or_send(context, tcb)
     } else {
         Ok(false)
@@ -327,9 +372,10 @@ fn next_timeout(tcb: &TransmissionControlBlock) -> SocketTime
 
 /// The timers of an association that is established or is being shut down, but for T2-shutdown.
 fn running_expiry<C: Checksum>(context: &Context<C>, tcb: &TransmissionControlBlock) -> SocketTime
-    ensures { result ≡ table.running_expiry (tcb_of tcb.now) context.now.heartbeats }
+    ensures { result ≡ table.running_expiry (tcb_of tcb.now) (context_of C.word_of context.now) }
 {
-    next_timeout(tcb).min(heartbeat_expiry(context))
+    let expiry = next_timeout(tcb).min(heartbeat_expiry(context));
+    owed_moment(context, tcb).min(expiry)
 }
 
 fn phase_expiry<C: Checksum>(
@@ -337,7 +383,7 @@ fn phase_expiry<C: Checksum>(
     phase: &Phase,
     tcb: &TransmissionControlBlock,
 ) -> SocketTime
-    ensures { result ≡ table.phase_expiry (phase_of phase.now) (tcb_of tcb.now) context.now.heartbeats }
+    ensures { result ≡ table.phase_expiry (phase_of phase.now) (tcb_of tcb.now) (context_of C.word_of context.now) }
 {
     match phase {
         Phase::CookieEchoed(echoed) => echoed.t1_cookie.next_expiry(),

@@ -1,11 +1,14 @@
 //! DATA, I-DATA and forward points (RFC 9260 section 6.2, RFC 3758 section 3.6).
 
-ghost use Rattle.std.specs.Prelude.{◌≡◌, [], ◌∷◌, OnOk};
+ghost use Rattle.std.specs.Prelude.{◌≡◌, ◌-◌, ◌<◌, ◌^◌, true, false, [], ◌∷◌, OnOk};
 ghost use Rattle.sctp_wire.specs.Cause.{no_user_data};
 ghost use Rattle.sctp_packet.specs.Chunk.{error_chunk};
 ghost use Rattle.spec_endpoint.specs.Packets.{emit_chunk};
 ghost use Rattle.sctp_packet.specs.Views.{viewed_fragment};
-ghost use Rattle.spec_endpoint.specs.Data.{accepts_point, accepts_tsn, fragment_if, handle_forward_tsn_if, on_data};
+ghost use Rattle.spec_endpoint.specs.Data.{accepts_point, fragment_if, handle_forward_tsn_if, on_data};
+ghost use Rattle.sctp_state.specs.Options.{IsValid, options_of};
+ghost use Rattle.sctp_rx.specs.DataTracker.{number_of, is_valid};
+ghost use Rattle.sctp_rx.specs.ReassemblyQueue.{queued_bytes, held_fragments};
 ghost use Rattle.sctp_rx.specs.Delivery.{Extends};
 ghost use Rattle.spec_endpoint.specs.Calls.{ready_in};
 ghost use Rattle.spec_endpoint.specs.Shown.{association_in};
@@ -16,8 +19,9 @@ ghost use Rattle.spec_endpoint.specs.Data as table;
 use sctp_endpoint::{Context, State, TransmissionControlBlock};
 use sctp_error_cause::{ErrorCause, NoUserDataErrorCause};
 use sctp_packet::{Chunk, DataView, ErrorChunk, SkippedStream};
+use sctp_rx::ReassemblyQueue;
 use sctp_serial::{SocketTime, Tsn};
-use sctp_state::ErrorKind;
+use sctp_state::{ErrorKind, Options};
 use sctp_wire::Checksum;
 use std::alloc::{AllocError, Global};
 
@@ -39,37 +43,115 @@ pub fn handle_data<C: Checksum>(
     }
     match state {
         State::Closed | State::CookieWait(_) => emit_data_error(context),
-        State::Open(_, tcb) => take_data(tcb, context.alloc, context.clock, fragment),
+        State::Open(_, tcb) => {
+            take_data(
+                tcb,
+                &context.options,
+                context.alloc,
+                context.clock,
+                fragment,
+            )
+        }
     }
 }
 
-/// A fragment is observed, and copied and kept where its TSN is new; unless there is no room, for its bytes or
-/// for one fragment more, or the TSN lies too far away. What isn't observed isn't acknowledged, so that the peer
-/// sends it again (RFC 9260 section 6.2).
+/// No more may come, for bytes or for fragments.
+fn is_full(queue: &ReassemblyQueue) -> bool
+    ensures test { result ≡ table.is_full queue.now }
+    ensures bytes { result ≡ false → queued_bytes queue.now < 2 ^ 33 }
+    ensures fragments { result ≡ false → held_fragments queue.now < 2 ^ 64 - 1 }
+{
+    queue.is_full() || (queue.is_above_watermark() || queue.holds_most_fragments())
+}
+
+/// There is room for one message more, and for one fragment.
+fn has_reserve(queue: &ReassemblyQueue, options: &Options) -> bool
+    requires { IsValid (options_of options.now) }
+    ensures test { result ≡ table.has_reserve (options_of options.now) queue.now }
+    ensures bytes { result ≡ true → queued_bytes queue.now < 2 ^ 33 }
+    ensures fragments { result ≡ true → held_fragments queue.now < 2 ^ 64 - 1 }
+{
+    let most_bytes = options.max_receiver_window_buffer_size + options.max_message_size;
+    queue.queued_bytes() < most_bytes && !queue.holds_most_fragments()
+}
+
+/// With stalls avoided the next TSN has room above the watermark too (RFC 9260 section 6.2).
+fn takes_next(tcb: &TransmissionControlBlock, options: &Options, tsn: Tsn) -> bool
+    requires { IsValid (options_of options.now) }
+    ensures test { result ≡ table.takes_next (options_of options.now) tsn.0 (tcb_of tcb.now) }
+    ensures bytes { result ≡ true → queued_bytes tcb.now.reassembly_queue < 2 ^ 33 }
+    ensures fragments { result ≡ true → held_fragments tcb.now.reassembly_queue < 2 ^ 64 - 1 }
+{
+    options.avoid_stalls
+        && (tcb.data_tracker.will_increase_cum_ack_tsn(tsn)
+            && has_reserve(&tcb.reassembly_queue, options))
+}
+
+/// Whether there is room for this TSN.
+fn has_room(tcb: &TransmissionControlBlock, options: &Options, tsn: Tsn) -> bool
+    requires { IsValid (options_of options.now) }
+    ensures test { result ≡ table.has_room (options_of options.now) tsn.0 (tcb_of tcb.now) }
+    ensures bytes { result ≡ true → queued_bytes tcb.now.reassembly_queue < 2 ^ 33 }
+    ensures fragments { result ≡ true → held_fragments tcb.now.reassembly_queue < 2 ^ 64 - 1 }
+{
+    !is_full(&tcb.reassembly_queue) || takes_next(tcb, options, tsn)
+}
+
+/// A fragment for which there is room is observed, and copied and kept where its TSN is new; unless the TSN lies too far away.
 #[tactic(auto, using(sctp_reassembly::proofs::ExtendsLemmas::extends_none, crate::proofs::DataLemmas::not_taken))]
-fn take_data(
+fn keep_data(
     tcb: &mut TransmissionControlBlock,
     alloc: Global,
     now: SocketTime,
     fragment: DataView<'_>,
 ) -> Result<(), AllocError>
-    ensures ok { OnOk result (tcb_of tcb.new
-        ≡ fragment_if (accepts_tsn fragment.entry.tsn.0 (tcb_of tcb.old)) fragment.entry.tsn.0 fragment.entry.immediate_ack (viewed_fragment fragment.entry) (tcb_of tcb.old)) }
+    requires bytes { queued_bytes tcb.old.reassembly_queue < 2 ^ 33 }
+    requires fragments { held_fragments tcb.old.reassembly_queue < 2 ^ 64 - 1 }
+    ensures ok { OnOk result (tcb_of tcb.new ≡ fragment_if (is_valid (tcb_of tcb.old).tracker.tracker (number_of (tcb_of tcb.old).tracker fragment.entry.tsn.0))
+        fragment.entry.tsn.0 fragment.entry.immediate_ack (viewed_fragment fragment.entry) (tcb_of tcb.old)) }
     ensures ready { Extends tcb.old.reassembly_queue.ready tcb.new.reassembly_queue.ready }
     ensures identity { tcb.new.identity ≡ tcb.old.identity }
 {
-    if tcb.reassembly_queue.is_full()
-        || tcb.reassembly_queue.is_above_watermark()
-        || tcb.reassembly_queue.holds_most_fragments()
-    {
-        return Ok(());
-    }
     let tsn = fragment.tsn;
     if tcb.data_tracker.observe(now, tsn, fragment.immediate_ack)? {
         let data = fragment.to_data(alloc)?;
         tcb.reassembly_queue.add(tsn, data)?;
     }
     Ok(())
+}
+
+/// With stalls avoided a fragment that is dropped for want of room is answered at once.
+fn tell_of_drop(tcb: &mut TransmissionControlBlock, options: &Options)
+    ensures ok { tcb_of tcb.new ≡ table.told_of_drop (options_of options.now).avoid_stalls false (tcb_of tcb.old) }
+    ensures received { tcb.new.reassembly_queue ≡ tcb.old.reassembly_queue }
+    ensures identity { tcb.new.identity ≡ tcb.old.identity }
+{
+    if options.avoid_stalls {
+        tcb.data_tracker.force_immediate_sack();
+    }
+}
+
+/// A fragment is kept where there is room. What isn't observed isn't acknowledged, so that the peer sends it again (RFC 9260 section
+/// 6.2).
+#[tactic(auto, using(sctp_reassembly::proofs::ExtendsLemmas::extends_none, crate::proofs::DataLemmas::kept_so, crate::proofs::DataLemmas::dropped_so))]
+fn take_data(
+    tcb: &mut TransmissionControlBlock,
+    options: &Options,
+    alloc: Global,
+    now: SocketTime,
+    fragment: DataView<'_>,
+) -> Result<(), AllocError>
+    requires { IsValid (options_of options.now) }
+    ensures ok { OnOk result (tcb_of tcb.new
+        ≡ table.take_data (options_of options.now) fragment.entry.tsn.0 fragment.entry.immediate_ack (viewed_fragment fragment.entry) (tcb_of tcb.old)) }
+    ensures ready { Extends tcb.old.reassembly_queue.ready tcb.new.reassembly_queue.ready }
+    ensures identity { tcb.new.identity ≡ tcb.old.identity }
+{
+    if !has_room(tcb, options, fragment.tsn) {
+        tell_of_drop(tcb, options);
+        return Ok(());
+    }
+    keep_data(tcb, alloc, now, fragment)
 }
 
 #[tactic(auto, using(sctp_endpoint::proofs::GoesOnLemmas::goes_on_same, sctp_endpoint::proofs::GoesOnLemmas::goes_on_through))]

@@ -3,7 +3,9 @@
 ghost use Rattle.std.specs.Prelude.{◌≡◌, OnOk};
 ghost use Rattle.std.specs.Option.{option_map};
 ghost use Rattle.std.specs.Duration.{as_nanos};
-ghost use Rattle.spec_endpoint.specs.Sack.{clean_blocks, after_sack, on_sack, on_sack_open, sample_rtt};
+ghost use Rattle.spec_endpoint.specs.Sack.{clean_blocks, after_sack, on_sack, on_sack_open, sample_rtt, is_late, sampled_unless};
+ghost use Rattle.sctp_state.specs.Options.{options_of};
+ghost use Rattle.sctp_tx_outstanding.specs.OutstandingData.{number_of};
 ghost use Rattle.sctp_tx.specs.RetransmissionQueue.{answer_of};
 ghost use Rattle.spec_endpoint.specs.Calls.{ready_in};
 ghost use Rattle.spec_endpoint.specs.Shown.{association_in};
@@ -12,7 +14,8 @@ ghost use Rattle.sctp_endpoint.specs.Views.{context_of, opened_of, phase_of, sac
 
 use sctp_endpoint::{Context, Phase, State, TransmissionControlBlock};
 use sctp_packet::{SackChunk, clean_sack};
-use sctp_state::ErrorKind;
+use sctp_serial::Tsn;
+use sctp_state::{ErrorKind, Options};
 use sctp_tx::HandleSackResult;
 use sctp_wire::Checksum;
 use std::alloc::AllocError;
@@ -63,6 +66,32 @@ pub fn handle_sack<C: Checksum>(
     }
 }
 
+/// With stalls avoided: whether this SACK says nothing of when the item with this TSN came, since a block acknowledged it before, or it was given up.
+fn is_late(tcb: &TransmissionControlBlock, options: &Options, tsn: Tsn) -> bool
+    ensures { result ≡ is_late (options_of options.now) (number_of (tcb_of tcb.now).sender.outstanding tsn.0) (tcb_of tcb.now).sender.outstanding.items }
+{
+    options.avoid_stalls && !tcb.retransmission_queue.is_open(tsn)
+}
+
+/// The answer, without its round trip where that says nothing.
+fn sampled_unless(is_late: bool, answer: HandleSackResult) -> HandleSackResult
+    ensures { answer_of result ≡ sampled_unless is_late (answer_of answer) }
+{
+    if !is_late {
+        return answer;
+    }
+    match answer {
+        HandleSackResult::Valid {
+            reset_error_counter,
+            ..
+        } => HandleSackResult::Valid {
+            rtt: None,
+            reset_error_counter,
+        },
+        HandleSackResult::Invalid => HandleSackResult::Invalid,
+    }
+}
+
 #[tactic(auto, using(sctp_endpoint::proofs::GoesOnLemmas::goes_on_same, sctp_endpoint::proofs::GoesOnLemmas::goes_on_through))]
 fn sack_open<C: Checksum>(
     phase: &mut Phase,
@@ -77,10 +106,11 @@ fn sack_open<C: Checksum>(
     ensures identity { tcb.new.identity ≡ tcb.old.identity }
 {
     let sack = cleaned(sack);
+    let is_late = is_late(tcb, &context.options, sack.cumulative_tsn_ack);
     let answer = tcb
         .retransmission_queue
         .handle_sack(context.clock, &sack, &mut context.events)?;
-    after_sack(phase, tcb, context, answer)
+    after_sack(phase, tcb, context, sampled_unless(is_late, answer))
 }
 
 /// What was acknowledged shows that the peer is there, so its errors are forgotten (RFC 9260 section 8.1). Then goes out what waited for

@@ -1,5 +1,5 @@
 -- The calls that send, the queries and the settings.
-use Rattle.std.specs.Prelude.{ℕ, ◌+◌, ◌==◌, ◌||◌, not, nat_lt, nat_le, Bool, true, false, Option, Some, None, unwrap_or, List, [], ◌∷◌, ◌++◌, length, codes, drop}
+use Rattle.std.specs.Prelude.{ℕ, ◌+◌, ◌*◌, ◌/◌, ◌==◌, ◌||◌, ◌&&◌, not, nat_lt, nat_le, min, max, Bool, true, false, Option, Some, None, unwrap_or, List, [], ◌∷◌, ◌++◌, length, codes, drop}
 use Rattle.sctp_serial.specs.Messages.{Message}
 use Rattle.sctp_state.specs.declared.api.ErrorKind.TheVariants.{ProtocolViolation, WrongSequence, ResourceExhaustion}
 use Rattle.sctp_state.specs.declared.api.SocketState.{SocketState}
@@ -7,12 +7,13 @@ use Rattle.sctp_state.specs.declared.api.SocketState.TheVariants as shown
 use Rattle.sctp_state.specs.declared.api.errors.SendError.{SendError}
 use Rattle.sctp_state.specs.declared.api.errors.SendError.TheVariants.{EmptyPayload, MessageTooLarge, ShuttingDown, ResourceExhaustion as QueueFull, Memory, Failed}
 use Rattle.sctp_state.specs.Numbers.{more}
-use Rattle.sctp_state.specs.Options.{SendOptions}
+use Rattle.sctp_state.specs.Options.{Options, SendOptions}
+use Rattle.sctp_rx.specs.ReassemblyQueue.{Reassembly}
 use Rattle.sctp_state.specs.Events.{Event, OnError, OnLifecycleEnd, emit_events}
 use Rattle.sctp_tx_queue.specs.SendQueue.{Queued, stream, amount_of, total_of, expiry_of, add}
 use Rattle.sctp_tx_queue.specs.Settings as settings
 use Rattle.spec_endpoint.specs.Association.{Tcb, Phase, CookieEchoed, Established, ShutdownPending, ShutdownSent, ShutdownReceived, ShutdownAckSent, State, Closed, CookieWait, Open, Context, EndpointState, with_context, where_open}
-use Rattle.spec_endpoint.specs.Sending.{send_in}
+use Rattle.spec_endpoint.specs.Sending.{send_in, window, force_ack}
 
 -- ---- what `state` answers
 
@@ -149,14 +150,32 @@ ready_in (Open phase t) = t.reassembly.ready
 abbrev pub without_first_message : Tcb → Tcb
 without_first_message t = record t { reassembly = record t.reassembly { ready = drop 1 t.reassembly.ready } }
 
+-- With stalls avoided the peer is told of a window that opens again, where it was too small to be used: a quarter of the whole, or an mtu where that
+-- is more (RFC 9260 section 6.2, RFC 1122 section 4.2.3.3).
+abbrev pub widest_window : Options → ℕ
+widest_window o = o.max_receiver_window_buffer_size * 9 / 10
+
+abbrev pub least_window : Options → ℕ
+least_window o = min (widest_window o) (max o.mtu (widest_window o / 4))
+
+abbrev pub opens_window : Options → (before after : Reassembly) → Bool
+opens_window o before after = o.avoid_stalls && (nat_lt (window before) (least_window o) && nat_le (least_window o) (window after))
+
+abbrev pub told_if : (opens : Bool) → Tcb → Tcb
+told_if true t = force_ack t
+told_if false t = t
+
 -- the first one is handed out
-abbrev pub without_first_message_in : State → State
-without_first_message_in Closed = Closed
-without_first_message_in (CookieWait tag first t1) = CookieWait tag first t1
-without_first_message_in (Open phase t) = Open phase (without_first_message t)
+abbrev pub message_taken : Options → Tcb → Tcb
+message_taken o t = told_if (opens_window o t.reassembly (without_first_message t).reassembly) (without_first_message t)
+
+abbrev pub message_taken_in : Options → State → State
+message_taken_in o Closed = Closed
+message_taken_in o (CookieWait tag first t1) = CookieWait tag first t1
+message_taken_in o (Open phase t) = Open phase (message_taken o t)
 
 abbrev pub take_message : {P : Type 0} → EndpointState P → EndpointState P
-take_message s = record s { state = without_first_message_in s.state }
+take_message s = record s { state = message_taken_in s.context.options s.state }
 
 -- nothing queued, no item kept
 abbrev pub keeps_items : State → Bool

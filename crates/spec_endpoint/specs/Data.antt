@@ -1,15 +1,17 @@
 -- DATA, I-DATA and forward points (RFC 9260 section 6.2, RFC 8260, RFC 3758 section 3.6).
-use Rattle.std.specs.Prelude.{ℕ, ◌==◌, ◌||◌, ◌&&◌, not, nat_le, Bool, true, false, List, [], ◌∷◌, length, codes}
+use Rattle.std.specs.Prelude.{ℕ, ◌+◌, ◌==◌, ◌||◌, ◌&&◌, not, nat_lt, nat_le, Bool, true, false, List, [], ◌∷◌, length, codes}
 use Rattle.sctp_wire.specs.Cause.{no_user_data}
 use Rattle.sctp_packet.specs.Chunk.{FragmentTree, error_chunk}
 use Rattle.sctp_chunk.specs.declared.forward_tsn.SkippedStream.{SkippedStream}
 use Rattle.sctp_state.specs.declared.api.ErrorKind.TheVariants.{NotConnected, ProtocolViolation}
+use Rattle.sctp_state.specs.Options.{Options}
 use Rattle.sctp_rx.specs.DataTracker.{DataTracker, number_of, is_valid, has_seen, moves_on, observe}
 use Rattle.sctp_rx.specs.DataTracker as tracker
 use Rattle.sctp_rx.specs.ReassemblyQueue.{Reassembly, watermark, queued_bytes, held_fragments}
 use Rattle.sctp_rx.specs.ReassemblyQueue as reassembly
 use Rattle.spec_endpoint.specs.Association.{Tcb, State, Closed, CookieWait, Open, Context, EndpointState, open_as, with_context}
 use Rattle.spec_endpoint.specs.Packets.{emit_error, emit_chunk}
+use Rattle.spec_endpoint.specs.Sending.{force_ack}
 
 -- ---- DATA
 
@@ -28,8 +30,34 @@ not_connected c = emit_error NotConnected (codes "Received unexpected commands o
 abbrev pub is_full : Reassembly → Bool
 is_full r = nat_le r.max_size (queued_bytes r) || (nat_le (watermark r) (queued_bytes r) || nat_le r.max_fragments (held_fragments r))
 
-abbrev pub accepts_tsn : (tsn : ℕ) → Tcb → Bool
-accepts_tsn tsn t = not (is_full t.reassembly) && is_valid t.tracker.tracker (number_of t.tracker tsn)
+-- With stalls avoided the next TSN is taken all the same, so that what is held can become complete (RFC 9260 section 6.2); as long as there is room for
+-- one message more, and for one fragment.
+abbrev pub most_bytes : Options → ℕ
+most_bytes o = o.max_receiver_window_buffer_size + o.max_message_size
+
+abbrev pub has_reserve : Options → Reassembly → Bool
+has_reserve o r = nat_lt (queued_bytes r) (most_bytes o) && nat_lt (held_fragments r) r.max_fragments
+
+abbrev pub is_next : (tsn : ℕ) → DataTracker → Bool
+is_next tsn d = number_of d tsn == d.tracker.seen.front + 1
+
+abbrev pub takes_next : Options → (tsn : ℕ) → Tcb → Bool
+takes_next o tsn t = o.avoid_stalls && (is_next tsn t.tracker && has_reserve o t.reassembly)
+
+abbrev pub has_room : Options → (tsn : ℕ) → Tcb → Bool
+has_room o tsn t = not (is_full t.reassembly) || takes_next o tsn t
+
+abbrev pub accepts_tsn : Options → (tsn : ℕ) → Tcb → Bool
+accepts_tsn o tsn t = has_room o tsn t && is_valid t.tracker.tracker (number_of t.tracker tsn)
+
+-- what is dropped for want of room is answered at once, with what was taken so far
+abbrev pub told_unless : (has_room : Bool) → Tcb → Tcb
+told_unless true t = t
+told_unless false t = force_ack t
+
+abbrev pub told_of_drop : (avoids_stalls has_room : Bool) → Tcb → Tcb
+told_of_drop true has_room t = told_unless has_room t
+told_of_drop false has_room t = t
 
 abbrev pub observe_tsn : (tsn : ℕ) → (is_immediate : Bool) → DataTracker → DataTracker
 observe_tsn tsn is_immediate d = record d { tracker = observe (number_of d tsn) is_immediate d.tracker }
@@ -49,10 +77,14 @@ abbrev pub fragment_if : (takes : Bool) → (tsn : ℕ) → (is_immediate : Bool
 fragment_if true tsn is_immediate f t = take_fragment tsn is_immediate f t
 fragment_if false tsn is_immediate f t = t
 
+abbrev pub take_data : Options → (tsn : ℕ) → (is_immediate : Bool) → FragmentTree → Tcb → Tcb
+take_data o tsn is_immediate f t =
+    fragment_if (accepts_tsn o tsn t) tsn is_immediate f (told_of_drop o.avoid_stalls (has_room o tsn t) t)
+
 abbrev pub on_data_in : {P : Type 0} → State → (tsn : ℕ) → (is_immediate : Bool) → FragmentTree → Context P → EndpointState P
 on_data_in Closed tsn is_immediate f c = record { state = Closed; context = not_connected c }
 on_data_in (CookieWait tag first t1) tsn is_immediate f c = record { state = CookieWait tag first t1; context = not_connected c }
-on_data_in (Open phase t) tsn is_immediate f c = open_as phase (fragment_if (accepts_tsn tsn t) tsn is_immediate f t) c
+on_data_in (Open phase t) tsn is_immediate f c = open_as phase (take_data c.options tsn is_immediate f t) c
 
 abbrev pub on_data_if : {P : Type 0} → (is_empty : Bool) → (tsn : ℕ) → (is_immediate : Bool) → FragmentTree → EndpointState P → EndpointState P
 on_data_if true tsn is_immediate f s = with_context s (on_no_data tsn s.state s.context)

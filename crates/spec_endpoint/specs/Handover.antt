@@ -17,10 +17,12 @@ use Rattle.sctp_tx_queue.specs.Handover as queue
 use Rattle.sctp_tx_queue.specs.Readiness as queued
 use Rattle.sctp_tx_queue.specs.Restored as taken_up
 use Rattle.sctp_tx.specs.Handover as sender
+use Rattle.sctp_tx.specs.RetransmissionQueue.{wake}
 use Rattle.spec_endpoint.specs.Association.{Identity, Tcb, tcb, Phase, CookieEchoed, Established, ShutdownPending, ShutdownSent, ShutdownReceived, ShutdownAckSent, State, Closed, CookieWait, Open, Context, EndpointState}
 use Rattle.spec_endpoint.specs.Packets.{emit_event_in}
 use Rattle.spec_endpoint.specs.ResetRequests.{Request, Requests}
-use Rattle.spec_endpoint.specs.Sending.{open_with, send_buffered}
+use Rattle.spec_endpoint.specs.Heartbeats.{restart_interval}
+use Rattle.spec_endpoint.specs.Sending.{AfterSending, after_sending, open_with, send_buffered}
 
 -- ---- what stands in the way: the bits of the parts
 
@@ -175,9 +177,17 @@ tcb_from now o h = block_restored now h (tcb o (identity_from h) h.tx.rwnd (capa
 abbrev pub queue_restored : {P : Type 0} → HandoverState → Context P → Context P
 queue_restored h c = record c { queue = taken_up.restore c.now h.capabilities.message_interleaving h.tx c.queue }
 
--- the association goes on; it is new to the user of this socket
+-- With stalls avoided the timers of items and of heartbeats start (RFC 9260 sections 6.3.2 and 8.3); else they do with the first data that is sent.
+abbrev pub woken_if : {P : Type 0} → (avoids_stalls : Bool) → Tcb → Context P → AfterSending P
+woken_if true t c = after_sending (record t { sender = wake c.now t.sender }) (record c { heartbeats = restart_interval c.now c.heartbeats })
+woken_if false t c = after_sending t c
+
+-- the association goes on; it is new to the user of this socket, and what may be sent goes out
+abbrev pub goes_on : {P : Type 0} → AfterSending P → EndpointState P
+goes_on x = open_with Established (send_buffered false x.tcb (emit_event_in OnConnected x.context))
+
 abbrev pub take_up : {P : Type 0} → HandoverState → Context P → EndpointState P
-take_up h c = open_with Established (send_buffered false (tcb_from c.now c.options h) (emit_event_in OnConnected (queue_restored h c)))
+take_up h c = goes_on (woken_if c.options.avoid_stalls (tcb_from c.now c.options h) (queue_restored h c))
 
 -- ---- whether it is taken up
 

@@ -19,7 +19,7 @@ use Rattle.spec_endpoint.specs.Association.{Tcb, Phase, CookieEchoed, Establishe
 use Rattle.spec_endpoint.specs.Heartbeats.{on_heartbeat_ack}
 use Rattle.spec_endpoint.specs.Packets.{add, round_down_to_4, new_packet, emit_error, emit_chunk}
 use Rattle.spec_endpoint.specs.Sending.{take_due_ack, without_duplicates, selective_ack, is_before_cookie_ack, open_with, send_with}
-use Rattle.spec_endpoint.specs.Shutdown.{send_shutdown, on_shutdown, on_shutdown_ack, on_shutdown_complete, abort_for_violation, on_abort, on_error}
+use Rattle.spec_endpoint.specs.Shutdown.{open_phase_step, maybe_send_shutdown_or_ack, send_shutdown, on_shutdown, on_shutdown_ack, on_shutdown_complete, abort_for_violation, on_abort, on_error}
 use Rattle.spec_endpoint.specs.Data.{on_data, on_forward}
 use Rattle.spec_endpoint.specs.Sack.{on_sack}
 use Rattle.spec_endpoint.specs.StreamReset.{on_reconfig}
@@ -260,8 +260,19 @@ at_end now t = record t { tracker = record t.tracker { tracker = packet_end now 
 abbrev pub packet_ended_at : {P : Type 0} → Phase → Tcb → Context P → EndpointState P
 packet_ended_at phase t c = ack_if_due (is_ack_due false t.tracker.tracker.ack) phase (take_due_ack false t) c
 
+abbrev pub packet_acked : {P : Type 0} → Phase → Tcb → Context P → EndpointState P
+packet_acked phase t c = packet_ended_at phase (at_end c.now t) c
+
+-- with stalls avoided a shutdown that waited goes on behind all that was sent: what waited may have expired
+abbrev pub shut_waiting : {P : Type 0} → Phase → Tcb → Context P → EndpointState P
+shut_waiting phase t c = open_phase_step t (maybe_send_shutdown_or_ack phase t c)
+
+abbrev pub shut_if : {P : Type 0} → (avoids_stalls : Bool) → EndpointState P → EndpointState P
+shut_if true s = where_open shut_waiting s
+shut_if false s = s
+
 abbrev pub on_packet_end : {P : Type 0} → Phase → Tcb → Context P → EndpointState P
-on_packet_end phase t c = packet_ended_at phase (at_end c.now t) c
+on_packet_end phase t c = shut_if c.options.avoid_stalls (packet_acked phase t c)
 
 abbrev pub on_accepted_packet : {P : Type 0} → (tag : ℕ) → List ChunkTree → Endpoint P → Endpoint P
 on_accepted_packet tag chunks s =

@@ -317,7 +317,7 @@ abbrev pub emit_parse_error : {P : Type 0} → List ℕ → Endpoint P → Endpo
 emit_parse_error text s = with_endpoint_state (with_context s.endpoint_state (emit_error ParseFailed text s.endpoint_state.context)) s
 
 abbrev pub on_resolution : {P : Type 0} → CookieResolution → Cookie → Endpoint P → Endpoint P
-on_resolution EstablishNew k s = establishes false k s.endpoint_state.context s
+on_resolution EstablishNew k s = establishes s.endpoint_state.context.options.avoid_stalls k s.endpoint_state.context s
 on_resolution RestartDetected k s = restart k s
 on_resolution SimultaneousInit k s = establishes true k s.endpoint_state.context s
 on_resolution MaintainExisting k s = with_endpoint_state (maintain_existing_in k s.endpoint_state) s

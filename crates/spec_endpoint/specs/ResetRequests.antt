@@ -7,7 +7,7 @@ use Rattle.sctp_serial.specs.Unwrapped.{u32_space}
 use Rattle.sctp_wire.specs.Parameter.{outgoing_reset_request}
 use Rattle.sctp_packet.specs.Chunk.{ChunkTree, re_config_chunk}
 use Rattle.sctp_state.specs.declared.timer.BackoffAlgorithm.TheVariants.{Exponential}
-use Rattle.sctp_state.specs.Options.{Options}
+use Rattle.sctp_state.specs.Options.{Options, reconfig_backoff}
 use Rattle.sctp_state.specs.Timer.{Timer, timer, start, stop, set_duration, expire}
 
 -- an own request that waits for its answer
@@ -58,7 +58,7 @@ abbrev pub requests : Options → (my_first peer_first : ℕ) → Requests
 requests o my_first peer_first = record {
   next = my_first;
   current = None;
-  timer = timer o.rto_initial Exponential None None;
+  timer = timer o.rto_initial Exponential None (reconfig_backoff o);
   last = previous_number peer_first;
   result = nothing_to_do;
 }

@@ -1,13 +1,14 @@
 -- SACK (RFC 9260 sections 3.3.4, 6.2.1).
-use Rattle.std.specs.Prelude.{ℕ, ◌+◌, nat_lt, nat_le, min, max, Bool, true, false, if◌then◌else◌, Option, Some, None, List, [], ◌∷◌, codes}
+use Rattle.std.specs.Prelude.{ℕ, ◌+◌, ◌&&◌, not, nat_lt, nat_le, min, max, Bool, true, false, if◌then◌else◌, Option, Some, None, List, [], ◌∷◌, codes}
 use Rattle.sctp_chunk.specs.declared.sack.GapAckBlock.{GapAckBlock}
 use Rattle.sctp_packet.specs.Chunk.{SackTree}
 use Rattle.sctp_state.specs.declared.api.ErrorKind.TheVariants.{NotConnected}
 use Rattle.sctp_state.specs.TxErrorCounter.{ErrorCounter, no_errors}
 use Rattle.sctp_state.specs.RetransmissionTimeout.{Rtt, rto, observe_rto}
 use Rattle.sctp_state.specs.Timer.{set_duration}
-use Rattle.sctp_tx_outstanding.specs.OutstandingData.{number_of}
-use Rattle.sctp_tx_outstanding.specs.Sack.{is_valid}
+use Rattle.sctp_state.specs.Options.{Options}
+use Rattle.sctp_tx_outstanding.specs.OutstandingData.{Items, number_of}
+use Rattle.sctp_tx_outstanding.specs.Sack.{is_valid, is_open_at}
 use Rattle.sctp_rx.specs.DataTracker.{update_rto}
 use Rattle.sctp_tx.specs.RetransmissionQueue.{SackAnswer, Invalid, Valid, sender_if, emitted_if, answer_if}
 use Rattle.spec_endpoint.specs.Association.{Tcb, Phase, State, Closed, CookieWait, Open, Context, EndpointState, open_as}
@@ -59,10 +60,23 @@ abbrev pub after_sack : {P : Type 0} → SackAnswer → Phase → Tcb → Contex
 after_sack Invalid phase t c = open_as phase t c
 after_sack (Valid rtt is_progress) phase t c = send_after_sack (sample_rtt rtt t) (maybe_send_shutdown_or_ack phase (sample_rtt rtt t) (clear_errors_if is_progress c))
 
+-- With stalls avoided no round trip is sampled of an item that a block acknowledged before, nor of one that was given up: its SACK says nothing of
+-- when it came (RFC 9260 section 6.3.1).
+abbrev pub without_sample : SackAnswer → SackAnswer
+without_sample Invalid = Invalid
+without_sample (Valid rtt is_progress) = Valid None is_progress
+
+abbrev pub sampled_unless : (is_late : Bool) → SackAnswer → SackAnswer
+sampled_unless true answer = without_sample answer
+sampled_unless false answer = answer
+
+abbrev pub is_late : Options → (cumulative : ℕ) → Items → Bool
+is_late o n s = o.avoid_stalls && not (is_open_at n s)
+
 -- with blocks that are maximal runs
 abbrev pub on_clean_sack : {P : Type 0} → (cumulative a_rwnd : ℕ) → List GapAckBlock → Phase → Tcb → Context P → EndpointState P
 on_clean_sack n a_rwnd blocks phase t c =
-    after_sack (answer_if (is_valid n blocks t.sender.outstanding.items) c.now n blocks t.sender) phase
+    after_sack (sampled_unless (is_late c.options n t.sender.outstanding.items) (answer_if (is_valid n blocks t.sender.outstanding.items) c.now n blocks t.sender)) phase
     (record t { sender = sender_if (is_valid n blocks t.sender.outstanding.items) c.now n a_rwnd blocks t.sender c.emitted })
     (record c { emitted = emitted_if (is_valid n blocks t.sender.outstanding.items) n blocks t.sender c.emitted })
 

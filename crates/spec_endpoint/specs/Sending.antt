@@ -1,6 +1,6 @@
 -- What goes into packets: in the first of a burst an acknowledgement, a forward point and a request to reset streams where
 -- they are due, and in each as much data as the windows let go (RFC 9260 section 6.1).
-use Rattle.std.specs.Prelude.{ℕ, zero, suc, ◌-◌, ◌*◌, ◌/◌, ◌||◌, not, nat_lt, nat_le, ◌==◌, min, Bool, true, false, Option, Some, None, is_some, List, [], ◌∷◌, length, map}
+use Rattle.std.specs.Prelude.{ℕ, zero, suc, ◌-◌, ◌*◌, ◌/◌, ◌||◌, not, nat_lt, nat_le, ◌==◌, min, max, Bool, true, false, Option, Some, None, is_some, List, [], ◌∷◌, length, map}
 use Rattle.sctp_serial.specs.Time.{later}
 use Rattle.sctp_packet.specs.Chunk.{ChunkTree, FragmentTree, fragment_chunk, sack_chunk, cookie_echo_chunk}
 use Rattle.sctp_state.specs.Numbers.{ms}
@@ -11,6 +11,7 @@ use Rattle.sctp_tx_outstanding.specs.OutstandingData as items
 use Rattle.sctp_tx_outstanding.specs.Forward.{is_forward_due}
 use Rattle.sctp_tx_outstanding.specs.Losses.{expire_outstanding}
 use Rattle.sctp_rx.specs.DataTracker.{is_ack_due, take_ack}
+use Rattle.sctp_rx.specs.DataTracker as tracker
 use Rattle.sctp_rx.specs.ReassemblyQueue.{Reassembly, watermark, queued_bytes}
 use Rattle.sctp_rx.specs.Sack.{sack, clear_duplicates}
 use Rattle.sctp_tx_queue.specs.SendQueue.{Queue}
@@ -60,11 +61,20 @@ has_data_to_send x = queue_has_data x.context.queue || may_send_new x.tcb.sender
 abbrev pub with_ack : {P : Type 0} → Filling P → Filling P
 with_ack x = ack_if (is_ack_due (has_data_to_send x) x.tcb.tracker.tracker.ack) (record x { tcb = take_due_ack (has_data_to_send x) x.tcb })
 
+-- one is to go out at once
+abbrev pub force_ack : Tcb → Tcb
+force_ack t = record t { tracker = record t.tracker { tracker = tracker.force_ack t.tracker.tracker } }
+
 -- ---- forward points (RFC 3758 section 3.5)
+
+-- with stalls avoided this moment is waited for: it lies ahead
+abbrev pub forward_pause : (avoids_stalls : Bool) → (span : ℕ) → ℕ
+forward_pause true span = max (1 * ms) span
+forward_pause false span = span
 
 -- not sooner again than after a round trip, of which at most 200 ms count
 abbrev pub forward_later : {P : Type 0} → Tcb → Context P → Context P
-forward_later t c = record c { forward_from = later c.now (min (200 * ms) (srtt t.rtt)) }
+forward_later t c = record c { forward_from = later c.now (forward_pause c.options.avoid_stalls (min (200 * ms) (srtt t.rtt))) }
 
 abbrev pub forward_added_if : {P : Type 0} → (fits : Bool) → Filling P → Filling P
 forward_added_if true x = record x { packet = add (forward_chunk x.tcb.sender) x.packet; context = forward_later x.tcb x.context }

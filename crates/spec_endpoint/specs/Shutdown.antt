@@ -1,5 +1,5 @@
 -- How an association ends: shutdown, close, aborts (RFC 9260 sections 9.1, 9.2), and errors that the peer reports.
-use Rattle.std.specs.Prelude.{ℕ, Bool, true, false, None, List, [], ◌∷◌, ◌++◌, codes}
+use Rattle.std.specs.Prelude.{ℕ, ◌==◌, ◌&&◌, Bool, true, false, None, List, [], ◌∷◌, ◌++◌, length, codes}
 use Rattle.sctp_wire.specs.Cause.{CauseTree, user_initiated_abort, protocol_violation}
 use Rattle.sctp_wire.specs.CauseText.{cause_text}
 use Rattle.sctp_packet.specs.Chunk.{abort_chunk, shutdown_chunk, shutdown_ack_chunk, shutdown_complete_chunk}
@@ -7,16 +7,30 @@ use Rattle.sctp_state.specs.declared.api.ErrorKind.TheVariants.{TooManyRetries, 
 use Rattle.sctp_state.specs.declared.timer.BackoffAlgorithm.TheVariants.{Exponential}
 use Rattle.sctp_state.specs.Timer.{Timer, timer, start, set_duration}
 use Rattle.sctp_state.specs.RetransmissionTimeout.{rto}
-use Rattle.sctp_state.specs.Events.{Event, OnClosed, OnAborted}
+use Rattle.sctp_state.specs.Events.{Event, OnClosed, OnAborted, Emitted}
 use Rattle.sctp_rx.specs.DataTracker.{wire_tsn}
+use Rattle.sctp_tx_queue.specs.SendQueue.{Queue, is_empty}
+use Rattle.sctp_tx_queue.specs.Settings.{Changed}
+use Rattle.sctp_tx_queue.specs.Emptied.{empty}
 use Rattle.sctp_tx.specs.RetransmissionQueue.{nothing_in_flight}
 use Rattle.spec_endpoint.specs.Association.{Tcb, Phase, CookieEchoed, Established, ShutdownPending, ShutdownSent, ShutdownReceived, ShutdownAckSent, State, Closed, CookieWait, Open, Context, EndpointState, open_as}
 use Rattle.spec_endpoint.specs.Heartbeats.{stop_heartbeats}
 use Rattle.spec_endpoint.specs.Packets.{add, packet_to, emit_event_in, emit_error, emit, emit_chunk}
 
 -- the event that says so; no heartbeats are sent any more
+abbrev pub ended : {P : Type 0} → Event P → Context P → Context P
+ended e c = record (emit_event_in e c) { heartbeats = stop_heartbeats c.heartbeats }
+
+-- with stalls avoided, what waits doesn't go to another association: it is given up
+abbrev pub empty_if : {P : Type 0} → (avoids_stalls : Bool) → Queue → Emitted P → Changed P
+empty_if true q emitted = empty q emitted
+empty_if false q emitted = record { queue = q; emitted = emitted }
+
+abbrev pub emptied_if : {P : Type 0} → (avoids_stalls : Bool) → Context P → Context P
+emptied_if avoids_stalls c = let x = empty_if avoids_stalls c.queue c.emitted in record c { queue = x.queue; emitted = x.emitted }
+
 abbrev pub over : {P : Type 0} → Event P → Context P → Context P
-over e c = record (emit_event_in e c) { heartbeats = stop_heartbeats c.heartbeats }
+over e c = emptied_if c.options.avoid_stalls (ended e c)
 
 -- no control block any more
 abbrev pub close_with : {P : Type 0} → Event P → Context P → EndpointState P
@@ -49,13 +63,22 @@ abbrev pub received_next : {P : Type 0} → (is_quiet : Bool) → Tcb → Contex
 received_next true t c = phase_step (ShutdownAckSent (t2_shutdown t c)) (send_shutdown_ack t c)
 received_next false t c = phase_step ShutdownReceived c
 
--- where nothing is unacknowledged, a shutdown that waited for that goes on
+-- what a shutdown waits for: nothing is in flight; with stalls avoided nothing is kept or queued (RFC 9260 section 9.2)
+abbrev pub is_quiet_if : (avoids_stalls is_at_rest has_none_in_flight : Bool) → Bool
+is_quiet_if true is_at_rest has_none_in_flight = is_at_rest
+is_quiet_if false is_at_rest has_none_in_flight = has_none_in_flight
+
+abbrev pub is_quiet : {P : Type 0} → Tcb → Context P → Bool
+is_quiet t c =
+    is_quiet_if c.options.avoid_stalls ((length t.sender.outstanding.items.kept == 0) && is_empty c.queue) (nothing_in_flight t.sender.outstanding.items)
+
+-- where it is, a shutdown that waited for that goes on
 abbrev pub maybe_send_shutdown_or_ack : {P : Type 0} → Phase → Tcb → Context P → PhaseStep P
 maybe_send_shutdown_or_ack (CookieEchoed t1 cookie) t c = phase_step (CookieEchoed t1 cookie) c
 maybe_send_shutdown_or_ack Established t c = phase_step Established c
-maybe_send_shutdown_or_ack ShutdownPending t c = pending_next (nothing_in_flight t.sender.outstanding.items) t c
+maybe_send_shutdown_or_ack ShutdownPending t c = pending_next (is_quiet t c) t c
 maybe_send_shutdown_or_ack (ShutdownSent t2) t c = phase_step (ShutdownSent t2) c
-maybe_send_shutdown_or_ack ShutdownReceived t c = received_next (nothing_in_flight t.sender.outstanding.items) t c
+maybe_send_shutdown_or_ack ShutdownReceived t c = received_next (is_quiet t c) t c
 maybe_send_shutdown_or_ack (ShutdownAckSent t2) t c = phase_step (ShutdownAckSent t2) c
 
 -- the call

@@ -1,5 +1,5 @@
 -- Time: which timers a state looks at, and what their expiries lead to.
-use Rattle.std.specs.Prelude.{ℕ, ◌||◌, nat_lt, min, max, Bool, true, false, List, codes}
+use Rattle.std.specs.Prelude.{ℕ, ◌||◌, ◌&&◌, not, ◌==◌, nat_lt, nat_le, min, max, Bool, true, false, List, codes}
 use Rattle.sctp_serial.specs.Time.{forever}
 use Rattle.sctp_state.specs.declared.api.ErrorKind.TheVariants.{TooManyRetries}
 use Rattle.sctp_state.specs.TxErrorCounter.{one_error, is_exhausted}
@@ -7,9 +7,10 @@ use Rattle.sctp_state.specs.RetransmissionTimeout.{rto}
 use Rattle.sctp_state.specs.Timer.{Timer, is_due, is_running, expire, next_expiry}
 use Rattle.sctp_state.specs.Events.{OnAborted}
 use Rattle.sctp_tx_outstanding.specs.Losses.{Step, nack_all}
-use Rattle.sctp_rx.specs.DataTracker.{ack_timeout}
+use Rattle.sctp_tx_outstanding.specs.Forward.{is_forward_due}
+use Rattle.sctp_rx.specs.DataTracker.{ack_timeout, is_ack_due}
 use Rattle.sctp_tx.specs.RetransmissionQueue.{timed_out_sender}
-use Rattle.spec_endpoint.specs.Association.{Tcb, Phase, CookieEchoed, Established, ShutdownPending, ShutdownSent, ShutdownReceived, ShutdownAckSent, State, Closed, CookieWait, Open, Heartbeats, Context, EndpointState, open_as}
+use Rattle.spec_endpoint.specs.Association.{Tcb, Phase, CookieEchoed, Established, ShutdownPending, ShutdownSent, ShutdownReceived, ShutdownAckSent, State, Closed, CookieWait, Open, Context, EndpointState, open_as}
 use Rattle.spec_endpoint.specs.Heartbeats.{send_heartbeat_if, heartbeat_timeout_if, expiry}
 use Rattle.spec_endpoint.specs.ResetRequests.{lasting, expire_reconfig_timer, clear_deferral, is_unanswered}
 use Rattle.spec_endpoint.specs.Sending.{AfterSending, add_request, send_buffered, send_cookie}
@@ -131,8 +132,27 @@ abbrev pub after_ticks_if : {P : Type 0} → (has_expired : Bool) → Tcb → Co
 after_ticks_if true t c = abort_or_send t c
 after_ticks_if false t c = timer_outcome t c false
 
+-- With stalls avoided something goes out as well that no timer brings. It is owed at once where an acknowledgement is due, and for a forward point
+-- where its limit ends (RFC 3758 section 3.5); never where no packet may go out.
+abbrev pub sends_owed : {P : Type 0} → Context P → Bool
+sends_owed c = c.options.avoid_stalls && not (c.options.max_burst == 0)
+
+abbrev pub moment_if : (is_due : Bool) → (moment : ℕ) → ℕ
+moment_if true moment = moment
+moment_if false moment = forever
+
+abbrev pub first_owed : {P : Type 0} → Tcb → Context P → ℕ
+first_owed t c =
+    min (moment_if (is_ack_due false t.tracker.tracker.ack) c.now) (moment_if (is_forward_due t.sender.outstanding.items) c.forward_from)
+
+abbrev pub owed_moment : {P : Type 0} → Tcb → Context P → ℕ
+owed_moment t c = moment_if (sends_owed c) (first_owed t c)
+
+abbrev pub is_owed : {P : Type 0} → Tcb → Context P → Bool
+is_owed t c = sends_owed c && nat_le (first_owed t c) c.now
+
 abbrev pub after_ticks : {P : Type 0} → Ticking P → TimerOutcome P
-after_ticks x = after_ticks_if x.has_expired x.tcb x.context
+after_ticks x = after_ticks_if (x.has_expired || is_owed x.tcb x.context) x.tcb x.context
 
 -- ---- T2-shutdown, which sends its chunk again (RFC 9260 section 9.2)
 
@@ -224,21 +244,21 @@ advance now s = advance_if (nat_lt now s.context.now) now s
 abbrev pub tcb_expiry : Tcb → ℕ
 tcb_expiry t = min (next_expiry t.requests.timer) (min (next_expiry t.sender.t3) (next_expiry t.tracker.tracker.delay))
 
-abbrev pub running_expiry : Tcb → Heartbeats → ℕ
-running_expiry t h = min (tcb_expiry t) (expiry h)
+abbrev pub running_expiry : {P : Type 0} → Tcb → Context P → ℕ
+running_expiry t c = min (owed_moment t c) (min (tcb_expiry t) (expiry c.heartbeats))
 
-abbrev pub phase_expiry : Phase → Tcb → Heartbeats → ℕ
-phase_expiry (CookieEchoed t1 cookie) t h = next_expiry t1
-phase_expiry Established t h = running_expiry t h
-phase_expiry ShutdownPending t h = running_expiry t h
-phase_expiry (ShutdownSent t2) t h = min (next_expiry t2) (running_expiry t h)
-phase_expiry ShutdownReceived t h = running_expiry t h
-phase_expiry (ShutdownAckSent t2) t h = min (next_expiry t2) (running_expiry t h)
+abbrev pub phase_expiry : {P : Type 0} → Phase → Tcb → Context P → ℕ
+phase_expiry (CookieEchoed t1 cookie) t c = next_expiry t1
+phase_expiry Established t c = running_expiry t c
+phase_expiry ShutdownPending t c = running_expiry t c
+phase_expiry (ShutdownSent t2) t c = min (next_expiry t2) (running_expiry t c)
+phase_expiry ShutdownReceived t c = running_expiry t c
+phase_expiry (ShutdownAckSent t2) t c = min (next_expiry t2) (running_expiry t c)
 
-abbrev pub timeout_in : State → Heartbeats → (now : ℕ) → ℕ
-timeout_in Closed h now = forever
-timeout_in (CookieWait tag first t1) h now = max (next_expiry t1) now
-timeout_in (Open phase t) h now = max (phase_expiry phase t h) now
+abbrev pub timeout_in : {P : Type 0} → State → Context P → ℕ
+timeout_in Closed c = forever
+timeout_in (CookieWait tag first t1) c = max (next_expiry t1) c.now
+timeout_in (Open phase t) c = max (phase_expiry phase t c) c.now
 
 abbrev pub poll_timeout : {P : Type 0} → EndpointState P → ℕ
-poll_timeout s = timeout_in s.state s.context.heartbeats s.context.now
+poll_timeout s = timeout_in s.state s.context
