@@ -13,15 +13,16 @@ use Rattle.sctp_tx.specs.Sending as fragments
 use Rattle.spec_endpoint.specs.Association.{Context, Endpoint, Packing}
 use Rattle.spec_endpoint.specs.Packets.{PacketDraft, header_to, fits, added_if, add, add_all}
 use Rattle.spec_endpoint.specs.ResetRequests.{Outcome, Unsettled, Done, Denied, outcome, request_chunk}
+use Rattle.spec_endpoint.specs.Shutdown.{ended, over}
 use Rattle.spec_endpoint.specs.StreamReset.{on_outcome}
 use Rattle.spec_endpoint.specs.Sending.{selective_ack, data_chunk_of, data_chunks, fast_most, is_small}
 use Rattle.spec_endpoint.specs.Laws.{Call, called, ending}
 use Rattle.proof_endpoint.specs.Mapped.{Carried}
 use Rattle.proof_endpoint.specs.ReadBack.{as_carried}
-use Rattle.proof_endpoint.specs.Acts.{EndWithPacket, is_plain, is_response, fragments_of, PacketAct, begins, adds_plain, emits, emits_error, counts, before_packets, after_packets, OpeningAct, connects, adds_init, answers_new, answers_waiting, answers_echoed, answers_again, echoes, adds_cookie, establishes, opens, restarts, opens_again, maintains, adds_cookie_ack, before_opening, after_opening, ClosingAct, closes, shuts, shuts_on, before_closing, after_closing, DataAct, takes_data, takes_idata, takes_forward, takes_iforward, before_data, after_data, SackAct, takes_sack, samples, counts_errors, before_sack, after_sack, SendingAct, asks, adds_ack, expires, adds_forward, forwards_later, asks_no_reset, asks_reset, adds_request, sends, sends_fast, before_sending, after_sending, TimeAct, advances, delay_ends, times_out, beats, times_init, times_cookie, times_request, wakes_request, before_time, after_time, CallAct, accepts, refuses, takes_message, sets_low_threshold, sets_priority, sets_max_message_size, before_call, after_call, ResetAct, prepares, defers, performs, processes, takes_response, adds_responses, before_reset, after_reset, HandoverAct, leaves, takes_up, before_handover, after_handover, InputAct, ends_packet, before_input, after_input, Preserves}
+use Rattle.proof_endpoint.specs.Acts.{EndWithPacket, is_plain, is_response, fragments_of, PacketAct, begins, adds_plain, emits, emits_error, counts, before_packets, after_packets, OpeningAct, connects, adds_init, answers_new, answers_waiting, answers_echoed, answers_again, echoes, adds_cookie, establishes, opens, restarts, opens_again, maintains, adds_cookie_ack, before_opening, after_opening, ClosingAct, closes, shuts, shuts_on, before_closing, after_closing, DataAct, takes_data, takes_idata, takes_forward, takes_iforward, before_data, after_data, SackAct, takes_sack, samples, counts_errors, before_sack, after_sack, SendingAct, asks, forces_ack, adds_ack, expires, adds_forward, forwards_later, asks_no_reset, asks_reset, adds_request, sends, sends_fast, before_sending, after_sending, TimeAct, advances, delay_ends, times_out, beats, times_init, times_cookie, times_request, times_items, wakes_request, before_time, after_time, CallAct, accepts, refuses, takes_message, sets_low_threshold, sets_priority, sets_max_message_size, before_call, after_call, ResetAct, prepares, defers, performs, processes, takes_response, adds_responses, before_reset, after_reset, HandoverAct, leaves, takes_up, before_handover, after_handover, InputAct, ends_packet, before_input, after_input, Preserves}
 use Rattle.proof_endpoint.proofs.ActsLemmas.{keeps_call}
 use Rattle.proof_pair.proofs.EmittedLemmas.{is_no_packet_or_status, EmitsNoPacketOrStatus}
-use Rattle.proof_pair.proofs.UntilLemmas.{sack_act_emits_no_packet_or_status, sending_act_emits_no_packet_or_status, time_act_emits_no_packet_or_status, call_act_emits_no_packet_or_status, reset_act_emits_no_packet_or_status}
+use Rattle.proof_pair.proofs.UntilLemmas.{over_gives_up, sack_act_emits_no_packet_or_status, sending_act_emits_no_packet_or_status, time_act_emits_no_packet_or_status, call_act_emits_no_packet_or_status, reset_act_emits_no_packet_or_status}
 use Rattle.proof_awake.specs.Line.{asks_once, chunk_asks_once, all_ask_once}
 use Rattle.proof_awake.specs.Asking.{event_asks_once, OwnPacketsAskOnce}
 
@@ -169,7 +170,9 @@ module _ (call : Call) where
   on_opening (adds_cookie_ack tag back phase t m echoed late) h = with_chunk_asks m cookie_ack_chunk refl h
 
   on_closing : (act : ClosingAct Carried call) → Onward (before_closing act) (after_closing act)
-  on_closing (closes e m there is) h = one_more m e (ending_asks e is) h
+  on_closing (closes e m there is) h =
+      quietly m.context.pack (m.context.emitted.events ++ e ∷ []) m.packet.chunks (ended e m.context).emitted (over e m.context).emitted refl (over_gives_up e m.context)
+      (one_more m e (ending_asks e is) h)
   on_closing (shuts phase t m is early) h = h
   on_closing (shuts_on phase next t m late later) h = h
 
@@ -193,6 +196,7 @@ module _ (call : Call) where
 
   on_sending : (act : SendingAct Carried call) → Onward (before_sending act) (after_sending act)
   on_sending (asks also_if_delayed phase t m) h = h
+  on_sending (forces_ack phase t m) h = h
   on_sending (adds_ack phase t m) h = with_chunk_asks m (selective_ack t) refl h
   on_sending (expires phase t m) h =
       let act : SendingAct Carried call = expires phase t m in
@@ -222,6 +226,7 @@ module _ (call : Call) where
   on_time (times_init tag first old new m) h = h
   on_time (times_cookie old new cookie t m) h = h
   on_time (times_request timer phase t m) h = h
+  on_time (times_items timer phase t m) h = h
   on_time (wakes_request phase t m) h = h
 
   on_calls : (act : CallAct Carried call) → Onward (before_call act) (after_call act)

@@ -150,12 +150,12 @@ sampled_holds b (Some sample) t h =
       rtt = k;
     }
 
-pub new_block : (o : Options) (i : Identity) (a_rwnd : ℕ) (k : Capabilities) → HasLimits o → BlockHolds false (tcb o i a_rwnd k)
-new_block o i a_rwnd k h =
+pub new_block : (avoids : Bool) (o : Options) (i : Identity) (a_rwnd : ℕ) (k : Capabilities) → HasLimits avoids o → BlockHolds false (tcb o i a_rwnd k)
+new_block avoids o i a_rwnd k h =
     let two = h.rto_initial in
     let one : 1 ≤ o.rto_initial = omega (arith, two) in
     record {
-      sender = record { lasts = record { restarts = refl; duration = one }; timed = inl refl; some = tt; windows = new_room o a_rwnd h };
+      sender = record { lasts = record { restarts = refl; duration = one }; timed = inl refl; some = tt; windows = new_room avoids o a_rwnd h };
       requests = record { lasts = record { restarts = refl; duration = one }; timed = inl refl };
       tracker = record { duration = delay_least o.rto_initial o.delayed_ack_max_timeout h.rto_initial h.delayed_ack; most_delay = h.delayed_ack; timed = tt };
       rtt = record { range = h.rto_range; least = h.rto_min; initial = h.rto_initial };

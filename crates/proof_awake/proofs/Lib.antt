@@ -18,5 +18,6 @@ pub mod LineEachLemmas
 pub mod LineTimeLemmas
 pub mod LineInputLemmas
 pub mod RestoredLemmas
+pub mod TakenUpLemmas
 pub mod AskingLemmas
 pub mod WorldLineLemmas

@@ -1,5 +1,5 @@
 -- The calls that send leave no stream in line where no item is kept.
-use Rattle.std.proofs.Common.{◌≡◌, ℕ, ◌≤◌, Option, Some, None, List, [], ◌∷◌, refl, sym, subst, ◌∙◌, arith}
+use Rattle.std.proofs.Common.{Bool, ◌≡◌, ℕ, ◌≤◌, Option, Some, None, List, [], ◌∷◌, refl, sym, subst, ◌∙◌, arith}
 use Rattle.sctp_serial.specs.Messages.{Message}
 use Rattle.sctp_state.specs.declared.api.SocketState.{SocketState}
 use Rattle.sctp_state.specs.declared.api.errors.SendError.{SendError}
@@ -14,8 +14,8 @@ use Rattle.proof_awake.specs.Invariant.{StateHolds}
 use Rattle.proof_awake.specs.Line.{HasNoLine, SendingCallsLeaveNoLine}
 use Rattle.proof_awake.proofs.LineLemmas.{none_in_line}
 
-module _ {P : Type 0} where
-  pub phase_sends : (phase : Phase) (t : Tcb) (c : Context P) → 2 ≤ c.options.max_burst → StateHolds (Open phase t) c.options c.heartbeats → HasNoLine (send_in phase t c)
+module _ {P : Type 0} (avoids : Bool) where
+  pub phase_sends : (phase : Phase) (t : Tcb) (c : Context P) → 2 ≤ c.options.max_burst → StateHolds avoids (Open phase t) c.options c.heartbeats → HasNoLine (send_in phase t c)
   phase_sends (CookieEchoed t1 cookie) t c b h = tt
   phase_sends Established t c b h =
       let m = h.0.options.mtu_least in
@@ -26,7 +26,7 @@ module _ {P : Type 0} where
   phase_sends ShutdownReceived t c b h = tt
   phase_sends (ShutdownAckSent t2) t c b h = tt
 
-  pub state_sends : (s : State) (c : Context P) → 2 ≤ c.options.max_burst → StateHolds s c.options c.heartbeats → HasNoLine (where_open send_in (record { state = s; context = c }))
+  pub state_sends : (s : State) (c : Context P) → 2 ≤ c.options.max_burst → StateHolds avoids s c.options c.heartbeats → HasNoLine (where_open send_in (record { state = s; context = c }))
   state_sends Closed c b h = tt
   state_sends (CookieWait tag first t1) c b h = tt
   state_sends (Open phase t) c b h = phase_sends phase t c b h
@@ -55,18 +55,20 @@ module _ {P : Type 0} where
       let d : Context P = prepare_reset_stream id c in
       same_both c d (prepare_all ids d) (record { options_are = refl; heartbeats_are = refl }) (prepared_same ids d)
 
-  pub sends_then : (s : State) (c d : Context P) → Same c d → 2 ≤ c.options.max_burst → StateHolds s c.options c.heartbeats → HasNoLine (where_open send_in (record { state = s; context = d }))
+  pub sends_then : (s : State) (c d : Context P) → Same c d → 2 ≤ c.options.max_burst → StateHolds avoids s c.options c.heartbeats → HasNoLine (where_open send_in (record { state = s; context = d }))
   sends_then s c d e b h =
       state_sends s d (subst (λ (o : Options). 2 ≤ o.max_burst) (sym e.options_are) b)
-      (subst (λ (o : Options). StateHolds s o d.heartbeats) (sym e.options_are) (subst (λ (x : _). StateHolds s c.options x) (sym e.heartbeats_are) h))
+      (subst (λ (o : Options). StateHolds avoids s o d.heartbeats) (sym e.options_are) (subst (λ (x : _). StateHolds avoids s c.options x) (sym e.heartbeats_are) h))
 
-  reset_sends : (o : Option ResetStreamsError) (ids : List ℕ) (s : EndpointState P) → o ≡ None → 2 ≤ s.context.options.max_burst → StateHolds s.state s.context.options s.context.heartbeats
+  reset_sends : (o : Option ResetStreamsError) (ids : List ℕ) (s : EndpointState P) → o ≡ None → 2 ≤ s.context.options.max_burst → StateHolds avoids s.state s.context.options s.context.heartbeats
       → HasNoLine (reset_if o ids s)
   reset_sends None ids s e b h = sends_then s.state s.context (prepare_all ids s.context) (prepared_same ids s.context) b h
   reset_sends (Some fault) ids s e b h = absurd (cc)
 
 pub calls_leave_no_line : SendingCallsLeaveNoLine
-calls_leave_no_line s h b = record {
-  sent = λ ms o. sends_then s.state s.context (offer_all ms o (shown_state s.state) s.context) (offers_same ms o (shown_state s.state) s.context) b h;
-  reset = λ streams e. reset_sends (reset_refusal s.state) streams s e b h;
-}
+calls_leave_no_line s h two =
+    let b : Bool = s.context.options.avoid_stalls in
+    record {
+      sent = λ ms o. sends_then b s.state s.context (offer_all ms o (shown_state s.state) s.context) (offers_same b ms o (shown_state s.state) s.context) two h;
+      reset = λ streams e. reset_sends b (reset_refusal s.state) streams s e two h;
+    }

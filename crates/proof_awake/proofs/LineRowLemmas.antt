@@ -1,5 +1,5 @@
 -- Rows leave no stream in line where no item is kept: those that send, and those that change neither line nor items.
-use Rattle.std.proofs.Common.{ℕ, zero, suc, ◌≤◌, Bool, true, false, Option, List, [], ◌∷◌, length, arith}
+use Rattle.std.proofs.Common.{ℕ, zero, suc, ◌≤◌, Bool, true, false, Option, List, [], ◌∷◌, length, arith, None}
 use Rattle.std.specs.Prelude.{◌==◌, nat_lt, nat_le, is_some}
 use Rattle.sctp_packet.specs.Chunk.{ChunkTree, FragmentTree, SackTree, abort_chunk, shutdown_complete_chunk, cookie_echo_chunk}
 use Rattle.sctp_chunk.specs.declared.forward_tsn.SkippedStream.{SkippedStream}
@@ -7,18 +7,18 @@ use Rattle.sctp_chunk.specs.declared.sack.GapAckBlock.{GapAckBlock}
 use Rattle.sctp_wire.specs.Cause.{CauseTree}
 use Rattle.sctp_state.specs.Events.{Event, OnClosed}
 use Rattle.sctp_tracker.specs.DataTracker.{is_ack_due}
-use Rattle.sctp_tx_outstanding.specs.OutstandingData.{fast_items}
+use Rattle.sctp_tx_outstanding.specs.OutstandingData.{fast_items, number_of}
 use Rattle.sctp_tx_outstanding.specs.Forward.{is_forward_due}
 use Rattle.sctp_tx_outstanding.specs.Sack as sack
 use Rattle.sctp_tx_queue.specs.Resets.{streams_to_request, request_resets}
-use Rattle.sctp_tx.specs.RetransmissionQueue.{Sender, nothing_in_flight, sender_if, emitted_if, answer_if}
+use Rattle.sctp_tx.specs.RetransmissionQueue.{Sender, sender_if, emitted_if, answer_if, Valid}
 use Rattle.sctp_tx.specs.ForwardPoints.{forward_chunk}
 use Rattle.spec_endpoint.specs.Association.{Tcb, Phase, CookieEchoed, Established, ShutdownPending, ShutdownSent, ShutdownReceived, ShutdownAckSent, State, Closed, CookieWait, Open, Context, EndpointState, where_open}
 use Rattle.spec_endpoint.specs.Packets.{PacketDraft, round_down_to_4, fits, add, packet_to, new_packet, has_chunks, emit_if, emit, emit_chunk}
 use Rattle.spec_endpoint.specs.Sending.{Filling, take_due_ack, ack_if, has_data_to_send, with_ack, forward_added_if, forward_if, with_expired_abandoned, forward_if_time, with_forward, most_streams, request_of, request_if, filled_as, BurstStep, burst_step_if, next_packet, continue_burst, burst, AfterSending, is_before_cookie_ack, open_with, send_with, send_buffered, cookie_if, send_cookie, fast_packet, fast_if, send_lost}
-use Rattle.spec_endpoint.specs.Shutdown.{close_with, PhaseStep, pending_next, received_next, maybe_send_shutdown_or_ack, shutdown_in_phase, shutdown_in, shut_by_peer, on_shutdown, on_shutdown_ack_open, on_shutdown_ack_in, on_shutdown_complete, abort, close_in}
-use Rattle.spec_endpoint.specs.Data.{fragment_if, accepts_tsn, handle_forward_tsn_if, accepts_point, on_no_data, on_data_in, on_data_if, on_data, on_forward}
-use Rattle.spec_endpoint.specs.Sack.{clean_blocks, sample_rtt, clear_errors_if, send_after_sack, after_sack, on_sack_in}
+use Rattle.spec_endpoint.specs.Shutdown.{close_with, PhaseStep, pending_next, received_next, maybe_send_shutdown_or_ack, shutdown_in_phase, shutdown_in, shut_by_peer, on_shutdown, on_shutdown_ack_open, on_shutdown_ack_in, on_shutdown_complete, abort, close_in, is_quiet}
+use Rattle.spec_endpoint.specs.Data.{fragment_if, accepts_tsn, handle_forward_tsn_if, accepts_point, on_no_data, on_data_in, on_data_if, on_data, on_forward, has_room, told_of_drop}
+use Rattle.spec_endpoint.specs.Sack.{clean_blocks, sample_rtt, clear_errors_if, send_after_sack, after_sack, on_sack_in, is_late, sampled_unless}
 use Rattle.proof_awake.specs.Invariant.{BlockHolds, is_established, waits, WindowsHaveRoom}
 use Rattle.proof_awake.specs.Line.{StateHasNoLine}
 use Rattle.proof_awake.proofs.SenderLemmas.{sack_holds}
@@ -27,7 +27,7 @@ use Rattle.proof_awake.proofs.SendingRowLemmas.{lost_goes}
 use Rattle.proof_awake.proofs.RowLemmas.{Going, EndHolds, Steps, shutdown_goes_on}
 use Rattle.proof_awake.proofs.LineLemmas.{none_in_line}
 
-module _ {P : Type 0} where
+module _ {P : Type 0} (avoids : Bool) where
   -- bursts are of two packets or more
   abbrev pub Big : Context P → Type 0
   Big c = 2 ≤ c.options.max_burst
@@ -140,18 +140,18 @@ module _ {P : Type 0} where
       → EndLined (open_with phase (send_with (is_before_cookie_ack phase) p t c))
   sent_lined phase p t c b l w = (big_sent (is_before_cookie_ack phase) p t c b, no_line_by phase p t c b l w)
 
-  pub buffered_lined : (phase : Phase) (t : Tcb) (c : Context P) → Big c → Going phase t c → EndLined (open_with phase (send_buffered (is_before_cookie_ack phase) t c))
+  pub buffered_lined : (phase : Phase) (t : Tcb) (c : Context P) → Big c → Going avoids phase t c → EndLined (open_with phase (send_buffered (is_before_cookie_ack phase) t c))
   buffered_lined phase t c b h =
       let m = h.0.options.mtu_least in
       let l : 44 ≤ round_down_to_4 c.options.mtu = omega (arith, m) in
       sent_lined phase (new_packet c.options t) t c b l h.1.1.sender.windows
 
   pub open_lined : (row : Phase → Tcb → Context P → EndpointState P)
-      → ((phase : Phase) (t : Tcb) (c : Context P) → Going phase t c → Lined (Open phase t) c → EndLined (row phase t c))
-      → (s : EndpointState P) → EndHolds s → EndLined s → EndLined (where_open row s)
+      → ((phase : Phase) (t : Tcb) (c : Context P) → Going avoids phase t c → Lined (Open phase t) c → EndLined (row phase t c))
+      → (s : EndpointState P) → EndHolds avoids s → EndLined s → EndLined (where_open row s)
   open_lined row f s h l = by s.state s.context h l
     where
-      by : (st : State) (c : Context P) → EndHolds (record { state = st; context = c }) → Lined st c → EndLined (where_open row (record { state = st; context = c }))
+      by : (st : State) (c : Context P) → EndHolds avoids (record { state = st; context = c }) → Lined st c → EndLined (where_open row (record { state = st; context = c }))
       by Closed c h l = l
       by (CookieWait tag first t1) c h l = l
       by (Open phase t) c h l = f phase t c h l
@@ -181,14 +181,23 @@ module _ {P : Type 0} where
   big_goes_on : (phase : Phase) (t : Tcb) (c : Context P) → Big c → Big (maybe_send_shutdown_or_ack phase t c).context
   big_goes_on (CookieEchoed t1 cookie) t c b = b
   big_goes_on Established t c b = b
-  big_goes_on ShutdownPending t c b = (pending_lined (nothing_in_flight t.sender.outstanding.items) t c b).0
+  big_goes_on ShutdownPending t c b = (pending_lined (is_quiet t c) t c b).0
   big_goes_on (ShutdownSent t2) t c b = b
-  big_goes_on ShutdownReceived t c b = (received_lined (nothing_in_flight t.sender.outstanding.items) t c b).0
+  big_goes_on ShutdownReceived t c b = (received_lined (is_quiet t c) t c b).0
   big_goes_on (ShutdownAckSent t2) t c b = b
 
+  -- what waits has no line to keep
+  pub goes_on_lined : (phase : Phase) (t : Tcb) (c : Context P) → Lined (Open phase t) c → StepLined t (maybe_send_shutdown_or_ack phase t c)
+  goes_on_lined (CookieEchoed t1 cookie) t c l = l
+  goes_on_lined Established t c l = l
+  goes_on_lined ShutdownPending t c l = pending_lined (is_quiet t c) t c l.0
+  goes_on_lined (ShutdownSent t2) t c l = l
+  goes_on_lined ShutdownReceived t c l = received_lined (is_quiet t c) t c l.0
+  goes_on_lined (ShutdownAckSent t2) t c l = l
+
   shuts_lined : (phase : Phase) (t : Tcb) (c : Context P) → Lined (Open phase t) c → StepLined t (shutdown_in_phase phase t c)
-  shuts_lined (CookieEchoed t1 cookie) t c l = pending_lined (nothing_in_flight t.sender.outstanding.items) t c l.0
-  shuts_lined Established t c l = pending_lined (nothing_in_flight t.sender.outstanding.items) t c l.0
+  shuts_lined (CookieEchoed t1 cookie) t c l = pending_lined (is_quiet t c) t c l.0
+  shuts_lined Established t c l = pending_lined (is_quiet t c) t c l.0
   shuts_lined ShutdownPending t c l = l
   shuts_lined (ShutdownSent t2) t c l = l
   shuts_lined ShutdownReceived t c l = l
@@ -201,13 +210,13 @@ module _ {P : Type 0} where
 
   shut_lined : (phase : Phase) (t : Tcb) (c : Context P) → Lined (Open phase t) c → StepLined t (shut_by_peer phase t c)
   shut_lined (CookieEchoed t1 cookie) t c l = l
-  shut_lined Established t c l = received_lined (nothing_in_flight t.sender.outstanding.items) t c l.0
-  shut_lined ShutdownPending t c l = received_lined (nothing_in_flight t.sender.outstanding.items) t c l.0
+  shut_lined Established t c l = received_lined (is_quiet t c) t c l.0
+  shut_lined ShutdownPending t c l = received_lined (is_quiet t c) t c l.0
   shut_lined (ShutdownSent t2) t c l = (big_chunk _ t c l.0, tt)
   shut_lined ShutdownReceived t c l = l
   shut_lined (ShutdownAckSent t2) t c l = (big_chunk _ t c l.0, tt)
 
-  pub on_shutdown_lined : (phase : Phase) (t : Tcb) (c : Context P) → Going phase t c → Lined (Open phase t) c → EndLined (on_shutdown phase t c)
+  pub on_shutdown_lined : (phase : Phase) (t : Tcb) (c : Context P) → Going avoids phase t c → Lined (Open phase t) c → EndLined (on_shutdown phase t c)
   on_shutdown_lined phase t c h l = shut_lined phase t c l
 
   ack_open_lined : (tag : ℕ) (phase : Phase) (t : Tcb) (c : Context P) → Lined (Open phase t) c → EndLined (on_shutdown_ack_open tag phase t c)
@@ -223,7 +232,7 @@ module _ {P : Type 0} where
   on_shutdown_ack_lined tag (CookieWait my_tag first t1) c l = out_lined (add (shutdown_complete_chunk true) (packet_to tag c.options.mtu)) (CookieWait my_tag first t1) c l
   on_shutdown_ack_lined tag (Open phase t) c l = ack_open_lined tag phase t c l
 
-  pub on_complete_lined : (phase : Phase) (t : Tcb) (c : Context P) → Going phase t c → Lined (Open phase t) c → EndLined (on_shutdown_complete phase t c)
+  pub on_complete_lined : (phase : Phase) (t : Tcb) (c : Context P) → Going avoids phase t c → Lined (Open phase t) c → EndLined (on_shutdown_complete phase t c)
   on_complete_lined (CookieEchoed t1 cookie) t c h l = l
   on_complete_lined Established t c h l = l
   on_complete_lined ShutdownPending t c h l = l
@@ -242,10 +251,17 @@ module _ {P : Type 0} where
   taken_lined true phase tsn immediate f t c l = l
   taken_lined false phase tsn immediate f t c l = l
 
+  told_lined : (avoids room : Bool) (phase : Phase) (t : Tcb) (c : Context P) → Lined (Open phase t) c → Lined (Open phase (told_of_drop avoids room t)) c
+  told_lined true true phase t c l = l
+  told_lined true false phase t c l = l
+  told_lined false room phase t c l = l
+
   data_in_lined : (s : State) (tsn : ℕ) (immediate : Bool) (f : FragmentTree) (c : Context P) → Lined s c → EndLined (on_data_in s tsn immediate f c)
   data_in_lined Closed tsn immediate f c l = l
   data_in_lined (CookieWait tag first t1) tsn immediate f c l = l
-  data_in_lined (Open phase t) tsn immediate f c l = taken_lined (accepts_tsn tsn t) phase tsn immediate f t c l
+  data_in_lined (Open phase t) tsn immediate f c l =
+      let room : Bool = has_room c.options tsn t in
+      taken_lined (accepts_tsn c.options tsn t) phase tsn immediate f (told_of_drop c.options.avoid_stalls room t) c (told_lined c.options.avoid_stalls room phase t c l)
 
   no_data_lined : (tsn : ℕ) (s : State) (c : Context P) → Lined s c → Lined s (on_no_data tsn s c)
   no_data_lined tsn Closed c l = l
@@ -273,26 +289,32 @@ module _ {P : Type 0} where
 
   -- ---- SACK
 
-  after_lined : (t : Tcb) (o : PhaseStep P) → Steps t o → Big o.context → EndLined (send_after_sack t o)
+  after_lined : (t : Tcb) (o : PhaseStep P) → Steps avoids t o → Big o.context → EndLined (send_after_sack t o)
   after_lined t o h b =
       let x : AfterSending P = send_lost t o.context in
-      let k = lost_goes (is_established o.phase) (waits o.phase) t o.context (h.0, h.1.1) in
+      let k = lost_goes avoids (is_established o.phase) (waits avoids o.phase) t o.context (h.0, h.1.1) in
       buffered_lined o.phase x.tcb x.context (big_fast (nat_lt 0 (fast_items t.sender.outstanding.items)) t o.context b) (k.0, (h.1.0, k.1))
 
-  clean_lined : (valid : Bool) (n a_rwnd : ℕ) (blocks : List GapAckBlock) (phase : Phase) (t : Tcb) (c : Context P) → Going phase t c → Lined (Open phase t) c → EndLined (after_sack
-      (answer_if valid c.now n blocks t.sender) phase (record t { sender = sender_if valid c.now n a_rwnd blocks t.sender c.emitted }) (record c { emitted = emitted_if valid n blocks t.sender c.emitted }))
-  clean_lined true n a_rwnd blocks phase t c h l =
+  answered_lined : (rtt : Option ℕ) (n a_rwnd : ℕ) (blocks : List GapAckBlock) (phase : Phase) (t : Tcb) (c : Context P) → Going avoids phase t c → Lined (Open phase t) c → EndLined (after_sack
+      (Valid rtt (nat_lt 0 (sack.acked_bytes n blocks t.sender.outstanding.items))) phase (record t { sender = sender_if true c.now n a_rwnd blocks t.sender c.emitted })
+      (record c { emitted = emitted_if true n blocks t.sender c.emitted }))
+  answered_lined rtt n a_rwnd blocks phase t c h l =
       let s : Sender = sender_if true c.now n a_rwnd blocks t.sender c.emitted in
       let u : Tcb = record t { sender = s } in
-      let rtt : Option ℕ = sack.sample c.now n t.sender.outstanding.items in
       let progress : Bool = nat_lt 0 (sack.acked_bytes n blocks t.sender.outstanding.items) in
       let d : Context P = clear_errors_if progress (record c { emitted = emitted_if true n blocks t.sender c.emitted }) in
-      let k : BlockHolds false u = with_sender (waits phase) false t s (sack_holds c.now n a_rwnd blocks t.sender c.emitted (waits phase) true h.1.1.sender) h.1.1 in
-      after_lined (sample_rtt rtt u) (maybe_send_shutdown_or_ack phase (sample_rtt rtt u) d) (shutdown_goes_on phase (sample_rtt rtt u) d h.0 h.1.0 (sampled_holds false rtt u k))
+      let k : BlockHolds false u = with_sender (waits avoids phase) false t s (sack_holds c.now n a_rwnd blocks t.sender c.emitted (waits avoids phase) true h.1.1.sender) h.1.1 in
+      after_lined (sample_rtt rtt u) (maybe_send_shutdown_or_ack phase (sample_rtt rtt u) d) (shutdown_goes_on avoids phase (sample_rtt rtt u) d h.0 h.1.0 (sampled_holds false rtt u k))
       (big_goes_on phase (sample_rtt rtt u) d l.0)
-  clean_lined false n a_rwnd blocks phase t c h l = l
 
-  pub on_sack_lined : (k : SackTree) (s : State) (c : Context P) → EndHolds (record { state = s; context = c }) → Lined s c → EndLined (on_sack_in s k c)
+  clean_lined : (late valid : Bool) (n a_rwnd : ℕ) (blocks : List GapAckBlock) (phase : Phase) (t : Tcb) (c : Context P) → Going avoids phase t c → Lined (Open phase t) c → EndLined (after_sack
+      (sampled_unless late (answer_if valid c.now n blocks t.sender)) phase (record t { sender = sender_if valid c.now n a_rwnd blocks t.sender c.emitted }) (record c { emitted = emitted_if valid n blocks t.sender c.emitted }))
+  clean_lined true true n a_rwnd blocks phase t c h l = answered_lined None n a_rwnd blocks phase t c h l
+  clean_lined false true n a_rwnd blocks phase t c h l = answered_lined (sack.sample c.now n t.sender.outstanding.items) n a_rwnd blocks phase t c h l
+  clean_lined true false n a_rwnd blocks phase t c h l = l
+  clean_lined false false n a_rwnd blocks phase t c h l = l
+
+  pub on_sack_lined : (k : SackTree) (s : State) (c : Context P) → EndHolds avoids (record { state = s; context = c }) → Lined s c → EndLined (on_sack_in s k c)
   on_sack_lined k Closed c h l = l
   on_sack_lined k (CookieWait tag first t1) c h l = l
-  on_sack_lined k (Open phase t) c h l = clean_lined (sack.is_valid _ (clean_blocks k.gap_ack_blocks) t.sender.outstanding.items) _ k.a_rwnd (clean_blocks k.gap_ack_blocks) phase t c h l
+  on_sack_lined k (Open phase t) c h l = clean_lined (is_late c.options (number_of t.sender.outstanding k.cumulative_tsn_ack) t.sender.outstanding.items) (sack.is_valid _ (clean_blocks k.gap_ack_blocks) t.sender.outstanding.items) _ k.a_rwnd (clean_blocks k.gap_ack_blocks) phase t c h l

@@ -19,26 +19,26 @@ use Rattle.proof_awake.proofs.BlockLemmas.{new_block}
 use Rattle.proof_awake.proofs.SendingRowLemmas.{quieter, interval_started, Beside, goes_out, Holds, Left, sends_with, sends_buffered, cookie_goes}
 use Rattle.proof_awake.proofs.RowLemmas.{Going, EndHolds, closes}
 
-module _ {P : Type 0} where
+module _ {P : Type 0} (avoids : Bool) where
   abbrev pub Whole : Endpoint P → Type 0
-  Whole s = EndHolds s.endpoint_state
+  Whole s = EndHolds avoids s.endpoint_state
 
   -- ---- INIT
 
-  connects : (tag first : ℕ) (c : Context P) → Beside false c → EndHolds (waiting tag first c)
+  connects : (tag first : ℕ) (c : Context P) → Beside avoids false c → EndHolds avoids (waiting tag first c)
   connects tag first c h =
-      (goes_out false _ c h, started c.now (timer c.options.t1_init_timeout Exponential c.options.max_init_retransmits None) h.options.t1_init)
+      (goes_out avoids false _ c h, started c.now (timer c.options.t1_init_timeout Exponential c.options.max_init_retransmits None) h.options.t1_init)
 
-  pub connect_holds : (st : State) (s : Endpoint P) → StateHolds st s.endpoint_state.context.options s.endpoint_state.context.heartbeats → Whole s → Whole (connect_in st s)
+  pub connect_holds : (st : State) (s : Endpoint P) → StateHolds avoids st s.endpoint_state.context.options s.endpoint_state.context.heartbeats → Whole s → Whole (connect_in st s)
   connect_holds Closed s h k = connects _ _ s.endpoint_state.context h
   connect_holds (CookieWait tag first t1) s h k = k
   connect_holds (Open phase t) s h k = k
 
   -- what goes out leaves the state
-  says : (p : PacketDraft) (s : State) (c : Context P) → StateHolds s c.options c.heartbeats → StateHolds s (emit p c).options (emit p c).heartbeats
-  says p Closed c h = goes_out false p c h
-  says p (CookieWait tag first t1) c h = (goes_out false p c h.0, h.1)
-  says p (Open phase t) c h = (goes_out (is_established phase) p c h.0, h.1)
+  says : (p : PacketDraft) (s : State) (c : Context P) → StateHolds avoids s c.options c.heartbeats → StateHolds avoids s (emit p c).options (emit p c).heartbeats
+  says p Closed c h = goes_out avoids false p c h
+  says p (CookieWait tag first t1) c h = (goes_out avoids false p c h.0, h.1)
+  says p (Open phase t) c h = (goes_out avoids (is_established phase) p c h.0, h.1)
 
   pub answers_hold : (i : InitTree) (tag first tie : ℕ) (s : Endpoint P) → Whole s → Whole (answers i tag first tie s)
   answers_hold i tag first tie s h = says _ s.endpoint_state.state s.endpoint_state.context h
@@ -58,32 +58,32 @@ module _ {P : Type 0} where
 
   -- ---- INIT ACK
 
-  echoes : (i : InitTree) (cookie : List ℕ) (me : Identity) (c : Context P) → Beside false c → EndHolds (echo i cookie me c)
+  echoes : (i : InitTree) (cookie : List ℕ) (me : Identity) (c : Context P) → Beside avoids false c → EndHolds avoids (echo i cookie me c)
   echoes i cookie me c h =
       let k = agreed_by c.options i in
       let d : Context P = record c { peer = maker cookie; queue = queue_anew k.message_interleaving c.queue } in
-      let x = cookie_goes false false cookie (tcb c.options me i.a_rwnd k) d (h, new_block c.options me i.a_rwnd k h.options) in
+      let x = cookie_goes avoids false false cookie (tcb c.options me i.a_rwnd k) d (h, new_block avoids c.options me i.a_rwnd k h.options) in
       (x.0, (started c.now (timer c.options.t1_cookie_timeout Exponential c.options.max_init_retransmits None) h.options.t1_cookie, x.1))
 
-  echoes_or_ends : (i : InitTree) (o : Option (List ℕ)) (tag first : ℕ) (s : Endpoint P) → Beside false s.endpoint_state.context → Whole (echo_or_abort i o tag first s)
+  echoes_or_ends : (i : InitTree) (o : Option (List ℕ)) (tag first : ℕ) (s : Endpoint P) → Beside avoids false s.endpoint_state.context → Whole (echo_or_abort i o tag first s)
   echoes_or_ends i None tag first s h =
       let p : PacketDraft = add (abort_chunk false (missing_mandatory_parameter (7 ∷ []) ∷ [])) (packet_to i.initiate_tag (round_down_to_4 s.endpoint_state.context.options.mtu)) in
-      closes false (OnAborted ProtocolViolation (codes "InitAck chunk doesn't contain a cookie")) (emit p s.endpoint_state.context) (goes_out false p s.endpoint_state.context h)
+      closes avoids false (OnAborted ProtocolViolation (codes "InitAck chunk doesn't contain a cookie")) (emit p s.endpoint_state.context) (goes_out avoids false p s.endpoint_state.context h)
   echoes_or_ends i (Some cookie) tag first s h = echoes i cookie _ s.endpoint_state.context h
 
-  pub init_ack_holds : (st : State) (i : InitTree) (s : Endpoint P) → StateHolds st s.endpoint_state.context.options s.endpoint_state.context.heartbeats → Whole s → Whole (on_init_ack_in st i s)
+  pub init_ack_holds : (st : State) (i : InitTree) (s : Endpoint P) → StateHolds avoids st s.endpoint_state.context.options s.endpoint_state.context.heartbeats → Whole s → Whole (on_init_ack_in st i s)
   init_ack_holds Closed i s h k = k
   init_ack_holds (CookieWait tag first t1) i s h k = echoes_or_ends i (cookie_in i.parameters) tag first s h.0
   init_ack_holds (Open phase t) i s h k = k
 
   -- ---- COOKIE ACK
 
-  pub enters : (b : Bool) (c : Context P) → Beside b c → Beside true (enter_connected c)
-  enters b c h = interval_started b true c.now c.options c.heartbeats h
+  pub enters : (b : Bool) (c : Context P) → Beside avoids b c → Beside avoids true (enter_connected c)
+  enters b c h = interval_started avoids b true c.now c.options c.heartbeats h
 
-  pub cookie_ack_holds : (phase : Phase) (t : Tcb) (c : Context P) → Going phase t c → EndHolds (on_cookie_ack phase t c)
+  pub cookie_ack_holds : (phase : Phase) (t : Tcb) (c : Context P) → Going avoids phase t c → EndHolds avoids (on_cookie_ack phase t c)
   cookie_ack_holds (CookieEchoed t1 cookie) t c h =
-      let x = sends_buffered true false false t (enter_connected c) (enters false c h.0, h.1.1) in
+      let x = sends_buffered avoids true false false t (enter_connected c) (enters false c h.0, h.1.1) in
       (x.0, (tt, x.1))
   cookie_ack_holds Established t c h = h
   cookie_ack_holds ShutdownPending t c h = h
@@ -93,38 +93,38 @@ module _ {P : Type 0} where
 
   -- ---- COOKIE ECHO
 
-  acked : (beats waiting : Bool) (tag : ℕ) (t : Tcb) (c : Context P) → Holds beats waiting t c → Left beats waiting (cookie_ack tag t c)
+  acked : (beats waiting : Bool) (tag : ℕ) (t : Tcb) (c : Context P) → Holds avoids beats waiting t c → Left avoids beats waiting (cookie_ack tag t c)
   acked beats waiting tag t c h =
-      sends_with beats waiting false (add cookie_ack_chunk (record (packet_to tag c.options.mtu) { is_summed = not (zero_checksum_enabled t.capabilities) })) t c h
+      sends_with avoids beats waiting false (add cookie_ack_chunk (record (packet_to tag c.options.mtu) { is_summed = not (zero_checksum_enabled t.capabilities) })) t c h
 
-  opens : (b resets : Bool) (k : Cookie) (tie : ℕ) (c : Context P) → Beside b c → EndHolds (anew resets k tie c)
+  opens : (b resets : Bool) (k : Cookie) (tie : ℕ) (c : Context P) → Beside avoids b c → EndHolds avoids (anew resets k tie c)
   opens b resets k tie c h =
       let d : Context P = record c { queue = queue_for resets (negotiate c.options k.peer_capabilities).message_interleaving c.queue } in
-      let n = new_block c.options (identity_of k tie) (min k.a_rwnd c.options.max_send_buffer_size) (negotiate c.options k.peer_capabilities) h.options in
+      let n = new_block avoids c.options (identity_of k tie) (min k.a_rwnd c.options.max_send_buffer_size) (negotiate c.options k.peer_capabilities) h.options in
       let x = acked true false k.peer_tag (tcb_by c.options k tie) (enter_connected d) (enters b d h, n) in
       (x.0, (tt, x.1))
 
-  pub beside_in : (s : State) (c : Context P) → StateHolds s c.options c.heartbeats → Beside false c
+  pub beside_in : (s : State) (c : Context P) → StateHolds avoids s c.options c.heartbeats → Beside avoids false c
   beside_in Closed c h = h
   beside_in (CookieWait tag first t1) c h = h.0
-  beside_in (Open phase t) c h = quieter (is_established phase) c.options c.heartbeats h.0
+  beside_in (Open phase t) c h = quieter avoids (is_established phase) c.options c.heartbeats h.0
 
-  maintains : (k : Cookie) (phase : Phase) (t : Tcb) (c : Context P) → Going phase t c → EndHolds (maintain_existing k phase t c)
+  maintains : (k : Cookie) (phase : Phase) (t : Tcb) (c : Context P) → Going avoids phase t c → EndHolds avoids (maintain_existing k phase t c)
   maintains k (CookieEchoed t1 cookie) t c h =
       let x = acked true false k.peer_tag t (enter_connected c) (enters false c h.0, h.1.1) in
       (x.0, (tt, x.1))
   maintains k Established t c h = let x = acked true false k.peer_tag t c (h.0, h.1.1) in (x.0, (tt, x.1))
-  maintains k ShutdownPending t c h = let x = acked false true k.peer_tag t c (h.0, h.1.1) in (x.0, (tt, x.1))
+  maintains k ShutdownPending t c h = let x = acked false (not avoids) k.peer_tag t c (h.0, h.1.1) in (x.0, (tt, x.1))
   maintains k (ShutdownSent t2) t c h = let x = acked false false k.peer_tag t c (h.0, h.1.1) in (x.0, (h.1.0, x.1))
-  maintains k ShutdownReceived t c h = let x = acked false true k.peer_tag t c (h.0, h.1.1) in (x.0, (tt, x.1))
+  maintains k ShutdownReceived t c h = let x = acked false (not avoids) k.peer_tag t c (h.0, h.1.1) in (x.0, (tt, x.1))
   maintains k (ShutdownAckSent t2) t c h = let x = acked false false k.peer_tag t c (h.0, h.1.1) in (x.0, (h.1.0, x.1))
 
-  maintains_in : (k : Cookie) (s : State) (c : Context P) → StateHolds s c.options c.heartbeats → EndHolds (maintain_existing_in k (record { state = s; context = c }))
+  maintains_in : (k : Cookie) (s : State) (c : Context P) → StateHolds avoids s c.options c.heartbeats → EndHolds avoids (maintain_existing_in k (record { state = s; context = c }))
   maintains_in k Closed c h = h
   maintains_in k (CookieWait tag first t1) c h = h
   maintains_in k (Open phase t) c h = maintains k phase t c h
 
-  restarts_hold : (phase : Phase) (t : Tcb) (k : Cookie) (s : Endpoint P) → Beside false s.endpoint_state.context → Whole s → Whole (restarts_in phase t k s)
+  restarts_hold : (phase : Phase) (t : Tcb) (k : Cookie) (s : Endpoint P) → Beside avoids false s.endpoint_state.context → Whole s → Whole (restarts_in phase t k s)
   restarts_hold (CookieEchoed t1 cookie) t k s b h = opens false true k _ (emit_event_in OnConnectionRestarted s.endpoint_state.context) b
   restarts_hold Established t k s b h = opens false true k _ (emit_event_in OnConnectionRestarted s.endpoint_state.context) b
   restarts_hold ShutdownPending t k s b h = opens false true k _ (emit_event_in OnConnectionRestarted s.endpoint_state.context) b
@@ -132,14 +132,14 @@ module _ {P : Type 0} where
   restarts_hold ShutdownReceived t k s b h = opens false true k _ (emit_event_in OnConnectionRestarted s.endpoint_state.context) b
   restarts_hold (ShutdownAckSent t2) t k s b h = says _ s.endpoint_state.state s.endpoint_state.context h
 
-  restart_by : (st : State) (k : Cookie) (s : Endpoint P) → Beside false s.endpoint_state.context → Whole s
+  restart_by : (st : State) (k : Cookie) (s : Endpoint P) → Beside avoids false s.endpoint_state.context → Whole s
       → Whole (elim st [ Closed ↦ s | CookieWait tag first t1 ↦ s | Open phase t ↦ restarts_in phase t k s ])
   restart_by Closed k s b h = h
   restart_by (CookieWait tag first t1) k s b h = h
   restart_by (Open phase t) k s b h = restarts_hold phase t k s b h
 
-  resolved : (r : CookieResolution) (k : Cookie) (s : Endpoint P) → Beside false s.endpoint_state.context → Whole s → Whole (on_resolution r k s)
-  resolved EstablishNew k s b h = opens false false k _ s.endpoint_state.context b
+  resolved : (r : CookieResolution) (k : Cookie) (s : Endpoint P) → Beside avoids false s.endpoint_state.context → Whole s → Whole (on_resolution r k s)
+  resolved EstablishNew k s b h = opens false s.endpoint_state.context.options.avoid_stalls k _ s.endpoint_state.context b
   resolved RestartDetected k s b h = restart_by s.endpoint_state.state k s b h
   resolved SimultaneousInit k s b h = opens false true k _ s.endpoint_state.context b
   resolved MaintainExisting k s b h = maintains_in k s.endpoint_state.state s.endpoint_state.context h

@@ -50,8 +50,8 @@ sack_room n a_rwnd moved is_lossy before acked payload exit w h =
     recovering_room (is_lossy && is_open n w) exit v (grown_room (moved && is_open n w) before acked u
     (record { some = h.some; most = h.most; whole = h.whole; least = h.least }))
 
-pub new_room : (o : Options) (a_rwnd : ℕ) → HasLimits o → WindowsHaveRoom (at_first o a_rwnd)
-new_room o a_rwnd h = record {
+pub new_room : (avoids : Bool) (o : Options) (a_rwnd : ℕ) → HasLimits avoids o → WindowsHaveRoom (at_first o a_rwnd)
+new_room avoids o a_rwnd h = record {
   some = h.mtu_least;
   most = h.mtu_most;
   whole = let a = mul-le-mul_right {m = 1} {n = o.cwnd_mtus_initial} o.mtu h.cwnd_initial in omega (arith, a);

@@ -93,7 +93,7 @@ none_taken (suc n) [] e = refl
 none_taken n (i ∷ is) e = absurd (cc)
 
 -- the cumulative TSN moved
-lasts_or_stops : (b : Bool) (now : ℕ) (t : Timer) → Lasts t → Lasts (restart_or_stop b now t)
+pub lasts_or_stops : (b : Bool) (now : ℕ) (t : Timer) → Lasts t → Lasts (restart_or_stop b now t)
 lasts_or_stops true now t l = lasts_stopped t l
 lasts_or_stops false now t l = lasts_started now t l
 
@@ -101,7 +101,7 @@ lasts_if : (moved : Bool) (s : Items) (now : ℕ) (t : Timer) → Lasts t → La
 lasts_if true s now t l = lasts_kept (nothing_in_flight s) now _ (lasts_or_stops (length s.kept == 0) now t l)
 lasts_if false s now t l = lasts_kept (nothing_in_flight s) now t l
 
-some_items : (is : List Item) → is_none is ≡ false → (length is == 0) ≡ false
+pub some_items : (is : List Item) → is_none is ≡ false → (length is == 0) ≡ false
 some_items [] e = absurd (cc)
 some_items (i ∷ is) e = positive (length is)
   where

@@ -26,19 +26,19 @@ use Rattle.proof_awake.proofs.BlockLemmas.{taken_holds, rto_least, request_start
 
 -- ---- what is held beside the control block
 
-pub quieter : (b : Bool) (o : Options) (h : Heartbeats) → ContextHolds b o h → ContextHolds false o h
-quieter b o h k = record { options = k.options; restarts = k.restarts; interval = tt }
+pub quieter : (avoids : Bool) (b : Bool) (o : Options) (h : Heartbeats) → ContextHolds avoids b o h → ContextHolds avoids false o h
+quieter avoids b o h k = record { options = k.options; restarts = k.restarts; interval = tt }
 
 beats_started : (b : Bool) (now : ℕ) (t : Timer) → Beats b (start now t)
 beats_started true now t = beats_on now t
 beats_started false now t = tt
 
-pub interval_started : (b d : Bool) (now : ℕ) (o : Options) (h : Heartbeats) → ContextHolds b o h → ContextHolds d o (restart_interval_if true now h)
-interval_started b d now o h k = record { options = k.options; restarts = k.restarts; interval = beats_started d now h.interval }
+pub interval_started : (avoids : Bool) (b d : Bool) (now : ℕ) (o : Options) (h : Heartbeats) → ContextHolds avoids b o h → ContextHolds avoids d o (restart_interval_if true now h)
+interval_started avoids b d now o h k = record { options = k.options; restarts = k.restarts; interval = beats_started d now h.interval }
 
-interval_if : (b sending : Bool) (now : ℕ) (o : Options) (h : Heartbeats) → ContextHolds b o h → ContextHolds b o (restart_interval_if sending now h)
-interval_if b true now o h k = interval_started b b now o h k
-interval_if b false now o h k = k
+interval_if : (avoids : Bool) (b sending : Bool) (now : ℕ) (o : Options) (h : Heartbeats) → ContextHolds avoids b o h → ContextHolds avoids b o (restart_interval_if sending now h)
+interval_if avoids b true now o h k = interval_started avoids b b now o h k
+interval_if avoids b false now o h k = k
 
 begins_request : (waits : Bool) (now id : ℕ) (ids : List ℕ) (t : Tcb) → BlockHolds waits t → BlockHolds waits (request_started now (id ∷ ids) t)
 begins_request waits now id ids t h =
@@ -47,9 +47,9 @@ begins_request waits now id ids t h =
     with_requests waits (record t { sender = s }) _ (request_starts now (rto t.rtt) (last_assigned s) (id ∷ ids) t.requests (omega (arith, l)) h.requests)
     (with_sender waits waits t s (record { lasts = h.sender.lasts; timed = h.sender.timed; some = h.sender.some; windows = h.sender.windows }) h)
 
-module _ {P : Type 0} where
+module _ {P : Type 0} (avoids : Bool) where
   abbrev pub Beside : Bool → Context P → Type 0
-  Beside b c = ContextHolds b c.options c.heartbeats
+  Beside b c = ContextHolds avoids b c.options c.heartbeats
 
   goes_out_if : (b some : Bool) (p : PacketDraft) (c : Context P) → Beside b c → Beside b (emit_if some p c)
   goes_out_if b true p c h = h
@@ -112,7 +112,7 @@ module _ {P : Type 0} where
     takes_data : (x : Filling P) → Fine x → Fine (with_data x)
     takes_data x h =
         let f : fragments.Filling P = send x.context.now (room x.packet) x.tcb.sender x.context.queue x.context.emitted in (
-          interval_if beats (not (length f.chunks == 0)) x.context.now x.context.options x.context.heartbeats h.0,
+          interval_if avoids beats (not (length f.chunks == 0)) x.context.now x.context.options x.context.heartbeats h.0,
           with_sender waits waits x.tcb f.sender (send_holds x.tcb.sender waits x.context.now (room x.packet) x.context.queue x.context.emitted h.1.sender) h.1,
         )
 

@@ -11,7 +11,7 @@ use Rattle.spec_world.specs.World.{Side, World, Action, CallOf, Give, GiveForeig
 use Rattle.proof_awake.specs.Awake.{is_restore}
 use Rattle.proof_awake.specs.Invariant.{IsTimed}
 use Rattle.proof_awake.specs.Worlds.{WorldsAreAwake}
-use Rattle.proof_awake.proofs.InputRowLemmas.{each_call}
+use Rattle.proof_awake.proofs.InputRowLemmas.{each_stays_timed}
 use Rattle.proof_awake.proofs.LawLemmas.{new_ends, awake}
 
 abbrev SideIsTimed : Side → Type 0
@@ -41,8 +41,8 @@ goes_on B first s w k h A = h A
 goes_on B first s w k h B = k
 
 takes : {word_of : List ℕ → ℕ} (bytes : List ℕ) (s t : Endpoint (List ℕ)) → Receives word_of bytes s t → IsTimed s.endpoint_state → IsTimed t.endpoint_state
-takes bytes s t (read p accepts is) h = subst (λ (u : Endpoint (List ℕ)). IsTimed u.endpoint_state) (sym is) (each_call (ReceivePacket p) s refl h)
-takes bytes s t (not_read fault is_fault refuses is) h = subst (λ (u : Endpoint (List ℕ)). IsTimed u.endpoint_state) (sym is) (each_call ReceiveNoPacket s refl h)
+takes bytes s t (read p accepts is) h = subst (λ (u : Endpoint (List ℕ)). IsTimed u.endpoint_state) (sym is) (each_stays_timed (ReceivePacket p) s refl h)
+takes bytes s t (not_read fault is_fault refuses is) h = subst (λ (u : Endpoint (List ℕ)). IsTimed u.endpoint_state) (sym is) (each_stays_timed ReceiveNoPacket s refl h)
 
 taken : (x : End) (first : Entry) (bytes : List ℕ) (old new : Side) (log longer : List Entry) → TakesBytes x first bytes old new log longer → SideIsTimed old → SideIsTimed new
 taken x first bytes old new log longer t h = subst SideIsTimed (sym t.side) (takes bytes old.socket t.after t.takes h)
@@ -60,12 +60,12 @@ both B w v k same h B = k
 happens : (action : Action) (w v : World) → Happens action w v → AreTimed w → AreTimed v
 happens (CallOf x call) w v e h =
     let s : Endpoint (List ℕ) = (side_of x w).socket in
-    subst AreTimed (sym e) (goes_on x (call_entry x call s) (after_call call s) w (each_call (table_call call) s (no_restore call) (h x)) h)
+    subst AreTimed (sym e) (goes_on x (call_entry x call s) (after_call call s) w (each_stays_timed (table_call call) s (no_restore call) (h x)) h)
 happens (Give packet x) w v g h = both x w v (taken x _ g.bytes (side_of x w) (side_of x v) w.log v.log g.takes_bytes (h x)) g.other_side h
 happens (GiveForeign x bytes) w v g h = both x w v (met x bytes (side_of x w) (side_of x v) w.log v.log g.comes (h x)) g.other_side h
 happens (AdvanceTime x now) w v e h =
     let s : Endpoint (List ℕ) = (side_of x w).socket in
-    subst AreTimed (sym e) (goes_on x (time_entry x now s) (after_time now s) w (each_call (Advance now) s refl (h x)) h)
+    subst AreTimed (sym e) (goes_on x (time_entry x now s) (after_time now s) w (each_stays_timed (Advance now) s refl (h x)) h)
 
 pub runs_timed : (actions : List Action) (w v : World) → Runs actions w v → AreTimed w → AreTimed v
 runs_timed [] w v e h = subst AreTimed (sym e) h

@@ -26,7 +26,7 @@ use Rattle.proof_awake.specs.Awake.{is_restore}
 use Rattle.proof_awake.specs.Line.{HasNoLine, chunk_asks_once, all_ask_once, call_asks_once, IsLined}
 use Rattle.proof_awake.specs.Asking.{event_asks_once}
 use Rattle.proof_awake.specs.Worlds.{WorldsHaveNoLine}
-use Rattle.proof_awake.proofs.InputRowLemmas.{each_call}
+use Rattle.proof_awake.proofs.InputRowLemmas.{each_stays_timed}
 use Rattle.proof_awake.proofs.LawLemmas.{new_ends}
 use Rattle.proof_awake.proofs.WorldLemmas.{no_restore}
 use Rattle.proof_awake.proofs.LineInputLemmas.{call_lined, refused_lined}
@@ -89,8 +89,8 @@ module _ (o : Options) (x : traces.Side) (h : SideAsks o x) where
 
   called_lined : (call : Call) → is_restore call ≡ false → call_asks_once call ≡ true → IsLined x.end.endpoint_state → IsLined (called call x.end).endpoint_state
   called_lined call r e l =
-      let k = call_lined call x.end r e l.timed (l.burst, l.line) in
-      record { timed = each_call call x.end r l.timed; burst = k.0; line = k.1 }
+      let k = call_lined x.end.endpoint_state.context.options.avoid_stalls call x.end r e l.timed (l.burst, l.line) in
+      record { timed = each_stays_timed call x.end r l.timed; burst = k.0; line = k.1 }
 
   given_asks : (q : Option Carried) (checksum : ℕ) → ((p : Carried) → q ≡ Some p → all_ask_once p.chunks ≡ true) → SideAsks o (give_carried q checksum x)
   given_asks None checksum f = h
@@ -101,8 +101,8 @@ module _ (o : Options) (x : traces.Side) (h : SideAsks o x) where
   refused_asks : (r : Option (List ℕ)) (p : PacketTree) → packet_refusal p.header.verification_tag p.chunks x.end.endpoint_state.state ≡ r → SideAsks o (foreign_if r p x)
   refused_asks None p is = h
   refused_asks (Some text) p is = goes_on (ReceivePacket p) x.got_init (λ l.
-      let k = refused_lined p text x.end is (l.burst, l.line) in
-      record { timed = each_call (ReceivePacket p) x.end refl l.timed; burst = k.0; line = k.1 })
+      let k = refused_lined x.end.endpoint_state.context.options.avoid_stalls p text x.end is (l.burst, l.line) in
+      record { timed = each_stays_timed (ReceivePacket p) x.end refl l.timed; burst = k.0; line = k.1 })
 
   turns : (t : EndAction) (y : traces.Side) → MayTurn t → list_all event_asks_once y.emitted ≡ true → SideAsks o (act t x y)
   turns (Calls call) y may asks = goes_on call x.got_init (called_lined call may.0 may.1)

@@ -44,22 +44,27 @@ pub record BlockIsAwake (t : Tcb) : Type 0 where
 abbrev pub BeatsOn : Timer → Type 0
 BeatsOn interval = ((interval.duration == 0) ≡ true) ⊎ Runs interval
 
--- The timer of a state (RFC 9260 sections 5.1, 8.3, 9.2); a shutdown that waits for items has one.
-abbrev pub PhaseIsAwake : Phase → List Item → Heartbeats → Type 0
-PhaseIsAwake (CookieEchoed t1 cookie) kept h = Runs t1
-PhaseIsAwake Established kept h = BeatsOn h.interval
-PhaseIsAwake ShutdownPending kept h = is_none kept ≡ false
-PhaseIsAwake (ShutdownSent t2) kept h = Runs t2
-PhaseIsAwake ShutdownReceived kept h = is_none kept ≡ false
-PhaseIsAwake (ShutdownAckSent t2) kept h = Runs t2
+-- a shutdown waits for items; with stalls avoided it may wait for the queue alone
+abbrev pub WaitsForItems : (avoids : Bool) → List Item → Type 0
+WaitsForItems true kept = Unit {0}
+WaitsForItems false kept = is_none kept ≡ false
 
-abbrev pub StateIsAwake : State → Heartbeats → Type 0
-StateIsAwake Closed h = Unit {0}
-StateIsAwake (CookieWait tag first t1) h = Runs t1
-StateIsAwake (Open phase t) h = PhaseIsAwake phase t.sender.outstanding.items.kept h × BlockIsAwake t
+-- The timer of a state (RFC 9260 sections 5.1, 8.3, 9.2); a shutdown that waits for items has one.
+abbrev pub PhaseIsAwake : (avoids : Bool) → Phase → List Item → Heartbeats → Type 0
+PhaseIsAwake avoids (CookieEchoed t1 cookie) kept h = Runs t1
+PhaseIsAwake avoids Established kept h = BeatsOn h.interval
+PhaseIsAwake avoids ShutdownPending kept h = WaitsForItems avoids kept
+PhaseIsAwake avoids (ShutdownSent t2) kept h = Runs t2
+PhaseIsAwake avoids ShutdownReceived kept h = WaitsForItems avoids kept
+PhaseIsAwake avoids (ShutdownAckSent t2) kept h = Runs t2
+
+abbrev pub StateIsAwake : (avoids : Bool) → State → Heartbeats → Type 0
+StateIsAwake avoids Closed h = Unit {0}
+StateIsAwake avoids (CookieWait tag first t1) h = Runs t1
+StateIsAwake avoids (Open phase t) h = PhaseIsAwake avoids phase t.sender.outstanding.items.kept h × BlockIsAwake t
 
 abbrev pub IsAwake : {P : Type 0} → EndpointState P → Type 0
-IsAwake s = StateIsAwake s.state s.context.heartbeats
+IsAwake s = StateIsAwake s.context.options.avoid_stalls s.state s.context.heartbeats
 
 -- ---- calls
 

@@ -1,5 +1,5 @@
 -- The invariant behind it: timers that run go on after an expiry, those that are started do run, and so each call leaves an end awake.
-use Rattle.std.specs.Prelude.{◌≡◌, ℕ, ◌≤◌, Bool, true, false, None, List}
+use Rattle.std.specs.Prelude.{◌≡◌, ℕ, ◌≤◌, not, Bool, true, false, None, List}
 use Rattle.sctp_state.specs.Options.{Options}
 use Rattle.sctp_state.specs.RetransmissionTimeout.{Rtt}
 use Rattle.sctp_state.specs.Timer.{Timer}
@@ -17,8 +17,8 @@ pub record Lasts (t : Timer) : Type 0 where
   pub restarts : t.restarts ≡ None
   pub duration : 1 ≤ t.duration
 
--- of the options: valid ones have it
-pub record HasLimits (o : Options) : Type 0 where
+-- of the options, with stalls avoided or not: valid ones have it
+pub record HasLimits (avoids : Bool) (o : Options) : Type 0 where
   pub rto_range : o.rto_min ≤ o.rto_max
   pub rto_min : 2 ≤ o.rto_min
   pub rto_initial : 2 ≤ o.rto_initial
@@ -29,6 +29,7 @@ pub record HasLimits (o : Options) : Type 0 where
   pub mtu_most : o.mtu ≤ 65535
   pub cwnd_initial : 1 ≤ o.cwnd_mtus_initial
   pub cwnd_min : 1 ≤ o.cwnd_mtus_min
+  pub stalls : o.avoid_stalls ≡ avoids
 
 -- ---- the parts of a control block
 
@@ -83,8 +84,8 @@ abbrev pub Beats : Bool → Timer → Type 0
 Beats true interval = BeatsOn interval
 Beats false interval = Unit {0}
 
-pub record ContextHolds (beats : Bool) (o : Options) (h : Heartbeats) : Type 0 where
-  pub options : HasLimits o
+pub record ContextHolds (avoids beats : Bool) (o : Options) (h : Heartbeats) : Type 0 where
+  pub options : HasLimits avoids o
   pub restarts : h.interval.restarts ≡ None
   pub interval : Beats beats h.interval
 
@@ -98,14 +99,14 @@ is_established (ShutdownSent t2) = false
 is_established ShutdownReceived = false
 is_established (ShutdownAckSent t2) = false
 
--- a shutdown that waits for items
-abbrev pub waits : Phase → Bool
-waits (CookieEchoed t1 cookie) = false
-waits Established = false
-waits ShutdownPending = true
-waits (ShutdownSent t2) = false
-waits ShutdownReceived = true
-waits (ShutdownAckSent t2) = false
+-- a shutdown that waits for items: with stalls avoided it may wait for the queue alone
+abbrev pub waits : (avoids : Bool) → Phase → Bool
+waits avoids (CookieEchoed t1 cookie) = false
+waits avoids Established = false
+waits avoids ShutdownPending = not avoids
+waits avoids (ShutdownSent t2) = false
+waits avoids ShutdownReceived = not avoids
+waits avoids (ShutdownAckSent t2) = false
 
 abbrev pub PhaseRuns : Phase → Type 0
 PhaseRuns (CookieEchoed t1 cookie) = Runs t1
@@ -115,13 +116,13 @@ PhaseRuns (ShutdownSent t2) = Runs t2
 PhaseRuns ShutdownReceived = Unit {0}
 PhaseRuns (ShutdownAckSent t2) = Runs t2
 
-abbrev pub OpenHolds : Phase → Tcb → Options → Heartbeats → Type 0
-OpenHolds phase t o h = ContextHolds (is_established phase) o h × (PhaseRuns phase × BlockHolds (waits phase) t)
+abbrev pub OpenHolds : (avoids : Bool) → Phase → Tcb → Options → Heartbeats → Type 0
+OpenHolds avoids phase t o h = ContextHolds avoids (is_established phase) o h × (PhaseRuns phase × BlockHolds (waits avoids phase) t)
 
-abbrev pub StateHolds : State → Options → Heartbeats → Type 0
-StateHolds Closed o h = ContextHolds false o h
-StateHolds (CookieWait tag first t1) o h = ContextHolds false o h × Runs t1
-StateHolds (Open phase t) o h = OpenHolds phase t o h
+abbrev pub StateHolds : (avoids : Bool) → State → Options → Heartbeats → Type 0
+StateHolds avoids Closed o h = ContextHolds avoids false o h
+StateHolds avoids (CookieWait tag first t1) o h = ContextHolds avoids false o h × Runs t1
+StateHolds avoids (Open phase t) o h = OpenHolds avoids phase t o h
 
 abbrev pub IsTimed : {P : Type 0} → EndpointState P → Type 0
-IsTimed s = StateHolds s.state s.context.options s.context.heartbeats
+IsTimed s = StateHolds s.context.options.avoid_stalls s.state s.context.options s.context.heartbeats

@@ -1,5 +1,5 @@
--- What is queued may wait for a reset of an association that is over: a closed end to which a cookie comes back keeps its queue, and with it
--- the streams that waited for an answer.
+-- What is queued may wait for a reset of an association that is over: unless stalls are avoided, a closed end to which a cookie comes back keeps
+-- its queue, and with it the streams that waited for an answer.
 use Rattle.std.specs.Prelude.{◌≡◌, ℕ, ◌-◌, true, false, None, List, [], ◌∷◌, ◌++◌, length}
 use Rattle.sctp_wire.specs.Parameter.{outgoing_reset_request, reset_response}
 use Rattle.sctp_packet.specs.Chunk.{re_config_chunk}

@@ -1,14 +1,18 @@
--- An end that takes up a record starts no timer. From when on its timers run again, whether they ran before or not.
+-- An end that takes up a record starts no timer, unless stalls are avoided. From when on its timers run again, whether they ran before or not.
 use Rattle.std.specs.Prelude.{◌≡◌, ℕ, ◌≤◌, ◌⊎◌, Bool, true, false, List, [], ◌∷◌}
 use Rattle.sctp_packet.specs.Chunk.{FragmentTree}
 use Rattle.sctp_chunk.specs.declared.sack.GapAckBlock.{GapAckBlock}
 use Rattle.sctp_state.specs.Events.{Emitted}
+use Rattle.sctp_state.specs.Handover.{HandoverState}
 use Rattle.sctp_tx.specs.RetransmissionQueue.{Sender, nothing_in_flight, handle_sack}
 use Rattle.sctp_tx.specs.Sending as fragments
 use Rattle.sctp_tx.specs.Sending.{send}
+use Rattle.spec_endpoint.specs.Association.{Endpoint}
+use Rattle.spec_endpoint.specs.Laws.{Restore, called}
 use Rattle.spec_endpoint.specs.Packets.{room}
 use Rattle.spec_endpoint.specs.Sending.{Filling, with_data}
 use Rattle.proof_awake.specs.Awake.{Runs, BeatsOn}
+use Rattle.proof_awake.specs.Invariant.{IsTimed}
 
 abbrev pub FlightIsTimed : Sender → Type 0
 FlightIsTimed s = (nothing_in_flight s.outstanding.items ≡ true) ⊎ Runs s.t3
@@ -34,3 +38,9 @@ abbrev pub EachSackStartsT3 : Type 0
 EachSackStartsT3 =
     (now cumulative a_rwnd : ℕ) (blocks : List GapAckBlock) (s : Sender) (emitted : Emitted (List ℕ)) → 1 ≤ s.t3.duration
     → FlightIsTimed (handle_sack now cumulative a_rwnd blocks s emitted)
+
+-- With stalls avoided its timers start as it is taken up, where its congestion window lets a packet go, as each end's does.
+abbrev pub EachRestoreKeepsTimed : Type 0
+EachRestoreKeepsTimed =
+    (h : HandoverState) (s : Endpoint (List ℕ)) → s.endpoint_state.context.options.avoid_stalls ≡ true → s.endpoint_state.context.options.mtu ≤ h.tx.cwnd → IsTimed s.endpoint_state
+    → IsTimed (called (Restore h) s).endpoint_state

@@ -8,7 +8,7 @@ use Rattle.spec_endpoint.specs.Association.{Endpoint}
 use Rattle.spec_endpoint.specs.Laws.{Call, Connect, Close, Shutdown, Send, SendMany, ResetStreams, TakeMessage, SetLowThreshold, SetPriority, SetMaxMessageSize, Advance, HandOver, Restore, ReceivePacket, ReceiveNoPacket, called}
 use Rattle.proof_endpoint.specs.Mapped.{Carried}
 use Rattle.proof_endpoint.specs.Acts.{EndWithPacket, calm, alone, among, PacketAct, before_packets, after_packets, OpeningAct, connects, adds_init, answers_new, answers_waiting, answers_echoed, answers_again, echoes, adds_cookie, establishes, opens, restarts, opens_again, maintains, adds_cookie_ack, before_opening, after_opening, ClosingAct, closes, shuts, shuts_on, before_closing, after_closing, DataAct, before_data, after_data, SackAct, before_sack, after_sack, SendingAct, before_sending, after_sending, TimeAct, before_time, after_time, CallAct, accepts, refuses, takes_message, sets_low_threshold, sets_priority, sets_max_message_size, before_call, after_call, ResetAct, prepares, defers, performs, processes, takes_response, adds_responses, before_reset, after_reset, HandoverAct, leaves, takes_up, before_handover, after_handover, InputAct, before_input, after_input, HasNoEnd, PreservesUntilEnd}
-use Rattle.proof_pair.proofs.UntilLemmas.{no_end, until_end}
+use Rattle.proof_pair.proofs.UntilLemmas.{no_end, no_end_over, until_end}
 use Rattle.proof_pair.proofs.JoinActsLemmas.{Setting, InvAt}
 use Rattle.proof_pair.proofs.JoinKeepsLemmas.{Rules, no_restart, no_again, same_verdict}
 use Rattle.proof_pair.proofs.JoinFrameLemmas.{joins}
@@ -107,7 +107,7 @@ module _ (g : Setting) (call : Call) (r : Rules g call) (other : is_other call �
       let a : OpeningAct Carried call = adds_cookie_ack tag back phase t m echoed late in let n = j.opening a none inv in (n, k.opening a tt inv n)
 
   frame_closing : (act : ClosingAct Carried call) → HasNoEnd (after_closing act) → Joined g R (before_closing act) (after_closing act)
-  frame_closing (closes e m there is) none inv = absurd (no_end m (after_closing {call = call} (closes e m there is)) e refl is none)
+  frame_closing (closes e m there is) none inv = absurd (no_end_over e m is none)
   frame_closing (shuts phase t m is early) none inv =
       let a : ClosingAct Carried call = shuts phase t m is early in let n = j.closing a none inv in (n, k.closing a tt inv n)
   frame_closing (shuts_on phase next t m late later) none inv =

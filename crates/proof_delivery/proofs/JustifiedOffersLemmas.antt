@@ -1,5 +1,5 @@
 -- What an end knows of its messages once it accepted more.
-use Rattle.std.proofs.Common.{◌≡◌, ℕ, ◌+◌, ◌^◌, ◌<◌, Option, Some, None, List, [], ◌∷◌, ◌++◌, length, map, slice_get, refl, sym, ap, subst, ◌∙◌, append_assoc, append-nil, arith}
+use Rattle.std.proofs.Common.{◌≡◌, ℕ, ◌+◌, ◌^◌, ◌<◌, Bool, Option, Some, None, List, [], ◌∷◌, ◌++◌, length, map, slice_get, refl, sym, ap, subst, ◌∙◌, append_assoc, append-nil, arith}
 use Rattle.std.specs.List.{AllByRecursion}
 use Rattle.std.proofs.lemmas.List.{length-append}
 use Rattle.sctp_serial.specs.Messages.{Message}
@@ -43,8 +43,8 @@ module _ (resets : List ℕ) (old more : List Acceptance) where
   stays_more : (i : Item) → Stays (Known old) i → Stays (Known all) i
   stays_more i k e = known_more i.fragment.stream_id i.number i.expires i.limit (k e)
 
-  pub justified_more : (now : ℕ) (g : GivenUp) → IsJustifiedAt old resets now g → IsJustifiedAt all resets now g
-  justified_more now g p = record { acceptance = p.acceptance; there = get_front old more g.number p.acceptance p.there; right = p.right }
+  pub justified_more : (avoids : Bool) (now : ℕ) (g : GivenUp) → IsJustifiedAt old avoids resets now g → IsJustifiedAt all avoids resets now g
+  justified_more avoids now g p = record { acceptance = p.acceptance; there = get_front old more g.number p.acceptance p.there; right = p.right }
 
   holds_more : (q : Queue) → Holds (Known old) (length old) q → Holds (Known all) (length old) q
   holds_more q h = record { stand = all_weaker (Stands (Known old)) (Stands (Known all)) stands_more q.streams.entries h.stand; counts = h.counts }
@@ -55,7 +55,7 @@ fits : (n : ℕ) → n + 1 < 2 ^ 32 → next_number n ≡ n + 1
 fits n h = omega (arith, h)
 
 abbrev pub SoundIn : List Acceptance → (resets : List ℕ) → List Item → Context Carried → Type 0
-SoundIn all resets kept c = Sound all resets kept c.now c.queue c.emitted.given_up
+SoundIn all resets kept c = Sound all c.options.avoid_stalls resets kept c.now c.queue c.emitted.given_up
 
 module _ (resets : List ℕ) (old : List Acceptance) (kept : List Item) (m : Message) (o : SendOptions) (c : Context Carried) where
   abbrev new : Acceptance
@@ -76,7 +76,7 @@ module _ (resets : List ℕ) (old : List Acceptance) (kept : List Item) (m : Mes
             (holds_added (Known with_new) m.stream (length old) (queue_entry c.queue.next_number c.now m o) c.queue (is_known h.holds.counts)
             (holds_more resets old (new ∷ []) c.queue h.holds));
         stay = all_weaker (Stays (Known old)) (Stays (Known with_new)) (stays_more resets old (new ∷ [])) kept h.stay;
-        justified = all_weaker (IsJustifiedAt old resets c.now) (IsJustifiedAt with_new resets c.now) (justified_more resets old (new ∷ []) c.now) c.emitted.given_up h.justified;
+        justified = all_weaker (IsJustifiedAt old c.options.avoid_stalls resets c.now) (IsJustifiedAt with_new c.options.avoid_stalls resets c.now) (justified_more resets old (new ∷ []) c.options.avoid_stalls c.now) c.emitted.given_up h.justified;
       }
 
 -- ---- messages are offered

@@ -97,7 +97,7 @@ module _ (Known : ℕ → ℕ → Option ℕ → ℕ → Type 0) where
       go None k = tt
       go (Some s) k = k
 
-  put_stands : (id : ℕ) (s : Stream) (ss : Streams) → AllWait id s.messages → AllStand ss.entries → AllStand (put_stream id s ss).entries
+  pub put_stands : (id : ℕ) (s : Stream) (ss : Streams) → AllWait id s.messages → AllStand ss.entries → AllStand (put_stream id s ss).entries
   put_stands id s ss f h = set_stands id s ss.entries f h
 
   opened_stands : (id : ℕ) (ss : Streams) → AllStand ss.entries → AllStand (with_stream id ss).entries

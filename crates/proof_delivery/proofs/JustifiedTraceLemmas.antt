@@ -25,7 +25,7 @@ use Rattle.proof_endpoint.proofs.ActsLemmas.{keeps_call}
 use Rattle.proof_endpoint.proofs.LivesLemmas.{offers, not_offered}
 use Rattle.proof_endpoint.specs.Lifecycles.{is_restore}
 use Rattle.proof_delivery.specs.Accepted.{AcceptedMessage, accepted_by, accepted_in, accepted_at, accepted}
-use Rattle.proof_delivery.specs.Justified.{clock, Acceptance, accepted_then, acceptances, records_of, records_given, records_foreign, records_by, records_at, reset_unless, reset_by, reset_at, dated_record, dated_records, IsJustified, restores, RestoresNone, RecordsAreJustified, AcceptancesAreAccepted}
+use Rattle.proof_delivery.specs.Justified.{clock, Acceptance, accepted_then, acceptances, records_of, records_given, records_foreign, records_by, records_at, reset_unless, reset_by, reset_at, avoids_stalls, dated_record, dated_records, IsJustified, restores, RestoresNone, RecordsAreJustified, AcceptancesAreAccepted}
 use Rattle.proof_delivery.specs.GivenUp.{kept_in}
 use Rattle.proof_delivery.proofs.JustifiedQueueLemmas.{all_behind}
 use Rattle.proof_delivery.proofs.JustifiedActsLemmas.{IsJustifiedAt, SoundAt, stays_sound}
@@ -119,7 +119,7 @@ module _ (old : List Acceptance) (x : Side) where
 -- after one that resets these streams, with its records
 pub record Actions (all : List Acceptance) (resets : List ℕ) (x : Side) (records : List GivenUp) : Type 0 where
   pub rests : Rests all x
-  pub justified : AllByRecursion (IsJustifiedAt all resets (clock x)) records
+  pub justified : AllByRecursion (IsJustifiedAt all (avoids_stalls x) resets (clock x)) records
 
 actions_took : (all : List Acceptance) (resets : List ℕ) (e : Endpoint Carried) (x : Side) → SoundAt all resets (calm e) → Actions all resets (drain e x) (records_of e)
 actions_took all resets e x h = record { rests = λ later. record { holds = h.holds; stay = h.stay; justified = tt }; justified = h.justified }
@@ -164,10 +164,10 @@ goes_on old true false t w none few h = no_more old w.a [] (actions_none old [] 
 goes_on old false true t w none few h = no_more old w.b [] (actions_none old [] w.b h)
 
 -- records of an action, where more messages are accepted later
-all_then : (all more : List Acceptance) (resets : List ℕ) (now : ℕ) (gs : List GivenUp) → AllByRecursion (IsJustifiedAt all resets now) gs
-    → AllByRecursion (IsJustified (all ++ more)) (map (dated_record now resets) gs)
-all_then all more resets now [] h = tt
-all_then all more resets now (g ∷ gs) h = (justified_more resets all more now g h.0, all_then all more resets now gs h.1)
+all_then : (all more : List Acceptance) (avoids : Bool) (resets : List ℕ) (now : ℕ) (gs : List GivenUp) → AllByRecursion (IsJustifiedAt all avoids resets now) gs
+    → AllByRecursion (IsJustified (all ++ more)) (map (dated_record avoids now resets) gs)
+all_then all more avoids resets now [] h = tt
+all_then all more avoids resets now (g ∷ gs) h = (justified_more resets all more avoids now g h.0, all_then all more avoids resets now gs h.1)
 
 run_justified : (x : Bool) (es : List (Bool × EndAction)) (old : List Acceptance) (w : Pair) → RestoresNone es → length (old ++ acceptances x es w) < 2 ^ 32
     → Rests old (side_of x w) → AllByRecursion (IsJustified (old ++ acceptances x es w)) (dated_records x es w)
@@ -179,11 +179,12 @@ run_justified x (e ∷ es) old w none few h =
     let more : List Acceptance = acceptances x es v in
     let joins : all ++ more ≡ old ++ (accepted_now x e.0 e.1 w ++ more) = append_assoc old (accepted_now x e.0 e.1 w) more in
     let short : length (all ++ more) < 2 ^ 32 = subst (λ (xs : List Acceptance). length xs < 2 ^ 32) (sym joins) few in
+    let avoids : Bool = avoids_stalls (side_of x v) in
     let now : ℕ = clock (side_of x v) in
     let resets : List ℕ = reset_at x e.0 e.1 w in
     let t : Actions all resets (side_of x v) (records_at x e.0 e.1 w) = goes_on old x e.0 e.1 w ((or_parts (restores e.1) later none).0) (shorter all more short) h in
     subst (λ (xs : List Acceptance). AllByRecursion (IsJustified xs) (dated_records x (e ∷ es) w)) joins
-    (all_behind (IsJustified (all ++ more)) (map (dated_record now resets) (records_at x e.0 e.1 w)) (dated_records x es v) (all_then all more resets now (records_at x e.0 e.1 w) t.justified)
+    (all_behind (IsJustified (all ++ more)) (map (dated_record avoids now resets) (records_at x e.0 e.1 w)) (dated_records x es v) (all_then all more avoids resets now (records_at x e.0 e.1 w) t.justified)
     (run_justified x es all v ((or_parts (restores e.1) later none).1) short t.rests))
 
 -- ---- the laws

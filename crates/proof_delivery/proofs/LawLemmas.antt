@@ -111,7 +111,7 @@ all_parts message lifecycle is_interleaved = record {
   sender_keeps = λ g call from p. sender_keeps message lifecycle is_interleaved from g call p;
   receiver_keeps = λ g call from handed p. receiver_keeps message lifecycle is_interleaved g call from p handed;
   taken_out = sends_taken message lifecycle is_interleaved;
-  taken_in_turn = λ s handed x h. receives_in_taken message is_interleaved x s handed h;
+  taken_in_turn = λ o s handed x h. receives_in_taken message is_interleaved x o s handed h;
   offered_out = λ g call x s. offered_out message lifecycle is_interleaved g x s (stays message lifecycle is_interleaved) (λ from p. sender_keeps message lifecycle is_interleaved from g ReceiveNoPacket p) call;
   offered_in = λ g call x s handed. offered_in message lifecycle is_interleaved g x s handed (λ p. receiver_keeps message lifecycle is_interleaved g ReceiveNoPacket x p handed) call;
 }

@@ -42,6 +42,7 @@ pub mod LeavesLemmas
 pub mod BesideLemmas
 pub mod LawLemmas
 pub mod JustifiedQueueLemmas
+pub mod JustifiedEmptiedLemmas
 pub mod JustifiedItemLemmas
 pub mod JustifiedActsLemmas
 pub mod JustifiedOffersLemmas

@@ -12,7 +12,7 @@ use Rattle.sctp_state.specs.declared.api.errors.ResetStreamsError.{ResetStreamsE
 use Rattle.sctp_state.specs.Events.{Event, Emitted, OnError}
 use Rattle.proof_protocol.specs.State.{Message, count}
 use Rattle.spec_endpoint.specs.Association.{Endpoint}
-use Rattle.spec_endpoint.specs.Calls.{ready_in, without_first_message_in}
+use Rattle.spec_endpoint.specs.Calls.{ready_in, message_taken_in}
 use Rattle.spec_endpoint.specs.Opening.{emit_parse_error}
 use Rattle.spec_endpoint.specs.StreamReset.{reset_refusal}
 use Rattle.spec_endpoint.specs.Input.{packet_refusal, count_packet_at, packet_if}
@@ -127,11 +127,11 @@ module _ (message : ℕ → Message) (lifecycle : ℕ → Option ℕ) (is_interl
     made = subst (λ (cs : List ChunkTree). All (SaysIn (first_in m.state) (transfer_of x).acknowledged (count (transfer_of x).sender) x) cs) (sym made) (All-nil _);
   }
 
-  taken_action : Stands (state_of r) (without_first_message_in (state_of r)) → In (act (Calls TakeMessage) r s) (take 1 (ready_in (state_of r)))
+  taken_action : Stands (state_of r) (message_taken_in r.end.endpoint_state.context.options (state_of r)) → In (act (Calls TakeMessage) r s) (take 1 (ready_in (state_of r)))
   taken_action stands =
       let out : List messages.Message = take 1 (ready_in (state_of r)) in
       claim_in r.got_init out (called TakeMessage r.end) x
-      (quietly_in out (calm (called TakeMessage r.end)) (parts.taken_in_turn (state_of r) handed x f.refines) (ap (λ (t : Emitted Carried). packets_in t.events) quiet_r.emitted)
+      (quietly_in out (calm (called TakeMessage r.end)) (parts.taken_in_turn r.end.endpoint_state.context.options (state_of r) handed x f.refines) (ap (λ (t : Emitted Carried). packets_in t.events) quiet_r.emitted)
       (ap (λ (t : Emitted Carried). resets_in t.events) quiet_r.emitted) refl) stands
 
   refused_in : (p : PacketTree) (text : List ℕ) → called (ReceivePacket p) r.end ≡ emit_parse_error text (count_packet_at r.end) → In (after_action r.got_init (called (ReceivePacket p) r.end) r) []

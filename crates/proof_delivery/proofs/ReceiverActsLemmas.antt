@@ -1,6 +1,6 @@
 -- Acts that leave the rules of a receiver where they are, or make them go on: packets, what opens and shuts an association, and
 -- what the peer sends.
-use Rattle.std.proofs.Common.{◌≡◌, ℕ, ◌++◌, not, Bool, true, false, inl, inr, Option, List, [], ◌∷◌, All, refl, sym, ap, ◌∙◌, subst, arith, append-nil}
+use Rattle.std.proofs.Common.{◌≡◌, ℕ, ◌++◌, Bool, true, false, inl, inr, Option, List, [], ◌∷◌, All, refl, sym, ap, ◌∙◌, subst, arith, append-nil}
 use Rattle.std.proofs.lemmas.Bool.{and_parts, true≢false}
 use Rattle.sctp_serial.specs.Messages as messages
 use Rattle.sctp_serial.specs.Unwrapped.{origin}
@@ -20,7 +20,7 @@ use Rattle.proof_rx_refines.specs.Refinement.{ReceiverRefines}
 use Rattle.proof_rx_refines.specs.Near.{AreFew}
 use Rattle.proof_rx_refines.specs.Resets.{base_now}
 use Rattle.spec_endpoint.specs.Association.{Identity, Tcb, most_fragments, tcb, Phase, CookieEchoed, ShutdownPending, State, Closed, CookieWait, Open}
-use Rattle.spec_endpoint.specs.Data.{is_full, accepts_tsn, take_fragment, handle_forward_tsn}
+use Rattle.spec_endpoint.specs.Data.{has_room, accepts_tsn, take_fragment, handle_forward_tsn}
 use Rattle.spec_endpoint.specs.Sending.{selective_ack, without_duplicates}
 use Rattle.spec_endpoint.specs.Laws.{Call}
 use Rattle.proof_endpoint.specs.Mapped.{Carried}
@@ -169,20 +169,20 @@ module _ (message : ℕ → Message) (lifecycle : ℕ → Option ℕ) (is_interl
     few : AreFew (transfer_of x).sender
     few = few_stay message lifecycle is_interleaved g call from p handed phase t m inv x claim.kept claim.shown same claim.stay.0
 
-    data_leads : (tag tsn : ℕ) (is_immediate : Bool) (f : FragmentTree) → BringsChunk call tag (data_chunk tsn is_immediate f) → accepts_tsn tsn t ≡ true
+    data_leads : (tag tsn : ℕ) (is_immediate : Bool) (f : FragmentTree) → BringsChunk call tag (data_chunk tsn is_immediate f) → accepts_tsn m.context.options tsn t ≡ true
         → Leads message is_interleaved handed x (take_fragment tsn is_immediate f t)
     data_leads tag tsn is_immediate f received may =
         let h = data_is_received message lifecycle is_interleaved g call from p handed phase t m inv x claim.kept claim.shown same claim.stay.0
         tag tsn is_immediate f received in
-        let valid = and_parts (not (is_full t.reassembly)) (is_valid t.tracker.tracker (tracker.number_of t.tracker tsn)) may in
+        let valid = and_parts (has_room m.context.options tsn t) (is_valid t.tracker.tracker (tracker.number_of t.tracker tsn)) may in
         taken_leads message is_interleaved handed x t claim.shown claim.kept windows few tsn is_immediate f h.1 valid.1
 
-    idata_leads : (tag tsn : ℕ) (is_immediate : Bool) (f : FragmentTree) → BringsChunk call tag (idata_chunk tsn is_immediate f) → accepts_tsn tsn t ≡ true
+    idata_leads : (tag tsn : ℕ) (is_immediate : Bool) (f : FragmentTree) → BringsChunk call tag (idata_chunk tsn is_immediate f) → accepts_tsn m.context.options tsn t ≡ true
         → Leads message is_interleaved handed x (take_fragment tsn is_immediate f t)
     idata_leads tag tsn is_immediate f received may =
         let h = idata_is_received message lifecycle is_interleaved g call from p handed phase t m inv x claim.kept claim.shown same claim.stay.0
         tag tsn is_immediate f received in
-        let valid = and_parts (not (is_full t.reassembly)) (is_valid t.tracker.tracker (tracker.number_of t.tracker tsn)) may in
+        let valid = and_parts (has_room m.context.options tsn t) (is_valid t.tracker.tracker (tracker.number_of t.tracker tsn)) may in
         taken_leads message is_interleaved handed x t claim.shown claim.kept windows few tsn is_immediate f h.1 valid.1
 
     point_leads : (tag tsn : ℕ) (skipped : List SkippedStream) → BringsChunk call tag (forward_tsn_chunk tsn skipped)

@@ -12,7 +12,7 @@ use Rattle.sctp_state.specs.RetransmissionTimeout.{rto}
 use Rattle.sctp_tx.specs.RetransmissionQueue.{Sender}
 use Rattle.sctp_tx.specs.ForwardPoints.{chunk_if, forward_chunk}
 use Rattle.sctp_tx.specs.Resent.{resent_fast}
-use Rattle.sctp_rx.specs.DataTracker.{update_rto, take_ack, packet_end, ack_timeout}
+use Rattle.sctp_rx.specs.DataTracker.{update_rto, take_ack, force_ack, packet_end, ack_timeout}
 use Rattle.proof_protocol.specs.State.{Message, count}
 use Rattle.proof_protocol.specs.Based.{EpochWindows}
 use Rattle.sctp_rx.specs.ReassemblyQueue.{defer}
@@ -24,7 +24,7 @@ use Rattle.spec_endpoint.specs.StreamReset.{is_ahead, on_outcome}
 use Rattle.spec_endpoint.specs.Sending.{is_small, data_chunk_of, data_chunks, fast_most}
 use Rattle.spec_endpoint.specs.Laws.{Call}
 use Rattle.proof_endpoint.specs.Mapped.{Carried}
-use Rattle.proof_endpoint.specs.Acts.{EndWithPacket, point_of, IsAsked, IsDue, AsksNoIncoming, Answers, in_open, in_state, with_packet, fragments_of, SackAct, takes_sack, samples, counts_errors, before_sack, after_sack, SendingAct, asks, adds_ack, expires, adds_forward, forwards_later, asks_no_reset, asks_reset, adds_request, sends, sends_fast, before_sending, after_sending, TimeAct, advances, delay_ends, times_out, beats, times_init, times_cookie, times_request, wakes_request, before_time, after_time, CallAct, accepts, refuses, takes_message, sets_low_threshold, sets_priority, sets_max_message_size, before_call, after_call, ResetAct, prepares, defers, performs, processes, takes_response, adds_responses, before_reset, after_reset, InputAct, ends_packet, before_input, after_input}
+use Rattle.proof_endpoint.specs.Acts.{EndWithPacket, point_of, IsAsked, IsDue, AsksNoIncoming, Answers, in_open, in_state, with_packet, fragments_of, SackAct, takes_sack, samples, counts_errors, before_sack, after_sack, SendingAct, asks, forces_ack, adds_ack, expires, adds_forward, forwards_later, asks_no_reset, asks_reset, adds_request, sends, sends_fast, before_sending, after_sending, TimeAct, advances, delay_ends, times_out, beats, times_init, times_cookie, times_request, times_items, wakes_request, before_time, after_time, CallAct, accepts, refuses, takes_message, sets_low_threshold, sets_priority, sets_max_message_size, before_call, after_call, ResetAct, prepares, defers, performs, processes, takes_response, adds_responses, before_reset, after_reset, InputAct, ends_packet, before_input, after_input}
 use Rattle.proof_pair.proofs.UntilLemmas.{sack_act_emits_no_packet_or_status, sending_act_emits_no_packet_or_status, time_act_emits_no_packet_or_status, call_act_emits_no_packet_or_status, reset_act_emits_no_packet_or_status}
 use Rattle.proof_pair.proofs.JoinActsLemmas.{Setting, InvAt}
 use Rattle.proof_endpoint.proofs.CallActsLemmas.{answers_leave}
@@ -33,7 +33,7 @@ use Rattle.proof_delivery.specs.StreamEpochs.{are_named, resets_emitted}
 use Rattle.proof_delivery.proofs.ClaimLemmas.{Direction, transfer_of, SaysIn, ReceiverClaim, ReceiverPremises, ReceiverGoes}
 use Rattle.proof_delivery.proofs.FrameLemmas.{IsSetting, IsReceivedReset, KeepsJoined}
 use Rattle.proof_delivery.proofs.ReadingDataLemmas.{RequestReceived, windows_stay, request_is_received, none_incoming, has_ask}
-use Rattle.proof_delivery.proofs.TrackerStaysLemmas.{tracker_timed, tracker_asked, tracker_ends_packet, tracker_waited}
+use Rattle.proof_delivery.proofs.TrackerStaysLemmas.{tracker_timed, tracker_asked, tracker_forced, tracker_ends_packet, tracker_waited}
 use Rattle.proof_delivery.proofs.ResetEventsLemmas.{resets_sack, resets_expired, resets_timed_out, resets_sent, resets_threshold, resets_refused}
 use Rattle.proof_delivery.proofs.SenderToolLemmas.{same_packets}
 use Rattle.proof_delivery.proofs.ReceiverToolLemmas.{SameSender, sender_stays}
@@ -106,6 +106,11 @@ module _ (message : ℕ → Message) (lifecycle : ℕ → Option ℕ) (is_interl
       goes_same message lifecycle is_interleaved from handed (in_open phase t m) (after_sending act)
       (λ x h. acknowledging_changes message is_interleaved handed t (take_ack also_if_delayed t.tracker.tracker) x refl
       (tracker_asked t.tracker.tracker h.is_tracker also_if_delayed) h) refl refl refl refl
+  goes_sending (forces_ack phase t m) inv =
+      let act : SendingAct Carried call = forces_ack phase t m in
+      goes_same message lifecycle is_interleaved from handed (in_open phase t m) (after_sending act)
+      (λ x h. acknowledging_changes message is_interleaved handed t (force_ack t.tracker.tracker) x refl
+      (tracker_forced t.tracker.tracker h.is_tracker) h) refl refl refl refl
   goes_sending (adds_ack phase t m) inv = goes_acknowledging message lifecycle is_interleaved g call from p handed phase t m inv
   goes_sending (expires phase t m) inv =
       let act : SendingAct Carried call = expires phase t m in
@@ -167,6 +172,9 @@ module _ (message : ℕ → Message) (lifecycle : ℕ → Option ℕ) (is_interl
   goes_time (times_request timer phase t m) =
       goes_same message lifecycle is_interleaved from handed (in_open phase t m) (after_time {call = call} (times_request timer phase t m))
       (λ x h. rest_changes message is_interleaved handed t t.sender t.rtt _ x refl refl h) refl refl refl refl
+  goes_time (times_items timer phase t m) =
+      goes_same message lifecycle is_interleaved from handed (in_open phase t m) (after_time {call = call} (times_items timer phase t m))
+      (λ x h. rest_changes message is_interleaved handed t _ t.rtt t.requests x refl refl h) refl refl refl refl
   goes_time (wakes_request phase t m) =
       goes_same message lifecycle is_interleaved from handed (in_open phase t m) (after_time {call = call} (wakes_request phase t m))
       (λ x h. rest_changes message is_interleaved handed t t.sender t.rtt _ x refl refl h) refl refl refl refl

@@ -6,7 +6,6 @@ use Rattle.sctp_serial.specs.Messages as messages
 use Rattle.sctp_serial.specs.Unwrapped.{origin}
 use Rattle.sctp_packet.specs.Chunk.{ChunkTree, sack_chunk, re_config_chunk}
 use Rattle.sctp_state.specs.RetransmissionTimeout.{Rtt}
-use Rattle.sctp_state.specs.Events as events
 use Rattle.sctp_state.specs.Events.{SendPacket}
 use Rattle.sctp_tx.specs.RetransmissionQueue.{Sender}
 use Rattle.sctp_rx.specs.Seen.{Seen, contains}

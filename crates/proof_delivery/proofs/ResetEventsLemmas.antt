@@ -5,7 +5,7 @@ use Rattle.std.specs.List.{list_all}
 use Rattle.sctp_chunk.specs.declared.sack.GapAckBlock.{GapAckBlock}
 use Rattle.sctp_state.specs.declared.api.errors.SendError.{SendError}
 use Rattle.sctp_state.specs.Events.{Event, OnStreamsResetFailed, OnStreamsResetPerformed, OnIncomingStreamReset, Emitted, emit_events}
-use Rattle.sctp_tx_queue.specs.SendQueue.{Queue, stream}
+use Rattle.sctp_tx_queue.specs.SendQueue.{Queue}
 use Rattle.sctp_tx_queue.specs.Settings.{set_low_threshold}
 use Rattle.sctp_tx_queue.specs.Resets.{prepare_reset}
 use Rattle.sctp_tx_outstanding.specs.OutstandingData.{Items}

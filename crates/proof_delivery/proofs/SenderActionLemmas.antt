@@ -19,7 +19,7 @@ use Rattle.proof_protocol.specs.Based.{InEpochs, Bracketed}
 use Rattle.proof_protocol.proofs.EpochLawsLemmas.{bracketed}
 use Rattle.proof_tx_refines.specs.Reachable.{recorded_places, delivered_ids}
 use Rattle.spec_endpoint.specs.Association.{State, Closed, CookieWait, Open, Context, Endpoint, where_open}
-use Rattle.spec_endpoint.specs.Calls.{ready_in, without_first_message_in, send_refusal_of, sent_if}
+use Rattle.spec_endpoint.specs.Calls.{ready_in, message_taken_in, send_refusal_of, sent_if}
 use Rattle.spec_endpoint.specs.Opening.{emit_parse_error}
 use Rattle.spec_endpoint.specs.Input.{packet_refusal, count_packet_at, packet_if}
 use Rattle.spec_endpoint.specs.Laws.{Call, Connect, Close, Shutdown, Send, SendMany, ResetStreams, TakeMessage, SetLowThreshold, SetPriority, SetMaxMessageSize, Advance, HandOver, Restore, ReceivePacket, ReceiveNoPacket, called, ending, endings, ends, endings_in_call}
@@ -79,9 +79,9 @@ pub record PreservedByActs (message : ℕ → Message) (lifecycle : ℕ → Opti
   pub receiver_keeps : (g : Setting) (call : Call) (from : Direction) (handed : List messages.Message) → ReceiverPremises message lifecycle is_interleaved g call from
       → KeepsJoined g call (ReceiverGoes message lifecycle is_interleaved from handed)
   -- a message is handed out
-  pub taken_out : (s : State) (q : Queue) (x : Direction) → SendsIn message lifecycle is_interleaved s q x → SendsIn message lifecycle is_interleaved (without_first_message_in s) q x
-  pub taken_in_turn : (s : State) (handed : List messages.Message) (x : Direction) → ReceivesIn message is_interleaved s handed x
-      → ReceivesIn message is_interleaved (without_first_message_in s) (handed ++ take 1 (ready_in s)) x
+  pub taken_out : (o : Options) (s : State) (q : Queue) (x : Direction) → SendsIn message lifecycle is_interleaved s q x → SendsIn message lifecycle is_interleaved (message_taken_in o s) q x
+  pub taken_in_turn : (o : Options) (s : State) (handed : List messages.Message) (x : Direction) → ReceivesIn message is_interleaved s handed x
+      → ReceivesIn message is_interleaved (message_taken_in o s) (handed ++ take 1 (ready_in s)) x
   -- messages are offered
   pub offered_out : (g : Setting) (call : Call) (x : Direction) (s : Side) → Rules g call → is_offer call ≡ true → SenderPremises message lifecycle is_interleaved g call x
       → AreOffered message lifecycle (transfer_of x).sender.accepted (accepted_by call s) → (transfer_of x).sender.accepted + length (accepted_by call s) < 2 ^ 32
@@ -190,10 +190,10 @@ sent_stays (Some e) Closed c = refl
 sent_stays (Some e) (CookieWait tag first t1) c = refl
 sent_stays (Some e) (Open phase t) c = refl
 
-taken_stays : (s : State) → ends s (without_first_message_in s) ≡ 0
-taken_stays Closed = refl
-taken_stays (CookieWait tag first t1) = refl
-taken_stays (Open phase t) = refl
+taken_stays : (o : Options) (s : State) → ends s (message_taken_in o s) ≡ 0
+taken_stays o Closed = refl
+taken_stays o (CookieWait tag first t1) = refl
+taken_stays o (Open phase t) = refl
 
 reset_stays : (o : Option ResetStreamsError) (ids : List ℕ) (s : State) (c : Context Carried) → ends s (reset_if o ids (record { state = s; context = c })).state ≡ 0
 reset_stays None ids s c = open_stays s _
@@ -320,10 +320,10 @@ module _ (message : ℕ → Message) (lifecycle : ℕ → Option ℕ) (is_interl
     made = subst (λ (cs : List ChunkTree). All (SaysOut message is_interleaved (first_out m.state) (transfer_of x).acknowledged (count (transfer_of x).sender) x) cs) (sym made) (All-nil _);
   }
 
-  taken_out : Stands (state_of s) (without_first_message_in (state_of s)) → Out (act (Calls TakeMessage) s r) [] (so_far_after_action (Calls TakeMessage) s r so_far) (given_up_by (Calls TakeMessage) s r)
+  taken_out : Stands (state_of s) (message_taken_in s.end.endpoint_state.context.options (state_of s)) → Out (act (Calls TakeMessage) s r) [] (so_far_after_action (Calls TakeMessage) s r so_far) (given_up_by (Calls TakeMessage) s r)
   taken_out stands =
       claim_out s.got_init [] (called TakeMessage s.end) x
-      (quietly_out (calm (called TakeMessage s.end)) (parts.taken_out (state_of s) (queue_of s) x f.sends) (ap (λ (t : Emitted Carried). recorded_places t) quiet_s.emitted)
+      (quietly_out (calm (called TakeMessage s.end)) (parts.taken_out s.end.endpoint_state.context.options (state_of s) (queue_of s) x f.sends) (ap (λ (t : Emitted Carried). recorded_places t) quiet_s.emitted)
       (ap (λ (t : Emitted Carried). delivered_ids t.events) quiet_s.emitted) (ap (λ (t : Emitted Carried). packets_in t.events) quiet_s.emitted)
       (ap (λ (t : Emitted Carried). resets_in t.events) quiet_s.emitted) refl) stands
 
@@ -543,7 +543,7 @@ module _ (message : ℕ → Message) (lifecycle : ℕ → Option ℕ) (is_interl
       by_turn (Calls (SendMany ms how)) may timely are few is =
           whole (Calls (SendMany ms how)) may timely are few is (none_emitted (SendMany ms how) s quiet_s (open_stays (state_of s) _))
       by_turn (Calls TakeMessage) may timely are few is =
-          whole (Calls TakeMessage) may timely are few is (none_emitted TakeMessage s quiet_s (taken_stays (state_of s)))
+          whole (Calls TakeMessage) may timely are few is (none_emitted TakeMessage s quiet_s (taken_stays s.end.endpoint_state.context.options (state_of s)))
       by_turn (Calls (ResetStreams ids)) may timely are few is =
           whole (Calls (ResetStreams ids)) may timely are few is (none_emitted (ResetStreams ids) s quiet_s (reset_stays (reset_refusal (state_of s)) ids (state_of s) _))
       by_turn (Calls (Restore k)) may timely are few is = absurd may

@@ -8,11 +8,11 @@ use Rattle.proof_protocol.specs.State.{Message, count}
 use Rattle.spec_endpoint.specs.Association.{CookieEchoed, CookieWait}
 use Rattle.spec_endpoint.specs.Sack.{timed_by}
 use Rattle.spec_endpoint.specs.ResetRequests.{clear_deferral}
-use Rattle.spec_endpoint.specs.Sending.{selective_ack, take_due_ack, without_duplicates}
+use Rattle.spec_endpoint.specs.Sending.{selective_ack, take_due_ack, force_ack, without_duplicates}
 use Rattle.spec_endpoint.specs.Laws.{Call}
 use Rattle.proof_endpoint.specs.Mapped.{Carried}
 use Rattle.sctp_rx.specs.DataTracker.{ack_timeout}
-use Rattle.proof_endpoint.specs.Acts.{EndWithPacket, in_open, in_state, with_chunk, with_context, SackAct, takes_sack, samples, counts_errors, before_sack, after_sack, SendingAct, asks, adds_ack, expires, adds_forward, forwards_later, asks_no_reset, asks_reset, adds_request, sends, sends_fast, before_sending, after_sending, TimeAct, advances, delay_ends, times_out, beats, times_init, times_cookie, times_request, wakes_request, before_time, after_time, ResetAct, prepares, defers, performs, processes, takes_response, adds_responses, before_reset, after_reset}
+use Rattle.proof_endpoint.specs.Acts.{EndWithPacket, in_open, in_state, with_chunk, with_context, SackAct, takes_sack, samples, counts_errors, before_sack, after_sack, SendingAct, asks, forces_ack, adds_ack, expires, adds_forward, forwards_later, asks_no_reset, asks_reset, adds_request, sends, sends_fast, before_sending, after_sending, TimeAct, advances, delay_ends, times_out, beats, times_init, times_cookie, times_request, times_items, wakes_request, before_time, after_time, ResetAct, prepares, defers, performs, processes, takes_response, adds_responses, before_reset, after_reset}
 use Rattle.proof_pair.proofs.JoinActsLemmas.{Setting, InvAt}
 use Rattle.proof_delivery.proofs.ClaimLemmas.{Direction, transfer_of, SendsIn, SenderGoes, SenderPremises}
 use Rattle.proof_delivery.proofs.FrameLemmas.{IsReceivedReset, KeepsJoined}
@@ -42,6 +42,7 @@ module _ (message : ℕ → Message) (lifecycle : ℕ → Option ℕ) (is_interl
     keeps_sending : (act : SendingAct Carried call) → InvAt g (before_sending act) → InvAt g (after_sending act)
         → SenderGoes message lifecycle is_interleaved from (before_sending act) (after_sending act)
     keeps_sending (asks also_if_delayed phase t m) inv later = goes_open message lifecycle is_interleaved from phase phase t (take_due_ack also_if_delayed t) m refl refl refl (λ x h. h)
+    keeps_sending (forces_ack phase t m) inv later = goes_open message lifecycle is_interleaved from phase phase t (force_ack t) m refl refl refl (λ x h. h)
     keeps_sending (adds_ack phase t m) inv later =
         goes_through message lifecycle is_interleaved from (in_open phase t m) (in_open phase (without_duplicates t) m) (with_chunk (selective_ack t) (in_open phase (without_duplicates t) m))
         (goes_open message lifecycle is_interleaved from phase phase t (without_duplicates t) m refl refl refl (λ x h. h))
@@ -70,6 +71,8 @@ module _ (message : ℕ → Message) (lifecycle : ℕ → Option ℕ) (is_interl
     keeps_time (times_request timer phase t m) inv later =
         goes_open message lifecycle is_interleaved from phase phase t (record t { requests = record t.requests { timer = timer } }) m refl refl refl
         (λ x h. asking_reads t.identity.my_first x.answered x.asks m.context.queue t.requests (record t.requests { timer = timer }) refl refl h)
+    keeps_time (times_items timer phase t m) inv later =
+        goes_open message lifecycle is_interleaved from phase phase t (record t { sender = record t.sender { t3 = timer } }) m refl refl refl (λ x h. h)
     keeps_time (wakes_request phase t m) inv later =
         goes_open message lifecycle is_interleaved from phase phase t (record t { requests = clear_deferral t.requests }) m refl refl refl
         (λ x h. asking_woken t.identity.my_first x.answered x.asks m.context.queue t.requests h)

@@ -15,7 +15,6 @@ use Rattle.sctp_tx_queue.specs.SendQueue.{Queue}
 use Rattle.sctp_tx_queue.specs.Settings.{set_mode}
 use Rattle.sctp_tx_queue.specs.Restarted.{reset}
 use Rattle.sctp_tx_outstanding.specs.OutstandingData.{no_items}
-use Rattle.proof_protocol.specs.State as rules
 use Rattle.proof_protocol.specs.State.{Message, ForwardPoint, IsAmong, count}
 use Rattle.proof_tx_refines.specs.Refinement.{SenderRefines}
 use Rattle.proof_tx_refines.specs.Following.{FollowsEpochs}
@@ -234,11 +233,11 @@ module _ (message : ℕ → Message) (lifecycle : ℕ → Option ℕ) (is_interl
         later.stands.draw.first
         (same_mode k later.stands.can) (λ x h. waiting_anew message lifecycle is_interleaved x m.context.queue h) refl refl refl refl refl
 
-    goes_opened : (c : Cookie) (m : EndWithPacket Carried) → is_opened m.state ≡ false → InvAt g m → InvAt g (opened_by false c m) → SenderGoes message lifecycle is_interleaved from m (opened_by false c m)
+    goes_opened : (c : Cookie) (m : EndWithPacket Carried) → is_opened m.state ≡ false → InvAt g m → InvAt g (opened_by m.context.options.avoid_stalls c m) → SenderGoes message lifecycle is_interleaved from m (opened_by m.context.options.avoid_stalls c m)
     goes_opened c m closed inv later =
         let k : Capabilities = negotiate m.context.options c.peer_capabilities in
-        let anew : Bool = false || other_mode k.message_interleaving m.context.queue.scheduler.is_interleaved in
-        goes_opening m (opened_by false c m) Established m.context.options (identity_of c (long_word (end_of m))) _ k (queue_if anew m.context.queue)
+        let anew : Bool = m.context.options.avoid_stalls || other_mode k.message_interleaving m.context.queue.scheduler.is_interleaved in
+        goes_opening m (opened_by m.context.options.avoid_stalls c m) Established m.context.options (identity_of c (long_word (end_of m))) _ k (queue_if anew m.context.queue)
         closed refl refl (least_mtu m.context.options inv.size inv.options) later.stands.draw.first (same_mode k later.stands.can)
         (λ x h. waiting_if message lifecycle is_interleaved anew x m.context.queue h) refl
         (emitted_connected m.context.emitted.events) (none_delivered m.context.emitted.events) (none_reset m.context.emitted.events) refl

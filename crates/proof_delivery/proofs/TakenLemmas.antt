@@ -1,26 +1,36 @@
 -- A message that is handed out leaves the sender's part as it is, and moves the receiver's.
-use Rattle.std.proofs.Common.{◌≡◌, ℕ, Bool, Option, List, [], ◌++◌, take, drop, sym, ap, subst, ◌∙◌, append-nil, append_assoc}
+use Rattle.std.proofs.Common.{◌≡◌, ℕ, Bool, true, false, Option, List, [], ◌++◌, take, drop, refl, sym, ap, subst, ◌∙◌, append-nil, append_assoc}
 use Rattle.std.proofs.lemmas.List.{take-append-drop}
 use Rattle.sctp_serial.specs.Messages as messages
 use Rattle.sctp_tx_queue.specs.SendQueue.{Queue}
-use Rattle.sctp_rx.specs.DataTracker.{Tracker}
+use Rattle.sctp_state.specs.Options.{Options}
+use Rattle.sctp_rx.specs.DataTracker.{Tracker, force_ack}
 use Rattle.sctp_rx.specs.ReassemblyQueue.{Reassembly}
 use Rattle.proof_protocol.specs.State.{Message, Transfer}
 use Rattle.proof_rx_refines.specs.View.{view_with, IsSeenAs}
 use Rattle.proof_rx_refines.specs.Refinement.{ReceiverRefines}
 use Rattle.proof_rx_refines.specs.Near.{ReadsNear}
 use Rattle.proof_rx_refines.specs.Resets.{base_now}
-use Rattle.spec_endpoint.specs.Association.{State, Closed, CookieWait, Open}
-use Rattle.spec_endpoint.specs.Calls.{ready_in, without_first_message_in}
+use Rattle.spec_endpoint.specs.Association.{Tcb, Phase, State, Closed, CookieWait, Open}
+use Rattle.spec_endpoint.specs.Calls.{ready_in, without_first_message, opens_window, told_if, message_taken_in}
+use Rattle.proof_delivery.proofs.TrackerStaysLemmas.{tracker_forced}
+use Rattle.proof_delivery.proofs.ReceiverStepLemmas.{acknowledging_changes}
 use Rattle.proof_delivery.proofs.ClaimLemmas.{Direction, transfer_of, SendsIn, IsFresh, ReceivesIn}
 
 -- ---- the sender's part
 
-pub sends_taken : (message : ℕ → Message) (lifecycle : ℕ → Option ℕ) (is_interleaved : Bool) (s : State) (q : Queue) (x : Direction) → SendsIn message lifecycle is_interleaved s q x
-    → SendsIn message lifecycle is_interleaved (without_first_message_in s) q x
-sends_taken message lifecycle is_interleaved Closed q x h = h
-sends_taken message lifecycle is_interleaved (CookieWait tag first t1) q x h = h
-sends_taken message lifecycle is_interleaved (Open phase t) q x h = record { refines = h.refines; follows = h.follows; first = h.first; room = h.room; asks = h.asks }
+-- whether an acknowledgement is due afterwards or not
+module _ (message : ℕ → Message) (lifecycle : ℕ → Option ℕ) (is_interleaved : Bool) where
+  sends_told : (b : Bool) (phase : Phase) (t : Tcb) (q : Queue) (x : Direction) → SendsIn message lifecycle is_interleaved (Open phase t) q x
+      → SendsIn message lifecycle is_interleaved (Open phase (told_if b (without_first_message t))) q x
+  sends_told true phase t q x h = record { refines = h.refines; follows = h.follows; first = h.first; room = h.room; asks = h.asks }
+  sends_told false phase t q x h = record { refines = h.refines; follows = h.follows; first = h.first; room = h.room; asks = h.asks }
+
+  pub sends_taken : (o : Options) (s : State) (q : Queue) (x : Direction) → SendsIn message lifecycle is_interleaved s q x
+      → SendsIn message lifecycle is_interleaved (message_taken_in o s) q x
+  sends_taken o Closed q x h = h
+  sends_taken o (CookieWait tag first t1) q x h = h
+  sends_taken o (Open phase t) q x h = sends_told (opens_window o t.reassembly (without_first_message t).reassembly) phase t q x h
 
 -- ---- the receiver's part
 
@@ -55,10 +65,15 @@ module _ (message : ℕ → Message) (is_interleaved : Bool) (x : Direction) whe
   fresh_taken : (handed : List messages.Message) → IsFresh message is_interleaved handed x → IsFresh message is_interleaved (handed ++ []) x
   fresh_taken handed h = subst (λ (ms : List messages.Message). IsFresh message is_interleaved ms x) (sym (append-nil handed)) h
 
-  pub receives_in_taken : (s : State) (handed : List messages.Message) → ReceivesIn message is_interleaved s handed x → ReceivesIn message is_interleaved (without_first_message_in s) (handed ++ take 1 (ready_in s)) x
-  receives_in_taken Closed handed h = fresh_taken handed h
-  receives_in_taken (CookieWait tag first t1) handed h = fresh_taken handed h
-  receives_in_taken (Open phase t) handed h = record {
+  receives_told : (b : Bool) (phase : Phase) (t : Tcb) (handed : List messages.Message) → ReceivesIn message is_interleaved (Open phase t) handed x
+      → ReceivesIn message is_interleaved (Open phase (told_if b t)) handed x
+  receives_told true phase t handed h =
+      acknowledging_changes message is_interleaved handed t (force_ack t.tracker.tracker) x refl (tracker_forced t.tracker.tracker h.is_tracker) h
+  receives_told false phase t handed h = h
+
+  receives_without : (phase : Phase) (t : Tcb) (handed : List messages.Message) → ReceivesIn message is_interleaved (Open phase t) handed x
+      → ReceivesIn message is_interleaved (Open phase (without_first_message t)) (handed ++ take 1 t.reassembly.ready) x
+  receives_without phase t handed h = record {
     shift = h.shift;
     refines = receives_taken message is_interleaved (base_now x.rules) (transfer_of x) h.shift handed t.tracker.tracker t.reassembly h.refines;
     near = near_taken message is_interleaved (base_now x.rules) (transfer_of x) t.tracker.first h.shift t.reassembly h.near;
@@ -67,3 +82,11 @@ module _ (message : ℕ → Message) (is_interleaved : Bool) (x : Direction) whe
     first = h.first;
     answers = h.answers;
   }
+
+  pub receives_in_taken : (o : Options) (s : State) (handed : List messages.Message) → ReceivesIn message is_interleaved s handed x
+      → ReceivesIn message is_interleaved (message_taken_in o s) (handed ++ take 1 (ready_in s)) x
+  receives_in_taken o Closed handed h = fresh_taken handed h
+  receives_in_taken o (CookieWait tag first t1) handed h = fresh_taken handed h
+  receives_in_taken o (Open phase t) handed h =
+      let u : Tcb = without_first_message t in
+      receives_told (opens_window o t.reassembly u.reassembly) phase u (handed ++ take 1 t.reassembly.ready) (receives_without phase t handed h)

@@ -9,7 +9,7 @@ use Rattle.sctp_state.specs.Timer.{Timer, start, stop, expire, is_due}
 use Rattle.sctp_tracker.specs.declared.data_tracker.AckState.{AckState}
 use Rattle.sctp_tracker.specs.declared.data_tracker.AckState.TheVariants.{Idle, Becoming, Delayed, Immediate}
 use Rattle.sctp_rx.specs.Seen.{Run, Seen, in_runs, contains, AreRuns, IsInRuns, last_above, highest}
-use Rattle.sctp_rx.specs.DataTracker.{Tracker, IsTracker, DelayFits, tracker, is_valid, has_seen, window, bound, update_rto, is_ack_due, take_ack, is_becoming, packet_end, ack_timeout, insert_number, with_duplicate, observe, forward}
+use Rattle.sctp_rx.specs.DataTracker.{Tracker, IsTracker, DelayFits, tracker, is_valid, has_seen, window, bound, update_rto, is_ack_due, take_ack, force_ack, is_becoming, packet_end, ack_timeout, insert_number, with_duplicate, observe, forward}
 use Rattle.sctp_rx.specs.Sack.{clear_duplicates}
 use Rattle.sctp_tracker.proofs.SeenRunsLemmas.{le_last_above, next_is_new}
 use Rattle.sctp_tracker.proofs.SeenOneFormLemmas.{contains_add, IsInRuns_add, contains_up_to, IsInRuns_up_to}
@@ -203,6 +203,9 @@ module _ (t : Tracker) (i : IsTracker t) where
       go : (b : Bool) (a : AckState) (d : Timer) → DelayFits a d.due → DelayFits (if b then Idle else a) (if b then stop d else d).due
       go true a d h = refl
       go false a d h = h
+
+  pub tracker_forced : IsTracker (force_ack t)
+  tracker_forced = acknowledges t.duplicates Immediate (force_ack t).delay i.few refl
 
   pub tracker_ends_packet : (now : ℕ) → IsTracker (packet_end now t)
   tracker_ends_packet now = let u : Tracker = packet_end now t in acknowledges t.duplicates u.ack u.delay i.few (go (is_becoming t.ack) t.ack t.delay i.delay)

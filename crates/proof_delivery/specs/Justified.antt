@@ -1,5 +1,6 @@
 -- Along a trace: why an end gave messages up. A record is justified where its message was accepted, and either outlived its
--- lifetime, or was sent again as often as it may be, or is made as the end is asked to reset its stream.
+-- lifetime, or was sent again as often as it may be, or is made as the end is asked to reset its stream, or as an association
+-- of an end that avoids stalls is over.
 use Rattle.std.specs.Prelude.{◌≡◌, ℕ, ◌^◌, ◌≤◌, ◌<◌, Bool, true, false, Option, Some, None, unwrap_or, List, [], ◌∷◌, ◌++◌, length, map, slice_get, ◌==◌}
 use Rattle.std.specs.List.{AllByRecursion, list_any}
 use Rattle.rand_core.specs.Stream.{Stream}
@@ -9,7 +10,7 @@ use Rattle.sctp_serial.specs.Time.{later}
 use Rattle.sctp_state.specs.Options.{Options, plainly}
 use Rattle.sctp_state.specs.Events.{GivenUp}
 use Rattle.sctp_state.specs.declared.api.GivenUpCause.{GivenUpCause}
-use Rattle.sctp_state.specs.declared.api.GivenUpCause.TheVariants.{Lifetime, Retransmissions, Reset}
+use Rattle.sctp_state.specs.declared.api.GivenUpCause.TheVariants.{Lifetime, Retransmissions, Reset, Ended}
 use Rattle.sctp_state.specs.declared.api.errors.ResetStreamsError.{ResetStreamsError}
 use Rattle.spec_endpoint.specs.Association.{Endpoint}
 use Rattle.spec_endpoint.specs.Input.{packet_refusal}
@@ -79,19 +80,23 @@ reset_at true true action w = reset_by action w.a
 reset_at false false action w = reset_by action w.b
 reset_at x acts action w = []
 
--- a record, the clock of its end then, and the streams that are reset at that action
+-- a record, whether its end avoids stalls, the end's clock then, and the streams that are reset at that action
 pub record DatedRecord : Type 0 where
   pub given_up : GivenUp
+  pub avoids_stalls : Bool
   pub at : ℕ
   pub resets : List ℕ
 
-abbrev pub dated_record : (now : ℕ) → (resets : List ℕ) → GivenUp → DatedRecord
-dated_record now resets g = record { given_up = g; at = now; resets = resets }
+abbrev pub dated_record : (avoids_stalls : Bool) → (now : ℕ) → (resets : List ℕ) → GivenUp → DatedRecord
+dated_record avoids_stalls now resets g = record { given_up = g; avoids_stalls = avoids_stalls; at = now; resets = resets }
+
+abbrev pub avoids_stalls : Side → Bool
+avoids_stalls x = x.end.endpoint_state.context.options.avoid_stalls
 
 -- all of an end, in order
 abbrev pub dated_records : (x : Bool) → List (Bool × EndAction) → Pair → List DatedRecord
 dated_records x [] w = []
-dated_records x (e ∷ es) w = map (dated_record (clock (side_of x (goes e.0 e.1 w))) (reset_at x e.0 e.1 w)) (records_at x e.0 e.1 w) ++ dated_records x es (goes e.0 e.1 w)
+dated_records x (e ∷ es) w = map (dated_record (avoids_stalls (side_of x (goes e.0 e.1 w))) (clock (side_of x (goes e.0 e.1 w))) (reset_at x e.0 e.1 w)) (records_at x e.0 e.1 w) ++ dated_records x es (goes e.0 e.1 w)
 
 -- ---- justified records
 
@@ -109,16 +114,17 @@ pub record HasExpired (now : ℕ) (a : Acceptance) : Type 0 where
 abbrev pub is_of_one : (streams : List ℕ) → Acceptance → Bool
 is_of_one streams a = list_any (λ id. id == a.offer.message.stream) streams
 
-abbrev pub IsRight : GivenUpCause → (now : ℕ) → (resets : List ℕ) → Acceptance → Type 0
-IsRight Lifetime now resets a = HasExpired now a
-IsRight (Retransmissions count) now resets a = limit_of a.offer ≤ count
-IsRight Reset now resets a = is_of_one resets a ≡ true
+abbrev pub IsRight : GivenUpCause → (avoids_stalls : Bool) → (now : ℕ) → (resets : List ℕ) → Acceptance → Type 0
+IsRight Lifetime avoids now resets a = HasExpired now a
+IsRight (Retransmissions count) avoids now resets a = limit_of a.offer ≤ count
+IsRight Reset avoids now resets a = is_of_one resets a ≡ true
+IsRight Ended avoids now resets a = avoids ≡ true
 
 -- of one of these messages, by its place
 pub record IsJustified (accepted : List Acceptance) (f : DatedRecord) : Type 0 where
   pub acceptance : Acceptance
   pub there : slice_get accepted f.given_up.number ≡ Some acceptance
-  pub right : IsRight f.given_up.cause f.at f.resets acceptance
+  pub right : IsRight f.given_up.cause f.avoids_stalls f.at f.resets acceptance
 
 -- ---- the laws
 
@@ -161,4 +167,4 @@ pub record TwoAreGivenUp : Type 0 where
   pub restores_none : RestoresNone two_are_lost
   pub not_ended : NoAssociationHasEnded (run two_are_lost at_first)
   pub gives_up : dated_records true two_are_lost at_first
-      ≡ dated_record ten_seconds [] (record { number = 0; cause = Retransmissions 0 }) ∷ dated_record ten_seconds [] (record { number = 1; cause = Lifetime }) ∷ []
+      ≡ dated_record false ten_seconds [] (record { number = 0; cause = Retransmissions 0 }) ∷ dated_record false ten_seconds [] (record { number = 1; cause = Lifetime }) ∷ []

@@ -4,10 +4,10 @@ use Rattle.sctp_serial.specs.Messages.{Message}
 use Rattle.sctp_state.specs.declared.api.SocketState.{SocketState}
 use Rattle.sctp_state.specs.declared.api.errors.ResetStreamsError.{ResetStreamsError}
 use Rattle.sctp_state.specs.declared.api.errors.SendError.{SendError}
-use Rattle.sctp_state.specs.Options.{SendOptions}
+use Rattle.sctp_state.specs.Options.{SendOptions, Options}
 use Rattle.spec_endpoint.specs.Association.{Tcb, Phase, CookieEchoed, Established, ShutdownPending, ShutdownSent, ShutdownReceived, ShutdownAckSent, State, Closed, CookieWait, Open, Context, EndpointState, with_context, where_open, Packing}
 use Rattle.spec_endpoint.specs.Sending.{AfterSending, is_before_cookie_ack, open_with, send_buffered, send_in}
-use Rattle.spec_endpoint.specs.Calls.{shown_phase, shown_state, send_refusal, offered, offer, sent_if, send, offer_all, send_many, without_first_message_in, take_message}
+use Rattle.spec_endpoint.specs.Calls.{shown_phase, shown_state, send_refusal, offered, offer, sent_if, send, offer_all, send_many, take_message, message_taken_in, told_if, opens_window, without_first_message}
 use Rattle.spec_endpoint.specs.ResetRequests.{Request}
 use Rattle.spec_endpoint.specs.StreamReset.{reset_refusal, prepare_reset_stream, prepare_all, reset_if, reset_streams}
 use Rattle.spec_endpoint.specs.Handover.{is_strict, request_bit, receiving, readiness_open, readiness_in, readiness, left_in, left_if, hand_over}
@@ -35,10 +35,16 @@ module _ (n : Names) where
   shown_named (CookieWait tag first t1) = refl
   shown_named (Open phase t) = shown_phase_named phase
 
-  taken_named : (s : State) → without_first_message_in (named_state n s) ≡ named_state n (without_first_message_in s)
-  taken_named Closed = refl
-  taken_named (CookieWait tag first t1) = refl
-  taken_named (Open phase t) = refl
+  told_named : (b : Bool) (t : Tcb) → told_if b (named_tcb n t) ≡ named_tcb n (told_if b t)
+  told_named true t = refl
+  told_named false t = refl
+
+  taken_named : (o : Options) (s : State) → message_taken_in o (named_state n s) ≡ named_state n (message_taken_in o s)
+  taken_named o Closed = refl
+  taken_named o (CookieWait tag first t1) = refl
+  taken_named o (Open phase t) =
+      let u : Tcb = without_first_message t in
+      ap (λ (v : Tcb). Open (named_phase n phase) v) (told_named (opens_window o t.reassembly u.reassembly) u)
 
   -- why streams can't be reset
   pub reset_refusal_named : (s : State) → reset_refusal (named_state n s) ≡ reset_refusal s
@@ -141,7 +147,7 @@ module _ {P : Type 0} (n : Names) (are : AreNames n) (pack : Packing P) where
       ∙ where_named n are pack send_in (with_context s (offer_all ms how shown s.context)) send_in_named (offer_all_stays ms how shown s.context ∙ k))
 
   pub take_named : (s : EndpointState P) → take_message (named_endpoint_state n pack s) ≡ named_endpoint_state n pack (take_message s)
-  take_named s = ap (λ (st : State). record (named_endpoint_state n pack s) { state = st }) (taken_named n s.state)
+  take_named s = ap (λ (st : State). record (named_endpoint_state n pack s) { state = st }) (taken_named n s.context.options s.state)
 
   reset_if_named : (o : Option ResetStreamsError) (ids : List ℕ) (s : EndpointState P) → Knows n pack s.context → reset_if o ids (named_endpoint_state n pack s) ≡ named_endpoint_state n pack (reset_if o ids s)
   reset_if_named None ids s k =

@@ -9,13 +9,13 @@ use Rattle.spec_endpoint.specs.Association.{Tcb, Phase, CookieEchoed, Establishe
 use Rattle.spec_endpoint.specs.Packets.{PacketDraft, add, packet_to, new_packet, emit}
 use Rattle.spec_endpoint.specs.Sending.{AfterSending, take_due_ack, without_duplicates, selective_ack, is_before_cookie_ack, open_with, send_with}
 use Rattle.spec_endpoint.specs.Shutdown.{close_with, send_shutdown_ack, PhaseStep, shutdown_in_phase, open_phase_step, shutdown_in, shutdown, shut_by_peer, on_shutdown, complete_shutdown, out_of_the_blue, on_shutdown_ack_open, on_shutdown_ack_in, on_shutdown_ack, on_shutdown_complete, abort, close_in, close, too_many, abort_for_violation, on_abort, on_error}
-use Rattle.spec_endpoint.specs.Input.{ack_if_due, at_end, on_packet_end, repeats}
+use Rattle.spec_endpoint.specs.Input.{ack_if_due, at_end, on_packet_end, repeats, packet_acked, shut_waiting, shut_if}
 use Rattle.spec_endpoint.specs.Opening.{on_cookie_ack}
 use Rattle.proof_draws.specs.NamedChunks.{Names, AreNames}
 use Rattle.proof_draws.specs.Names.{named_packet, named_phase, named_tcb, named_state, named_endpoint_state, plain}
 use Rattle.proof_draws.proofs.WritingLemmas.{Knows, named_add, named_emit, named_emit_chunk}
 use Rattle.proof_draws.proofs.TagLemmas.{alone_named}
-use Rattle.proof_draws.proofs.FillingLemmas.{ack_named, send_with_named}
+use Rattle.proof_draws.proofs.FillingLemmas.{ack_named, send_with_named, send_with_stays}
 use Rattle.proof_draws.proofs.SackLemmas.{named_onward, send_shutdown_named, go_on_named}
 use Rattle.proof_draws.proofs.AnswerLemmas.{established_named}
 use Rattle.proof_endpoint.proofs.RowMapsLemmas.{endpoint_state_in}
@@ -164,7 +164,26 @@ module _ {P : Type 0} (n : Names) (are : AreNames n) (pack : Packing P) where
       ∙ ap (λ (x : AfterSending P). open_with (named_phase n phase) x) (send_with_named n are pack (is_before_cookie_ack phase) (add (selective_ack t) p) (without_duplicates t) c k)))
   ended_if_named false phase t c k = refl
 
-  pub ended_named : OpenIsNamed n pack on_packet_end
-  ended_named phase t c k =
+  packet_acked_named : OpenIsNamed n pack packet_acked
+  packet_acked_named phase t c k =
       let u : Tcb = at_end c.now t in
       ended_if_named (is_ack_due false u.tracker.tracker.ack) phase (take_due_ack false u) c k
+
+  acked_if_stays : (b : Bool) (phase : Phase) (t : Tcb) (c : Context P) → (ack_if_due b phase t c).context.pack ≡ c.pack
+  acked_if_stays true phase t c = send_with_stays (is_before_cookie_ack phase) (add (selective_ack t) (new_packet c.options t)) (without_duplicates t) c
+  acked_if_stays false phase t c = refl
+
+  acked_stays : (phase : Phase) (t : Tcb) (c : Context P) → (packet_acked phase t c).context.pack ≡ c.pack
+  acked_stays phase t c = let u : Tcb = at_end c.now t in acked_if_stays (is_ack_due false u.tracker.tracker.ack) phase (take_due_ack false u) c
+
+  shut_waiting_named : OpenIsNamed n pack shut_waiting
+  shut_waiting_named phase t c k = ap (λ (o : PhaseStep P). open_phase_step (named_tcb n t) o) (go_on_named n are pack phase t c k)
+
+  shut_if_named : (b : Bool) (s : EndpointState P) → Knows n pack s.context → shut_if b (named_endpoint_state n pack s) ≡ named_endpoint_state n pack (shut_if b s)
+  shut_if_named true s k = where_named shut_waiting s shut_waiting_named k
+  shut_if_named false s k = refl
+
+  pub ended_named : OpenIsNamed n pack on_packet_end
+  ended_named phase t c k =
+      ap (λ (s : EndpointState P). shut_if c.options.avoid_stalls s) (packet_acked_named phase t c k)
+      ∙ shut_if_named c.options.avoid_stalls (packet_acked phase t c) (acked_stays phase t c ∙ k)

@@ -13,7 +13,7 @@ use Rattle.sctp_capabilities.specs.StateCookie.{Cookie, read_cookie}
 use Rattle.spec_endpoint.specs.Association.{Phase, Tcb, Identity, State, Closed, CookieWait, Open, Endpoint}
 use Rattle.spec_endpoint.specs.Shown.{Association}
 use Rattle.spec_endpoint.specs.Opening.{by_tags, resolve_by_tags, resolve_cookie}
-use Rattle.spec_endpoint.specs.Input.{my_tag, packet_refusal}
+use Rattle.spec_endpoint.specs.Input.{packet_refusal}
 use Rattle.spec_endpoint.specs.Laws.{Call, ReceivePacket, called}
 use Rattle.proof_endpoint.specs.Mapped.{Carried}
 use Rattle.proof_endpoint.specs.Acts.{IsEchoed}

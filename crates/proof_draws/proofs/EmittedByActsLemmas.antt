@@ -19,11 +19,11 @@ use Rattle.proof_endpoint.specs.Mapped.{Carried}
 use Rattle.sctp_tx.specs.Resent.{resent_fast}
 use Rattle.sctp_tx.specs.ForwardPoints.{forward_chunk, chunk_if}
 use Rattle.sctp_tx.specs.RetransmissionQueue.{Sender}
-use Rattle.proof_endpoint.specs.Acts.{EndWithPacket, PacketAct, begins, adds_plain, emits, emits_error, counts, before_packets, after_packets, OpeningAct, connects, adds_init, answers_new, answers_waiting, answers_echoed, answers_again, echoes, adds_cookie, establishes, opens, restarts, opens_again, maintains, adds_cookie_ack, before_opening, after_opening, ClosingAct, closes, shuts, shuts_on, before_closing, after_closing, DataAct, takes_data, takes_idata, takes_forward, takes_iforward, before_data, after_data, SackAct, takes_sack, samples, counts_errors, before_sack, after_sack, SendingAct, asks, adds_ack, expires, adds_forward, forwards_later, asks_no_reset, asks_reset, adds_request, sends, sends_fast, before_sending, after_sending, TimeAct, advances, delay_ends, times_out, beats, times_init, times_cookie, times_request, wakes_request, before_time, after_time, CallAct, accepts, refuses, takes_message, sets_low_threshold, sets_priority, sets_max_message_size, before_call, after_call, ResetAct, prepares, defers, performs, processes, takes_response, adds_responses, before_reset, after_reset, HandoverAct, leaves, takes_up, before_handover, after_handover, InputAct, ends_packet, before_input, after_input, calm, is_opened, is_plain, BringsChunk, fragments_of, HasNoEnd, PreservesUntilEnd}
+use Rattle.proof_endpoint.specs.Acts.{EndWithPacket, PacketAct, begins, adds_plain, emits, emits_error, counts, before_packets, after_packets, OpeningAct, connects, adds_init, answers_new, answers_waiting, answers_echoed, answers_again, echoes, adds_cookie, establishes, opens, restarts, opens_again, maintains, adds_cookie_ack, before_opening, after_opening, ClosingAct, closes, shuts, shuts_on, before_closing, after_closing, DataAct, takes_data, takes_idata, takes_forward, takes_iforward, before_data, after_data, SackAct, takes_sack, samples, counts_errors, before_sack, after_sack, SendingAct, asks, forces_ack, adds_ack, expires, adds_forward, forwards_later, asks_no_reset, asks_reset, adds_request, sends, sends_fast, before_sending, after_sending, TimeAct, advances, delay_ends, times_out, beats, times_init, times_cookie, times_request, times_items, wakes_request, before_time, after_time, CallAct, accepts, refuses, takes_message, sets_low_threshold, sets_priority, sets_max_message_size, before_call, after_call, ResetAct, prepares, defers, performs, processes, takes_response, adds_responses, before_reset, after_reset, HandoverAct, leaves, takes_up, before_handover, after_handover, InputAct, ends_packet, before_input, after_input, calm, is_opened, is_plain, BringsChunk, fragments_of, HasNoEnd, PreservesUntilEnd}
 use Rattle.proof_pair.specs.Trace.{as_carried}
 use Rattle.proof_pair.proofs.AddedLemmas.{holds_added, holds_all_added}
 use Rattle.proof_pair.proofs.EmittedLemmas.{is_no_packet_or_status, EmitsNoPacketOrStatus}
-use Rattle.proof_pair.proofs.UntilLemmas.{sack_act_emits_no_packet_or_status, sending_act_emits_no_packet_or_status, time_act_emits_no_packet_or_status, call_act_emits_no_packet_or_status, reset_act_emits_no_packet_or_status, no_end, until_end}
+use Rattle.proof_pair.proofs.UntilLemmas.{sack_act_emits_no_packet_or_status, sending_act_emits_no_packet_or_status, time_act_emits_no_packet_or_status, call_act_emits_no_packet_or_status, reset_act_emits_no_packet_or_status, no_end, no_end_over, until_end}
 use Rattle.proof_pair.proofs.AgreeLemmas.{is_load}
 use Rattle.proof_draws.proofs.StepLemmas.{receives_init, is_past, EachChunk}
 use Rattle.sctp_capabilities.specs.Capabilities.{announced_parameters}
@@ -211,7 +211,7 @@ module _ (call : Call) (g : Receives call) where
   opening_acts_emit (adds_cookie_ack tag back phase t m echoed late) = adds_to (Open phase t) m cookie_ack_chunk (λ e. cc)
 
   closing_acts_emit : (act : ClosingAct Carried call) → HasNoEnd (after_closing act) → R (before_closing act) (after_closing act)
-  closing_acts_emit (closes e m there is) none = absurd (no_end m (after_closing {call = call} (closes e m there is)) e refl is none)
+  closing_acts_emit (closes e m there is) none = absurd (no_end_over e m is none)
   closing_acts_emit (shuts phase t m is early) none = actions_to (Open phase t) (Open ShutdownPending t) m (λ e. e) (λ e. no_init Shutdown is refl e)
   closing_acts_emit (shuts_on phase next t m late later) none = actions_to (Open phase t) (Open next t) m (λ e. e) (λ e f. late_on phase late f)
 
@@ -228,6 +228,7 @@ module _ (call : Call) (g : Receives call) where
 
   sending_acts_emit : (act : SendingAct Carried call) → R (before_sending act) (after_sending act)
   sending_acts_emit (asks also_if_delayed phase t m) = λ z. z
+  sending_acts_emit (forces_ack phase t m) = λ z. z
   sending_acts_emit (adds_ack phase t m) = adds_to (Open phase t) m (sack_chunk _) (λ e. refl)
   sending_acts_emit (expires phase t m) = no_packet_or_status_at (May call (Open phase t)) m (after_sending {call = call} (expires phase t m)) (sending_act_emits_no_packet_or_status {call = call} (expires phase t m))
   sending_acts_emit (adds_forward phase t m due) = adds_to (Open phase t) m (forward_chunk t.sender) (forward_may call phase t _ t.sender)
@@ -246,6 +247,7 @@ module _ (call : Call) (g : Receives call) where
   time_acts_emit (times_init tag first old new m) = λ z. z
   time_acts_emit (times_cookie old new cookie t m) = λ z. z
   time_acts_emit (times_request timer phase t m) = λ z. z
+  time_acts_emit (times_items timer phase t m) = λ z. z
   time_acts_emit (wakes_request phase t m) = λ z. z
 
   call_acts_emit : (act : CallAct Carried call) → R (before_call act) (after_call act)

@@ -194,7 +194,7 @@ module _ {P : Type 0} (n : Names) (are : AreNames n) (pack : Packing P) where
 
   verdict_named : (x : CookieResolution) (k : Cookie) (s : EndpointState P) (w v : Stream) → (is_new x ≡ true → DrawsTie n w v) → Knows n pack s.context
       → (on_resolution x (named_cookie n k) (with_random v (named_endpoint_state n pack s))).endpoint_state ≡ named_endpoint_state n pack (on_resolution x k (with_random w s)).endpoint_state
-  verdict_named EstablishNew k s w v d knows = anew_drawn false k s.context w v (d refl) knows
+  verdict_named EstablishNew k s w v d knows = anew_drawn s.context.options.avoid_stalls k s.context w v (d refl) knows
   verdict_named RestartDetected k s w v d knows = restart_from s.state k s.context w v (d refl) knows
   verdict_named SimultaneousInit k s w v d knows = anew_drawn true k s.context w v (d refl) knows
   verdict_named MaintainExisting k s w v d knows = keep_from k s.state s.context knows

@@ -8,8 +8,10 @@ use Rattle.sctp_packet.specs.Grammar.{carried}
 use Rattle.sctp_state.specs.Options.{Options}
 use Rattle.sctp_state.specs.Timer.{Timer}
 use Rattle.spec_endpoint.specs.Association.{Tcb, Phase, CookieEchoed, Established, ShutdownPending, ShutdownSent, ShutdownReceived, ShutdownAckSent, State, Closed, CookieWait, Open, Context, Endpoint}
+use Rattle.sctp_rx.specs.DataTracker.{is_ack_due}
+use Rattle.spec_endpoint.specs.Sending.{take_due_ack}
 use Rattle.spec_endpoint.specs.Opening.{tsn_from, tag_from, word, drew_word, cookie_for}
-use Rattle.spec_endpoint.specs.Input.{packet_refusal, count_packet_at, packet_if, on_accepted_packet, ack_if_due}
+use Rattle.spec_endpoint.specs.Input.{packet_refusal, count_packet_at, packet_if, in_endpoint_state, repeats_if, receive_all, on_accepted_packet, ack_if_due, at_end, shut_if, on_packet_end}
 use Rattle.spec_endpoint.specs.Laws.{Call, ReceivePacket, called, is_closed}
 use Rattle.proof_endpoint.specs.Mapped.{Carried}
 use Rattle.proof_pair.specs.Trace.{Side, AreValidOptions, as_carried, as_received, state_of}
@@ -31,24 +33,33 @@ use Rattle.proof_draws.proofs.EchoLemmas.{cookie_made}
 
 -- ---- an end that receives an INIT alone keeps its state
 
-pub ended_stays : (b : Bool) (phase : Phase) (t : Tcb) (c : Context Carried) → is_closed (ack_if_due b phase t c).state ≡ false
-ended_stays true phase t c = refl
-ended_stays false phase t c = refl
+ended_by : (avoids b : Bool) (phase : Phase) (t : Tcb) (c : Context Carried) → is_closed (shut_if avoids (ack_if_due b phase t c)).state ≡ false
+ended_by true true phase t c = refl
+ended_by true false phase t c = refl
+ended_by false true phase t c = refl
+ended_by false false phase t c = refl
+
+pub ended_stays : (phase : Phase) (t : Tcb) (c : Context Carried) → is_closed (on_packet_end phase t c).state ≡ false
+ended_stays phase t c = let u : Tcb = at_end c.now t in ended_by c.options.avoid_stalls (is_ack_due false u.tracker.tracker.ack) phase (take_due_ack false u) c
 
 abbrev pub at_state : State → Context Carried → Stream → Endpoint Carried
 at_state s c w = record { endpoint_state = record { state = s; context = c }; draws = w }
+
+-- the context once it was received
+abbrev pub init_received_in : (tag : ℕ) → InitTree → State → Context Carried → Stream → Context Carried
+init_received_in tag i s c w = (receive_all tag (init_chunk i ∷ []) (in_endpoint_state (repeats_if false) (at_state s c w))).endpoint_state.context
 
 module _ (tag : ℕ) (i : InitTree) where
   pub init_leaves : (s : State) (c : Context Carried) (w : Stream) → is_closed s ≡ false
       → is_closed (on_accepted_packet tag (init_chunk i ∷ []) (at_state s c w)).endpoint_state.state ≡ false
   init_leaves Closed c w h = cc
   init_leaves (CookieWait own first t1) c w h = refl
-  init_leaves (Open (CookieEchoed t1 cookie) t) c w h = ended_stays _ _ _ _
-  init_leaves (Open Established t) c w h = ended_stays _ _ _ _
-  init_leaves (Open ShutdownPending t) c w h = ended_stays _ _ _ _
-  init_leaves (Open (ShutdownSent t2) t) c w h = ended_stays _ _ _ _
-  init_leaves (Open ShutdownReceived t) c w h = ended_stays _ _ _ _
-  init_leaves (Open (ShutdownAckSent t2) t) c w h = ended_stays _ _ _ _
+  init_leaves (Open (CookieEchoed t1 cookie) t) c w h = ended_stays (CookieEchoed t1 cookie) t (init_received_in tag i (Open (CookieEchoed t1 cookie) t) c w)
+  init_leaves (Open Established t) c w h = ended_stays Established t (init_received_in tag i (Open Established t) c w)
+  init_leaves (Open ShutdownPending t) c w h = ended_stays ShutdownPending t (init_received_in tag i (Open ShutdownPending t) c w)
+  init_leaves (Open (ShutdownSent t2) t) c w h = ended_stays (ShutdownSent t2) t (init_received_in tag i (Open (ShutdownSent t2) t) c w)
+  init_leaves (Open ShutdownReceived t) c w h = ended_stays ShutdownReceived t (init_received_in tag i (Open ShutdownReceived t) c w)
+  init_leaves (Open (ShutdownAckSent t2) t) c w h = ended_stays (ShutdownAckSent t2) t (init_received_in tag i (Open (ShutdownAckSent t2) t) c w)
 
 -- the one chunk of such a packet
 abbrev pub IsThat : ChunkTree → Type 0

@@ -7,9 +7,12 @@ use Rattle.sctp_packet.specs.Chunk.{ChunkTree, InitTree, init_chunk, init_ack_ch
 use Rattle.sctp_packet.specs.Grammar.{carried}
 use Rattle.sctp_capabilities.specs.StateCookie.{Cookie, CookieFits, cookie_bytes}
 use Rattle.spec_endpoint.specs.Association.{Tcb, Phase, CookieEchoed, Established, ShutdownPending, ShutdownSent, ShutdownReceived, ShutdownAckSent, State, Open, Context, Endpoint}
-use Rattle.spec_endpoint.specs.Sending.{is_before_cookie_ack}
+use Rattle.sctp_rx.specs.DataTracker.{is_ack_due}
+use Rattle.spec_endpoint.specs.Packets.{add, new_packet}
+use Rattle.spec_endpoint.specs.Sending.{AfterSending, is_before_cookie_ack, selective_ack, take_due_ack, without_duplicates, send_with}
+use Rattle.spec_endpoint.specs.Shutdown.{pending_next, received_next, maybe_send_shutdown_or_ack, is_quiet}
 use Rattle.spec_endpoint.specs.Opening.{tag_from, word, next_first, cookie_for}
-use Rattle.spec_endpoint.specs.Input.{my_tag, packet_refusal, count_packet_at, packet_if, on_accepted_packet, in_endpoint_state, repeats_if, has_data_chunk, ack_if_due}
+use Rattle.spec_endpoint.specs.Input.{my_tag, packet_refusal, count_packet_at, packet_if, on_accepted_packet, in_endpoint_state, repeats_if, has_data_chunk, ack_if_due, at_end, shut_if, on_packet_end}
 use Rattle.spec_endpoint.specs.Laws.{Call, ReceivePacket, called, is_closed}
 use Rattle.proof_endpoint.specs.Mapped.{Carried}
 use Rattle.proof_pair.specs.Trace.{Side, as_received, state_of}
@@ -31,7 +34,7 @@ use Rattle.proof_draws.proofs.ChunkLemmas.{init_received}
 use Rattle.proof_draws.proofs.GuideLemmas.{Guides, tags_after}
 use Rattle.proof_draws.proofs.StepLemmas.{receives_init, is_past, one_held}
 use Rattle.proof_draws.proofs.ReceivedLemmas.{all_received, refused_as_well, taken_too}
-use Rattle.proof_draws.proofs.InitLemmas.{IsThat, at_state, ended_stays}
+use Rattle.proof_draws.proofs.InitLemmas.{IsThat, at_state, init_received_in, ended_stays}
 use Rattle.proof_draws.proofs.GivenLemmas.{two_paired, draw_is, peer_at}
 use Rattle.proof_draws.proofs.ActionLemmas.{LateInitsAreNamed}
 
@@ -59,27 +62,51 @@ with_tie c tie small f = record {
 
 -- ---- it keeps its state, and no cookie is kept
 
-ended_past : (b : Bool) (phase : Phase) (t : Tcb) (c : Context Carried) → is_past (ack_if_due b phase t c).state ≡ not (is_before_cookie_ack phase)
-ended_past true phase t c = refl
-ended_past false phase t c = refl
+pending_past : (b : Bool) (t : Tcb) (c : Context Carried) → is_past (Open (pending_next b t c).phase t) ≡ true
+pending_past true t c = refl
+pending_past false t c = refl
+
+received_past : (b : Bool) (t : Tcb) (c : Context Carried) → is_past (Open (received_next b t c).phase t) ≡ true
+received_past true t c = refl
+received_past false t c = refl
+
+-- where a shutdown goes on
+goes_past : (phase : Phase) (t : Tcb) (c : Context Carried) → is_past (Open (maybe_send_shutdown_or_ack phase t c).phase t) ≡ not (is_before_cookie_ack phase)
+goes_past (CookieEchoed t1 cookie) t c = refl
+goes_past Established t c = refl
+goes_past ShutdownPending t c = pending_past (is_quiet t c) t c
+goes_past (ShutdownSent t2) t c = refl
+goes_past ShutdownReceived t c = received_past (is_quiet t c) t c
+goes_past (ShutdownAckSent t2) t c = refl
+
+ended_by : (avoids b : Bool) (phase : Phase) (t : Tcb) (c : Context Carried) → is_past (shut_if avoids (ack_if_due b phase t c)).state ≡ not (is_before_cookie_ack phase)
+ended_by true true phase t c =
+    let x : AfterSending Carried = send_with (is_before_cookie_ack phase) (add (selective_ack t) (new_packet c.options t)) (without_duplicates t) c in
+    goes_past phase x.tcb x.context
+ended_by true false phase t c = goes_past phase t c
+ended_by false true phase t c = refl
+ended_by false false phase t c = refl
+
+ended_past : (phase : Phase) (t : Tcb) (c : Context Carried) → is_past (on_packet_end phase t c).state ≡ not (is_before_cookie_ack phase)
+ended_past phase t c = let u : Tcb = at_end c.now t in ended_by c.options.avoid_stalls (is_ack_due false u.tracker.tracker.ack) phase (take_due_ack false u) c
 
 init_leaves_past : (tag : ℕ) (i : InitTree) (phase : Phase) (t : Tcb) (c : Context Carried) (w : Stream) → is_before_cookie_ack phase ≡ false
     → is_past (on_accepted_packet tag (init_chunk i ∷ []) (at_state (Open phase t) c w)).endpoint_state.state ≡ true
 init_leaves_past tag i (CookieEchoed t1 cookie) t c w h = cc
-init_leaves_past tag i Established t c w h = ended_past _ _ _ _
-init_leaves_past tag i ShutdownPending t c w h = ended_past _ _ _ _
-init_leaves_past tag i (ShutdownSent t2) t c w h = ended_past _ _ _ _
-init_leaves_past tag i ShutdownReceived t c w h = ended_past _ _ _ _
-init_leaves_past tag i (ShutdownAckSent t2) t c w h = ended_past _ _ _ _
+init_leaves_past tag i Established t c w h = ended_past Established t (init_received_in tag i (Open Established t) c w)
+init_leaves_past tag i ShutdownPending t c w h = ended_past ShutdownPending t (init_received_in tag i (Open ShutdownPending t) c w)
+init_leaves_past tag i (ShutdownSent t2) t c w h = ended_past (ShutdownSent t2) t (init_received_in tag i (Open (ShutdownSent t2) t) c w)
+init_leaves_past tag i ShutdownReceived t c w h = ended_past ShutdownReceived t (init_received_in tag i (Open ShutdownReceived t) c w)
+init_leaves_past tag i (ShutdownAckSent t2) t c w h = ended_past (ShutdownAckSent t2) t (init_received_in tag i (Open (ShutdownAckSent t2) t) c w)
 
 init_leaves_open : (tag : ℕ) (i : InitTree) (phase : Phase) (t : Tcb) (c : Context Carried) (w : Stream) → is_before_cookie_ack phase ≡ false
     → is_closed (on_accepted_packet tag (init_chunk i ∷ []) (at_state (Open phase t) c w)).endpoint_state.state ≡ false
 init_leaves_open tag i (CookieEchoed t1 cookie) t c w h = cc
-init_leaves_open tag i Established t c w h = ended_stays _ _ _ _
-init_leaves_open tag i ShutdownPending t c w h = ended_stays _ _ _ _
-init_leaves_open tag i (ShutdownSent t2) t c w h = ended_stays _ _ _ _
-init_leaves_open tag i ShutdownReceived t c w h = ended_stays _ _ _ _
-init_leaves_open tag i (ShutdownAckSent t2) t c w h = ended_stays _ _ _ _
+init_leaves_open tag i Established t c w h = ended_stays Established t (init_received_in tag i (Open Established t) c w)
+init_leaves_open tag i ShutdownPending t c w h = ended_stays ShutdownPending t (init_received_in tag i (Open ShutdownPending t) c w)
+init_leaves_open tag i (ShutdownSent t2) t c w h = ended_stays (ShutdownSent t2) t (init_received_in tag i (Open (ShutdownSent t2) t) c w)
+init_leaves_open tag i ShutdownReceived t c w h = ended_stays ShutdownReceived t (init_received_in tag i (Open ShutdownReceived t) c w)
+init_leaves_open tag i (ShutdownAckSent t2) t c w h = ended_stays (ShutdownAckSent t2) t (init_received_in tag i (Open (ShutdownAckSent t2) t) c w)
 
 -- the same under one tie
 late_state : (ps : List (Drawn × Drawn)) (mine peer : ℕ) (tie : ℕ → ℕ) (phase : Phase) (u : Tcb) → is_before_cookie_ack phase ≡ false

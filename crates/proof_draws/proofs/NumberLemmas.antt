@@ -17,7 +17,6 @@ use Rattle.sctp_tx_outstanding.specs.OutstandingData.{number_of, fast_items}
 use Rattle.sctp_tx_outstanding.specs.Sack.{is_valid}
 use Rattle.sctp_tx_outstanding.specs.Forward.{is_forward_due}
 use Rattle.sctp_rx.specs.DataTracker.{is_ack_due}
-use Rattle.sctp_rx.specs.DataTracker as tracker
 use Rattle.sctp_tx_queue.specs.Resets.{streams_to_request, request_resets}
 use Rattle.sctp_tx.specs.RetransmissionQueue.{SackAnswer, Invalid, Valid, sender_if, emitted_if, answer_if}
 use Rattle.sctp_tx.specs.ForwardPoints.{forward_chunk}
@@ -27,8 +26,8 @@ use Rattle.spec_endpoint.specs.ResetRequests.{Request, Requests, is_final, is_la
 use Rattle.spec_endpoint.specs.Sending.{Filling, take_due_ack, ack_if, has_data_to_send, with_ack, forward_added_if, forward_if, with_expired_abandoned, forward_if_time, with_forward, most_streams, request_of, request_if, filled_as, BurstStep, burst_step_if, next_packet, continue_burst, burst, is_before_cookie_ack, send_with, fast_if, send_lost}
 use Rattle.spec_endpoint.specs.Shutdown.{on_shutdown, on_shutdown_ack_in, on_shutdown_complete, abort_for_violation, on_abort, on_error}
 use Rattle.spec_endpoint.specs.Shutdown as closing
-use Rattle.spec_endpoint.specs.Data.{on_data_in, on_data_if, on_data, accepts_tsn, fragment_if, accepts_point, handle_forward_tsn_if, handle_forward_tsn_in}
-use Rattle.spec_endpoint.specs.Sack.{clean_blocks, sample_rtt, after_sack, on_sack_in}
+use Rattle.spec_endpoint.specs.Data.{on_data_in, on_data_if, on_data, accepts_tsn, fragment_if, accepts_point, handle_forward_tsn_if, handle_forward_tsn_in, has_room, told_of_drop}
+use Rattle.spec_endpoint.specs.Sack.{clean_blocks, sample_rtt, after_sack, on_sack_in, is_late, sampled_unless}
 use Rattle.spec_endpoint.specs.Sack as acks
 use Rattle.spec_endpoint.specs.Opening.{on_cookie_ack, enter_connected, tcb_by, queue_for, cookie_ack, anew, maintain_existing, maintain_existing_in, restarts, restarts_in, restart, CookieResolution, EstablishNew, RestartDetected, SimultaneousInit, MaintainExisting, Discard, InvalidTag, resolve_cookie, on_resolution, on_read_cookie, on_cookie_echo, long_word}
 use Rattle.spec_endpoint.specs.StreamReset.{Handling, handling, is_ahead, resets_if, outgoing_by, incoming_if, on_parameter, is_outgoing, HandledParameters, handle_next, handle_all, send_responses, finish_reconfig_if, on_reconfig}
@@ -111,6 +110,11 @@ taken_fits : (b : Bool) (tsn : ℕ) (immediate : Bool) (f : FragmentTree) (t : T
 taken_fits true tsn immediate f t h = h
 taken_fits false tsn immediate f t h = h
 
+told_fits : (b room : Bool) (t : Tcb) → NumbersFit t.requests → NumbersFit (told_of_drop b room t).requests
+told_fits true true t h = h
+told_fits true false t h = h
+told_fits false room t h = h
+
 sampled_fits : (o : Option ℕ) (t : Tcb) → NumbersFit t.requests → NumbersFit (sample_rtt o t).requests
 sampled_fits None t h = h
 sampled_fits (Some sample) t h = h
@@ -155,7 +159,10 @@ module _ {P : Type 0} where
   data_in_fits : (st : State) (tsn : ℕ) (immediate : Bool) (f : FragmentTree) (c : Context P) → NumbersFitIn st → NumbersFitIn (on_data_in st tsn immediate f c).state
   data_in_fits Closed tsn immediate f c h = tt
   data_in_fits (CookieWait tag first t1) tsn immediate f c h = tt
-  data_in_fits (Open phase t) tsn immediate f c h = taken_fits (accepts_tsn tsn t) tsn immediate f t h
+  data_in_fits (Open phase t) tsn immediate f c h =
+      let b : Bool = c.options.avoid_stalls in
+      let room : Bool = has_room c.options tsn t in
+      taken_fits (accepts_tsn c.options tsn t) tsn immediate f (told_of_drop b room t) (told_fits b room t h)
 
   data_if_fits : (b : Bool) (tsn : ℕ) (immediate : Bool) (f : FragmentTree) (s : EndpointState P) → NumbersFitIn s.state → NumbersFitIn (on_data_if b tsn immediate f s).state
   data_if_fits true tsn immediate f s h = h
@@ -179,7 +186,7 @@ module _ {P : Type 0} where
       let m : ℕ = number_of t.sender.outstanding k.cumulative_tsn_ack in
       let bs : List GapAckBlock = clean_blocks k.gap_ack_blocks in
       let valid : Bool = is_valid m bs t.sender.outstanding.items in
-      received_fits (answer_if valid c.now m bs t.sender) phase (record t { sender = sender_if valid c.now m k.a_rwnd bs t.sender c.emitted }) (record c { emitted = emitted_if valid m bs t.sender c.emitted }) h
+      received_fits (sampled_unless (is_late c.options m t.sender.outstanding.items) (answer_if valid c.now m bs t.sender)) phase (record t { sender = sender_if valid c.now m k.a_rwnd bs t.sender c.emitted }) (record c { emitted = emitted_if valid m bs t.sender c.emitted }) h
 
   cookie_ack_fits : OpenFits {P = P} on_cookie_ack
   cookie_ack_fits (CookieEchoed t1 cookie) t c h = send_with_fits false (new_packet c.options t) t (enter_connected c) h
@@ -348,7 +355,7 @@ module _ {P : Type 0} where
   restart_fits (Open phase t) k c w first h = restarts_fit phase t k (record { endpoint_state = endpoint_state_in (Open phase t) c; draws = w }) first h
 
   verdict_fits : (v : CookieResolution) (k : Cookie) (e : Endpoint P) → k.my_initial_tsn < u32_space → NumbersFitIn e.endpoint_state.state → NumbersFitIn (on_resolution v k e).endpoint_state.state
-  verdict_fits EstablishNew k e first h = anew_fits false k (long_word e) e.endpoint_state.context first
+  verdict_fits EstablishNew k e first h = anew_fits e.endpoint_state.context.options.avoid_stalls k (long_word e) e.endpoint_state.context first
   verdict_fits RestartDetected k e first h = restart_fits e.endpoint_state.state k e.endpoint_state.context e.draws first h
   verdict_fits SimultaneousInit k e first h = anew_fits true k (long_word e) e.endpoint_state.context first
   verdict_fits MaintainExisting k e first h = keep_fits k e.endpoint_state.state e.endpoint_state.context h

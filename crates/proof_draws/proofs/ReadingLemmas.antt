@@ -1,5 +1,5 @@
 -- Numbers that come in stand for the same under other names: DATA, forward points and SACKs.
-use Rattle.std.proofs.Common.{◌≡◌, ℕ, ◌==◌, ◌&&◌, not, Bool, true, false, cond, max, unwrap_or, Option, Some, None, option_map, List, length, refl, sym, ap, ◌∙◌}
+use Rattle.std.proofs.Common.{◌≡◌, ℕ, ◌+◌, ◌==◌, ◌&&◌, ◌||◌, not, Bool, true, false, cond, max, unwrap_or, Option, Some, None, option_map, List, length, refl, sym, ap, ◌∙◌}
 use Rattle.sctp_serial.specs.Unwrapped.{origin}
 use Rattle.sctp_chunk.specs.declared.forward_tsn.SkippedStream.{SkippedStream}
 use Rattle.sctp_packet.specs.Chunk.{FragmentTree}
@@ -11,14 +11,18 @@ use Rattle.sctp_rx.specs.ReassemblyQueue as reassembly
 use Rattle.sctp_tx_outstanding.specs.OutstandingData.{Outstanding}
 use Rattle.sctp_tx_outstanding.specs.OutstandingData as items
 use Rattle.spec_endpoint.specs.Association.{Tcb, Phase, State, Closed, CookieWait, Open, Context, EndpointState, Packing}
-use Rattle.spec_endpoint.specs.Data.{is_full, accepts_tsn, added_unless, take_fragment, fragment_if, on_data_in, on_data_if, on_data, skipped_if, accepts_point, handle_forward_tsn, handle_forward_tsn_if, handle_forward_tsn_in, on_forward}
+use Rattle.spec_endpoint.specs.Data.{is_full, accepts_tsn, added_unless, take_fragment, fragment_if, on_data_in, on_data_if, on_data, skipped_if, accepts_point, handle_forward_tsn, handle_forward_tsn_if, handle_forward_tsn_in, on_forward, has_reserve, has_room, told_of_drop, take_data}
+use Rattle.sctp_state.specs.Options.{Options}
 use Rattle.proof_draws.specs.NamedChunks.{Names, move_by}
 use Rattle.proof_draws.specs.Names.{named_phase, named_tracker, named_reassembly, named_outstanding, named_tcb, named_state, named_endpoint_state, plain}
 use Rattle.proof_draws.proofs.MovedLemmas.{moved_nearest}
 use Rattle.proof_endpoint.proofs.RowMapsLemmas.{endpoint_state_in}
 
-abbrev takes_at : (number : ℕ) → Tcb → Bool
-takes_at number t = not (is_full t.reassembly) && tracker.is_valid t.tracker.tracker number
+abbrev room_at : Options → (number : ℕ) → Tcb → Bool
+room_at o number t = not (is_full t.reassembly) || (o.avoid_stalls && ((number == t.tracker.tracker.seen.front + 1) && has_reserve o t.reassembly))
+
+abbrev takes_at : Options → (number : ℕ) → Tcb → Bool
+takes_at o number t = room_at o number t && tracker.is_valid t.tracker.tracker number
 
 abbrev open_state : Names → Phase → Tcb → State
 open_state n phase t = Open (named_phase n phase) t
@@ -123,8 +127,27 @@ module _ (n : Names) where
   taken_if_named true tsn is_immediate f t = taken_named tsn is_immediate f t
   taken_if_named false tsn is_immediate f t = refl
 
-  takes_named : (tsn : ℕ) (t : Tcb) → accepts_tsn (move_by n.peer tsn) (named_tcb n t) ≡ accepts_tsn tsn t
-  takes_named tsn t = ap (λ (k : ℕ). takes_at k t) (received_number t.tracker tsn)
+  room_named : (o : Options) (tsn : ℕ) (t : Tcb) → has_room o (move_by n.peer tsn) (named_tcb n t) ≡ has_room o tsn t
+  room_named o tsn t = ap (λ (k : ℕ). room_at o k t) (received_number t.tracker tsn)
+
+  takes_named : (o : Options) (tsn : ℕ) (t : Tcb) → accepts_tsn o (move_by n.peer tsn) (named_tcb n t) ≡ accepts_tsn o tsn t
+  takes_named o tsn t = ap (λ (k : ℕ). takes_at o k t) (received_number t.tracker tsn)
+
+  told_named : (b room : Bool) (t : Tcb) → told_of_drop b room (named_tcb n t) ≡ named_tcb n (told_of_drop b room t)
+  told_named true true t = refl
+  told_named true false t = refl
+  told_named false room t = refl
+
+  take_data_named : (o : Options) (tsn : ℕ) (is_immediate : Bool) (f : FragmentTree) (t : Tcb)
+      → take_data o (move_by n.peer tsn) is_immediate f (named_tcb n t) ≡ named_tcb n (take_data o tsn is_immediate f t)
+  take_data_named o tsn is_immediate f t =
+      let m : ℕ = move_by n.peer tsn in
+      let takes : Bool = accepts_tsn o tsn t in
+      let room : Bool = has_room o tsn t in
+      ap (λ (b : Bool). fragment_if b m is_immediate f (told_of_drop o.avoid_stalls (has_room o m (named_tcb n t)) (named_tcb n t))) (takes_named o tsn t)
+      ∙ (ap (λ (b : Bool). fragment_if takes m is_immediate f (told_of_drop o.avoid_stalls b (named_tcb n t))) (room_named o tsn t)
+      ∙ (ap (λ (u : Tcb). fragment_if takes m is_immediate f u) (told_named o.avoid_stalls room t)
+      ∙ taken_if_named takes tsn is_immediate f (told_of_drop o.avoid_stalls room t)))
 
   -- ---- a forward point
 
@@ -176,8 +199,7 @@ module _ {P : Type 0} (n : Names) (pack : Packing P) where
   data_in_named Closed tsn is_immediate f c = refl
   data_in_named (CookieWait tag first t1) tsn is_immediate f c = refl
   data_in_named (Open phase t) tsn is_immediate f c =
-      ap (λ (b : Bool). open_endpoint_state n phase (fragment_if b (move_by n.peer tsn) is_immediate f (named_tcb n t)) (plain pack c)) (takes_named n tsn t)
-      ∙ ap (λ (u : Tcb). open_endpoint_state n phase u (plain pack c)) (taken_if_named n (accepts_tsn tsn t) tsn is_immediate f t)
+      ap (λ (u : Tcb). open_endpoint_state n phase u (plain pack c)) (take_data_named n c.options tsn is_immediate f t)
 
   -- a fragment with a payload
   pub named_data : (tsn : ℕ) (is_immediate : Bool) (f : FragmentTree) (s : EndpointState P) → (length f.payload == 0) ≡ false

@@ -17,7 +17,7 @@ use Rattle.spec_endpoint.specs.Packets.{add, packet_to, new_packet}
 use Rattle.spec_endpoint.specs.Sending.{is_before_cookie_ack, send_lost}
 use Rattle.spec_endpoint.specs.Shutdown.{on_shutdown, out_of_the_blue, on_shutdown_ack_open, on_shutdown_ack_in, on_shutdown_ack, on_shutdown_complete, abort_for_violation, on_abort, on_error, maybe_send_shutdown_or_ack}
 use Rattle.spec_endpoint.specs.Data.{on_no_data, no_data, on_data_in, on_data_if, on_data, on_forward}
-use Rattle.spec_endpoint.specs.Sack.{clean_blocks, sample_rtt, after_sack, on_sack_in, on_sack}
+use Rattle.spec_endpoint.specs.Sack.{clean_blocks, sample_rtt, after_sack, on_sack_in, on_sack, is_late, sampled_unless}
 use Rattle.spec_endpoint.specs.Sack as acks
 use Rattle.spec_endpoint.specs.Opening.{on_cookie_ack, with_endpoint_state, enter_connected}
 use Rattle.spec_endpoint.specs.StreamReset.{on_reconfig}
@@ -81,7 +81,7 @@ module _ {P : Type 0} where
       let m : ℕ = number_of t.sender.outstanding k.cumulative_tsn_ack in
       let bs : List GapAckBlock = clean_blocks k.gap_ack_blocks in
       let valid : Bool = is_valid m bs t.sender.outstanding.items in
-      received_stays (answer_if valid c.now m bs t.sender) phase (record t { sender = sender_if valid c.now m k.a_rwnd bs t.sender c.emitted }) (record c { emitted = emitted_if valid m bs t.sender c.emitted })
+      received_stays (sampled_unless (is_late c.options m t.sender.outstanding.items) (answer_if valid c.now m bs t.sender)) phase (record t { sender = sender_if valid c.now m k.a_rwnd bs t.sender c.emitted }) (record c { emitted = emitted_if valid m bs t.sender c.emitted })
 
   sack_stays : (k : SackTree) (s : EndpointState P) → (on_sack k s).context.pack ≡ s.context.pack
   sack_stays k s = sack_in_stays s.state k s.context

@@ -15,7 +15,6 @@ use Rattle.sctp_state.specs.RetransmissionTimeout.{rto}
 use Rattle.sctp_rx.specs.ReassemblyQueue.{Reassembly, Deferred, Waiting, Added, Forwarded, apply, apply_each, waiting_in, defer, reset}
 use Rattle.sctp_rx.specs.ReassemblyQueue as reassembly
 use Rattle.sctp_rx.specs.ReassemblyStreams as streams_of
-use Rattle.sctp_rx.specs.DataTracker as tracker
 use Rattle.spec_endpoint.specs.Association.{Tcb, Phase, Context, EndpointState, Packing}
 use Rattle.spec_endpoint.specs.Packets.{emit_event_in}
 use Rattle.spec_endpoint.specs.ResetRequests.{Request, Requests, nothing_to_do, performed, bad_number, in_progress, is_final, Outcome, Unsettled, Done, Denied, outcome_if, outcome, end_or_defer, response_if, handle_response_in, handle_response, is_last_request, is_next_request, is_known_request, next_number}

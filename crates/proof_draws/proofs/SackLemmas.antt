@@ -6,12 +6,12 @@ use Rattle.sctp_state.specs.Events.{Emitted}
 use Rattle.sctp_tx_outstanding.specs.OutstandingData.{number_of}
 use Rattle.sctp_tx_outstanding.specs.Sack.{is_valid}
 use Rattle.sctp_rx.specs.DataTracker as tracker
-use Rattle.sctp_tx.specs.RetransmissionQueue.{Sender, SackAnswer, Invalid, Valid, sender_if, emitted_if, answer_if, nothing_in_flight}
+use Rattle.sctp_tx.specs.RetransmissionQueue.{Sender, SackAnswer, Invalid, Valid, sender_if, emitted_if, answer_if}
 use Rattle.spec_endpoint.specs.Association.{Tcb, Phase, CookieEchoed, Established, ShutdownPending, ShutdownSent, ShutdownReceived, ShutdownAckSent, State, Closed, CookieWait, Open, Context, EndpointState, Packing}
 use Rattle.spec_endpoint.specs.Packets.{add, new_packet, emit_chunk}
 use Rattle.spec_endpoint.specs.Sending.{AfterSending, is_before_cookie_ack, open_with, send_buffered, send_lost}
-use Rattle.spec_endpoint.specs.Shutdown.{t2_shutdown, send_shutdown, PhaseStep, phase_step, pending_next, received_next, maybe_send_shutdown_or_ack}
-use Rattle.spec_endpoint.specs.Sack.{clean_blocks, sample_rtt, clear_errors_if, send_after, after_sack, on_clean_sack, on_sack_in, on_sack}
+use Rattle.spec_endpoint.specs.Shutdown.{t2_shutdown, send_shutdown, PhaseStep, phase_step, pending_next, received_next, maybe_send_shutdown_or_ack, is_quiet}
+use Rattle.spec_endpoint.specs.Sack.{clean_blocks, sample_rtt, clear_errors_if, send_after, after_sack, on_clean_sack, on_sack_in, on_sack, is_late, sampled_unless}
 use Rattle.spec_endpoint.specs.Sack as acks
 use Rattle.proof_draws.specs.NamedChunks.{Names, AreNames, flip, named_sack}
 use Rattle.proof_draws.specs.Names.{named_sender, named_phase, named_tcb, named_state, named_endpoint_state, plain}
@@ -37,9 +37,9 @@ module _ {P : Type 0} where
   pub go_on_stays : (phase : Phase) (t : Tcb) (c : Context P) → (maybe_send_shutdown_or_ack phase t c).context.pack ≡ c.pack
   go_on_stays (CookieEchoed t1 cookie) t c = refl
   go_on_stays Established t c = refl
-  go_on_stays ShutdownPending t c = pending_stays (nothing_in_flight t.sender.outstanding.items) t c
+  go_on_stays ShutdownPending t c = pending_stays (is_quiet t c) t c
   go_on_stays (ShutdownSent t2) t c = refl
-  go_on_stays ShutdownReceived t c = received_stays (nothing_in_flight t.sender.outstanding.items) t c
+  go_on_stays ShutdownReceived t c = received_stays (is_quiet t c) t c
   go_on_stays (ShutdownAckSent t2) t c = refl
 
 -- ---- what the items make of it
@@ -83,9 +83,9 @@ module _ {P : Type 0} (n : Names) (are : AreNames n) (pack : Packing P) where
   pub go_on_named : (phase : Phase) (t : Tcb) (c : Context P) → Knows n pack c → maybe_send_shutdown_or_ack (named_phase n phase) (named_tcb n t) (plain pack c) ≡ named_onward n pack (maybe_send_shutdown_or_ack phase t c)
   go_on_named (CookieEchoed t1 cookie) t c k = refl
   go_on_named Established t c k = refl
-  go_on_named ShutdownPending t c k = pending_named (nothing_in_flight t.sender.outstanding.items) t c k
+  go_on_named ShutdownPending t c k = pending_named (is_quiet t c) t c k
   go_on_named (ShutdownSent t2) t c k = refl
-  go_on_named ShutdownReceived t c k = received_named (nothing_in_flight t.sender.outstanding.items) t c k
+  go_on_named ShutdownReceived t c k = received_named (is_quiet t c) t c k
   go_on_named (ShutdownAckSent t2) t c k = refl
 
   send_after_named : (is_alone : Bool) (t : Tcb) (c : Context P) → Knows n pack c → send_after is_alone (named_tcb n t) (plain pack c) ≡ named_sent n pack (send_after is_alone t c)
@@ -111,12 +111,13 @@ module _ {P : Type 0} (n : Names) (are : AreNames n) (pack : Packing P) where
       → on_clean_sack m a_rwnd bs (named_phase n phase) (named_tcb n t) (plain pack c) ≡ named_endpoint_state n pack (on_clean_sack m a_rwnd bs phase t c)
   clean_sack_named m a_rwnd bs phase t c k =
       let valid : Bool = is_valid m bs t.sender.outstanding.items in
-      let a : SackAnswer = answer_if valid c.now m bs t.sender in
+      let late : Bool = is_late c.options m t.sender.outstanding.items in
+      let a : SackAnswer = sampled_unless late (answer_if valid c.now m bs t.sender) in
       let s : Sender = sender_if valid c.now m a_rwnd bs t.sender c.emitted in
       let u : Emitted P = emitted_if valid m bs t.sender c.emitted in
       let s' : Sender = named_sender n t.sender in
       let p : Phase = named_phase n phase in
-      ap (λ (x : SackAnswer). received_with x p (named_tcb n t) (plain pack c) (sender_if valid c.now m a_rwnd bs s' c.emitted) (emitted_if valid m bs s' c.emitted)) (answer_named n valid c.now m bs t.sender)
+      ap (λ (x : SackAnswer). received_with (sampled_unless late x) p (named_tcb n t) (plain pack c) (sender_if valid c.now m a_rwnd bs s' c.emitted) (emitted_if valid m bs s' c.emitted)) (answer_named n valid c.now m bs t.sender)
       ∙ (ap (λ (x : Sender). received_with a p (named_tcb n t) (plain pack c) x (emitted_if valid m bs s' c.emitted)) (sender_named n valid c.now m a_rwnd bs t.sender c.emitted)
       ∙ (ap (λ (x : Emitted P). received_with a p (named_tcb n t) (plain pack c) (named_sender n s) x) (emitted_named n valid m bs t.sender c.emitted)
       ∙ receives_named a phase (record t { sender = s }) (record c { emitted = u }) k))

@@ -31,10 +31,10 @@ use Rattle.spec_endpoint.specs.Opening.{init_of, init_ack_of, next_first, agreed
 use Rattle.spec_endpoint.specs.Calls.{shown_state, is_shutting_down, is_queue_full, send_refusal, queue_entry, accept}
 use Rattle.spec_endpoint.specs.Laws.{Call}
 use Rattle.proof_endpoint.specs.Mapped.{Carried}
-use Rattle.proof_endpoint.specs.Acts.{EndWithPacket, drawn_tag, drawn_first, drawn_tag_alone, PacketAct, begins, adds_plain, emits, emits_error, counts, before_packets, after_packets, OpeningAct, connects, adds_init, answers_new, answers_waiting, answers_echoed, answers_again, echoes, adds_cookie, establishes, opens, restarts, opens_again, maintains, adds_cookie_ack, before_opening, after_opening, ClosingAct, closes, shuts, shuts_on, before_closing, after_closing, DataAct, takes_data, takes_idata, takes_forward, takes_iforward, before_data, after_data, SackAct, takes_sack, samples, counts_errors, before_sack, after_sack, SendingAct, asks, adds_ack, expires, adds_forward, forwards_later, asks_no_reset, asks_reset, adds_request, sends, sends_fast, before_sending, after_sending, TimeAct, advances, delay_ends, times_out, beats, times_init, times_cookie, times_request, wakes_request, before_time, after_time, CallAct, accepts, refuses, takes_message, sets_low_threshold, sets_priority, sets_max_message_size, before_call, after_call, ResetAct, prepares, defers, performs, processes, takes_response, adds_responses, before_reset, after_reset, HandoverAct, leaves, takes_up, before_handover, after_handover, InputAct, ends_packet, before_input, after_input, point_of, BringsChunk, IsAsked, HasRequest, for_outgoing, for_incoming, IsSummedSo, always, as_held, as_asked, as_before, fragments_of, HasNoEnd, PreservesUntilEnd}
+use Rattle.proof_endpoint.specs.Acts.{EndWithPacket, drawn_tag, drawn_first, drawn_tag_alone, PacketAct, begins, adds_plain, emits, emits_error, counts, before_packets, after_packets, OpeningAct, connects, adds_init, answers_new, answers_waiting, answers_echoed, answers_again, echoes, adds_cookie, establishes, opens, restarts, opens_again, maintains, adds_cookie_ack, before_opening, after_opening, ClosingAct, closes, shuts, shuts_on, before_closing, after_closing, DataAct, takes_data, takes_idata, takes_forward, takes_iforward, before_data, after_data, SackAct, takes_sack, samples, counts_errors, before_sack, after_sack, SendingAct, asks, forces_ack, adds_ack, expires, adds_forward, forwards_later, asks_no_reset, asks_reset, adds_request, sends, sends_fast, before_sending, after_sending, TimeAct, advances, delay_ends, times_out, beats, times_init, times_cookie, times_request, times_items, wakes_request, before_time, after_time, CallAct, accepts, refuses, takes_message, sets_low_threshold, sets_priority, sets_max_message_size, before_call, after_call, ResetAct, prepares, defers, performs, processes, takes_response, adds_responses, before_reset, after_reset, HandoverAct, leaves, takes_up, before_handover, after_handover, InputAct, ends_packet, before_input, after_input, point_of, BringsChunk, IsAsked, HasRequest, for_outgoing, for_incoming, IsSummedSo, always, as_held, as_asked, as_before, fragments_of, HasNoEnd, PreservesUntilEnd}
 use Rattle.proof_pair.specs.Trace.{as_carried, packets_in}
 use Rattle.proof_pair.proofs.EmittedLemmas.{EmitsNoPacketOrStatus}
-use Rattle.proof_pair.proofs.UntilLemmas.{sack_act_emits_no_packet_or_status, sending_act_emits_no_packet_or_status, time_act_emits_no_packet_or_status, call_act_emits_no_packet_or_status, reset_act_emits_no_packet_or_status, no_end}
+use Rattle.proof_pair.proofs.UntilLemmas.{sack_act_emits_no_packet_or_status, sending_act_emits_no_packet_or_status, time_act_emits_no_packet_or_status, call_act_emits_no_packet_or_status, reset_act_emits_no_packet_or_status, no_end, no_end_over}
 use Rattle.proof_pair.proofs.JoinLemmas.{view_of, IsInit, Can}
 use Rattle.proof_pair.proofs.JoinActsLemmas.{packets_both, no_packet_or_status_has_no_packets, Setting, InvAt}
 use Rattle.proof_pair.proofs.JoinKeepsLemmas.{Rules, init_said, same_verdict, no_restart, no_again}
@@ -187,7 +187,7 @@ module _ (g : Setting) (call : Call) (r : Rules g call) (receives : (tag : ℕ) 
   w_opening (establishes tag t1 cookie t m received) inv next h = (h.0, h.1, h.2, h.3, connected_said m h.4)
   w_opening (opens tag k m echoed none own) inv next h = (
     (new_numbers m.context.options k.my_initial_tsn k.peer_initial_tsn next.stands.draw.first, tt),
-    rests_for false (negotiate m.context.options k.peer_capabilities).message_interleaving m.context.queue h.1,
+    rests_for m.context.options.avoid_stalls (negotiate m.context.options k.peer_capabilities).message_interleaving m.context.queue h.1,
     h.2,
     h.3,
     connected_said m h.4,
@@ -200,7 +200,7 @@ module _ (g : Setting) (call : Call) (r : Rules g call) (receives : (tag : ℕ) 
   -- ---- closing
 
   w_closing : (act : ClosingAct Carried call) → HasNoEnd (after_closing act) → WholeAt (before_closing act) → WholeAt (after_closing act)
-  w_closing (closes e m there is) none h = absurd (no_end m (after_closing {call = call} (closes e m there is)) e refl is none)
+  w_closing (closes e m there is) none h = absurd (no_end_over e m is none)
   w_closing (shuts phase t m is early) none h = h
   w_closing (shuts_on phase next t m late later) none h = h
 
@@ -228,6 +228,7 @@ module _ (g : Setting) (call : Call) (r : Rules g call) (receives : (tag : ℕ) 
 
   w_sending : (act : SendingAct Carried call) → WholeAt (before_sending act) → WholeAt (after_sending act)
   w_sending (asks also_if_delayed phase t m) h = h
+  w_sending (forces_ack phase t m) h = h
   w_sending (adds_ack phase t m) h = whole_added method (Open phase t) m.context.queue m.context.emitted.events (selective_ack t) m.packet refl h
   w_sending (expires phase t m) h =
       let act : SendingAct Carried call = expires phase t m in (
@@ -284,6 +285,7 @@ module _ (g : Setting) (call : Call) (r : Rules g call) (receives : (tag : ℕ) 
   w_time (times_init tag first old new m) h = h
   w_time (times_cookie old new cookie t m) h = h
   w_time (times_request timer phase t m) h = ((record { next = h.0.0.next; current = h.0.0.current; last = h.0.0.last }, h.0.1), h.1, h.2, h.3, h.4)
+  w_time (times_items timer phase t m) h = h
   w_time (wakes_request phase t m) h = ((woken_fits t.requests h.0.0, h.0.1), h.1, h.2, h.3, h.4)
 
   -- ---- calls

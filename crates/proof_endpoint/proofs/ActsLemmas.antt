@@ -15,13 +15,13 @@ use Rattle.spec_endpoint.specs.Sending.{take_due_ack, without_duplicates, select
 use Rattle.spec_endpoint.specs.Shutdown.{abort_for_violation, on_abort, on_error, on_shutdown, on_shutdown_complete}
 use Rattle.spec_endpoint.specs.Opening.{on_cookie_ack}
 use Rattle.spec_endpoint.specs.StreamReset.{on_reconfig}
-use Rattle.spec_endpoint.specs.Input.{packet_refusal, is_reported, unrecognized_chunk_error, report_unrecognized_in, emit_unknown_chunk_error, on_unknown_if, on_heartbeat, AfterChunk, in_endpoint_state, on_chunk, violation, received_if, receive, receive_rest, receive_all, has_data_chunk, repeats, repeats_if, ack_if_due, at_end, on_packet_end, on_accepted_packet, count_packet_at as counts_row, packet_if, on_packet, on_no_packet}
+use Rattle.spec_endpoint.specs.Input.{packet_refusal, is_reported, unrecognized_chunk_error, report_unrecognized_in, emit_unknown_chunk_error, on_unknown_if, on_heartbeat, AfterChunk, in_endpoint_state, on_chunk, violation, received_if, receive, receive_rest, receive_all, has_data_chunk, repeats, repeats_if, ack_if_due, at_end, on_packet_end, on_accepted_packet, count_packet_at as counts_row, packet_if, on_packet, on_no_packet, packet_acked, shut_waiting, shut_if}
 use Rattle.spec_endpoint.specs.Laws.{Call, Connect, Close, Shutdown, Send, SendMany, ResetStreams, TakeMessage, SetLowThreshold, SetPriority, SetMaxMessageSize, Advance, HandOver, Restore, ReceivePacket as Given, ReceiveNoPacket, called}
 use Rattle.proof_endpoint.specs.Acts.{EndWithPacket, at, idle, calm, BringsChunk, counts, asks, adds_ack, beats, counts_errors, shuts_on, ends_packet, Preserves}
 use Rattle.proof_endpoint.proofs.BundledLemmas.{first_more}
 use Rattle.proof_endpoint.proofs.OwnChunksLemmas.{fair_error, reason_is_text}
 use Rattle.proof_endpoint.proofs.PacketActsLemmas.{does_begin_new, does_chunk, does_emit_error, does_send_with}
-use Rattle.proof_endpoint.proofs.RowActsLemmas.{placed, OpenActs, does_where_open, does_send_shutdown, does_close, does_shutdown, does_shut_by_peer, does_shutdown_ack, does_shutdown_complete, does_abort_for_violation, does_abort, does_error, does_data_chunk, does_idata_chunk, does_forward_chunk, does_iforward_chunk, does_sack}
+use Rattle.proof_endpoint.proofs.RowActsLemmas.{placed, OpenActs, does_where_open, does_send_shutdown, does_close, does_shutdown, does_shut_by_peer, does_shutdown_ack, does_shutdown_complete, does_abort_for_violation, does_abort, does_error, does_data_chunk, does_idata_chunk, does_forward_chunk, does_iforward_chunk, does_sack, does_on}
 use Rattle.proof_endpoint.proofs.OpeningActsLemmas.{does_connect, does_init, does_init_ack, does_cookie_ack, does_cookie_echo}
 use Rattle.proof_endpoint.proofs.TimeActsLemmas.{does_advance}
 use Rattle.proof_endpoint.proofs.CallActsLemmas.{does_send, does_send_many, does_low_threshold, does_priority, does_max_message_size, does_take_message, does_reconfig, does_reset_streams, does_hand_over, does_restore}
@@ -141,11 +141,18 @@ module _ {P : Type 0} {call : Call} {R : EndWithPacket P → EndWithPacket P →
       (does_send_with k phase w (is_before_cookie_ack phase) (add (selective_ack t) p) (without_duplicates t) c (first_more (selective_ack t) p refl refl)))
   does_ended_if false phase t c w = k.same (idle (Open phase t) c w)
 
-  pub does_ended : (w : Stream) → OpenActs R w on_packet_end
-  does_ended w phase t c =
+  does_acked : (w : Stream) → OpenActs R w packet_acked
+  does_acked w phase t c =
       let u : Tcb = at_end c.now t in
       k.through (k.input (ends_packet phase t (idle (Open phase t) c w)))
       (k.through (k.sending (asks false phase u (idle (Open phase u) c w))) (does_ended_if (is_ack_due false u.tracker.tracker.ack) phase (take_due_ack false u) c w))
+
+  does_shut_if : (b : Bool) (s : EndpointState P) (w : Stream) → R (placed s w) (placed (shut_if b s) w)
+  does_shut_if true s w = does_where_open k w shut_waiting s (does_on k w)
+  does_shut_if false s w = k.same (placed s w)
+
+  pub does_ended : (w : Stream) → OpenActs R w on_packet_end
+  does_ended w phase t c = k.through (does_acked w phase t c) (does_shut_if c.options.avoid_stalls (packet_acked phase t c) w)
 
   -- ---- packets
 

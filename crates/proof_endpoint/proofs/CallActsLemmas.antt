@@ -22,12 +22,14 @@ use Rattle.sctp_state.specs.Validity.{is_valid_state}
 use Rattle.spec_endpoint.specs.Association.{Tcb, Phase, Established, State, Closed, CookieWait, Open, Context, EndpointState, with_context}
 use Rattle.spec_endpoint.specs.Packets.{PacketDraft, add, new_packet, emit_event_in}
 use Rattle.spec_endpoint.specs.ResetRequests.{Request, Requests, performed, nothing_to_do, bad_number, in_progress, is_final, next_number, is_last_request, is_next_request, is_known_request, set_last_request, end_or_defer, response_if, handle_response_in, handle_response}
-use Rattle.spec_endpoint.specs.Sending.{is_before_cookie_ack, send_in}
-use Rattle.spec_endpoint.specs.Calls.{shown_state, send_refusal, send_refusal_of, offered, offer, sent_if, send, offer_all, send_many, set_low_threshold, set_priority, set_max_message_size, without_first_message_in, take_message}
+use Rattle.spec_endpoint.specs.Sending.{AfterSending, is_before_cookie_ack, send_in}
+use Rattle.spec_endpoint.specs.Calls.{shown_state, send_refusal, send_refusal_of, offered, offer, sent_if, send, offer_all, send_many, set_low_threshold, set_priority, set_max_message_size, take_message, message_taken_in, opens_window, told_if, without_first_message}
 use Rattle.spec_endpoint.specs.StreamReset.{Handling, handling, is_ahead, resets_if, resets, outgoing_by, on_outgoing, incoming_if, is_outgoing, on_parameter, HandledParameters, handle_next, handle_all, send_responses, finish_reconfig_if, on_reconfig, unless_supported, reset_refusal, prepare_reset_stream, prepare_all, reset_if, reset_streams}
-use Rattle.spec_endpoint.specs.Handover.{readiness, left_in, left_if, hand_over, tcb_from, queue_restored, take_up, invalid_unless, restore_refusal_in, restored_as, restored_unless, restore}
+use Rattle.spec_endpoint.specs.Handover.{readiness, left_in, left_if, hand_over, tcb_from, queue_restored, take_up, invalid_unless, restore_refusal_in, restored_as, restored_unless, restore, woken_if}
 use Rattle.spec_endpoint.specs.Laws.{Call, SendMany, ResetStreams, TakeMessage, SetLowThreshold, SetPriority, SetMaxMessageSize, HandOver, Restore, Send}
-use Rattle.proof_endpoint.specs.Acts.{EndWithPacket, at, idle, BringsChunk, IsOffered, alone, among, IsReset, IsAsked, is_response, all_along, HasRequest, for_outgoing, for_incoming, AsksNoIncoming, IsDue, IsAnswer, Answers, accepts, refuses, takes_message, sets_low_threshold, sets_priority, sets_max_message_size, prepares, defers, performs, processes, takes_response, adds_responses, leaves, takes_up, Preserves}
+use Rattle.spec_endpoint.specs.Heartbeats.{restart_interval}
+use Rattle.sctp_tx.specs.RetransmissionQueue.{Sender, wake}
+use Rattle.proof_endpoint.specs.Acts.{EndWithPacket, at, idle, BringsChunk, IsOffered, alone, among, IsReset, IsAsked, is_response, all_along, HasRequest, for_outgoing, for_incoming, AsksNoIncoming, IsDue, IsAnswer, Answers, accepts, refuses, takes_message, sets_low_threshold, sets_priority, sets_max_message_size, prepares, defers, performs, processes, takes_response, adds_responses, leaves, takes_up, Preserves, forces_ack, times_items, beats}
 use Rattle.proof_endpoint.proofs.BundledLemmas.{first_more}
 use Rattle.proof_endpoint.proofs.PacketActsLemmas.{does_out, does_begin_new, does_emit_error, does_send_buffered}
 use Rattle.proof_endpoint.proofs.RowActsLemmas.{placed, OpenActs, does_where_open}
@@ -85,10 +87,16 @@ module _ {P : Type 0} {call : Call} {R : EndWithPacket P → EndWithPacket P →
       → R (placed s w) (placed (with_context s (set_max_message_size bytes s.context)) w)
   does_max_message_size bytes s is = k.calls (sets_max_message_size bytes (placed s w) is)
 
-  does_taken_in : (s : State) (c : Context P) → call ≡ TakeMessage → R (idle s c w) (idle (without_first_message_in s) c w)
+  does_told : (b : Bool) (phase : Phase) (t : Tcb) (c : Context P) → R (idle (Open phase t) c w) (idle (Open phase (told_if b t)) c w)
+  does_told true phase t c = k.sending (forces_ack phase t (idle (Open phase t) c w))
+  does_told false phase t c = k.same (idle (Open phase t) c w)
+
+  does_taken_in : (s : State) (c : Context P) → call ≡ TakeMessage → R (idle s c w) (idle (message_taken_in c.options s) c w)
   does_taken_in Closed c is = k.same (idle Closed c w)
   does_taken_in (CookieWait tag first t1) c is = k.same (idle (CookieWait tag first t1) c w)
-  does_taken_in (Open phase t) c is = k.calls (takes_message phase t (idle (Open phase t) c w) is)
+  does_taken_in (Open phase t) c is =
+      let u : Tcb = without_first_message t in
+      k.through (k.calls (takes_message phase t (idle (Open phase t) c w) is)) (does_told (opens_window c.options t.reassembly u.reassembly) phase u c)
 
   pub does_take_message : (s : EndpointState P) → call ≡ TakeMessage → R (placed s w) (placed (take_message s) w)
   does_take_message s is = does_taken_in s.state s.context is
@@ -349,10 +357,21 @@ module _ {P : Type 0} {call : Call} {R : EndWithPacket P → EndWithPacket P →
   pub does_hand_over : (s : EndpointState P) → call ≡ HandOver → R (placed s w) (placed (hand_over s) w)
   does_hand_over s is = does_left_if (readiness s == 0) s is
 
+  -- the timers start behind the event that says that the association goes on
+  does_woken : (b : Bool) (t : Tcb) (c : Context P)
+      → R (idle (Open Established t) (emit_event_in OnConnected c) w) (idle (Open Established (woken_if b t c).tcb) (emit_event_in OnConnected (woken_if b t c).context) w)
+  does_woken true t c =
+      let s : Sender = wake c.now t.sender in
+      k.through (k.time (times_items s.t3 Established t (idle (Open Established t) (emit_event_in OnConnected c) w)))
+      (k.time (beats (restart_interval c.now c.heartbeats) (idle (Open Established (record t { sender = s })) (emit_event_in OnConnected c) w)))
+  does_woken false t c = k.same (idle (Open Established t) (emit_event_in OnConnected c) w)
+
   does_take_up : (h : HandoverState) (c : Context P) → call ≡ Restore h → is_valid_state h ≡ true → R (idle Closed c w) (placed (take_up h c) w)
   does_take_up h c is valid =
+      let x : AfterSending P = woken_if c.options.avoid_stalls (tcb_from c.now c.options h) (queue_restored h c) in
       k.through (k.handover (takes_up h (idle Closed c w) is valid))
-      (does_send_buffered k Established w false (tcb_from c.now c.options h) (emit_event_in OnConnected (queue_restored h c)))
+      (k.through (does_woken c.options.avoid_stalls (tcb_from c.now c.options h) (queue_restored h c))
+      (does_send_buffered k Established w false x.tcb (emit_event_in OnConnected x.context)))
 
   does_taken_as : (how : HandoverSocketState) (h : HandoverState) (c : Context P) → call ≡ Restore h → is_valid_state h ≡ true
       → R (idle Closed c w) (placed (restored_as how h (record { state = Closed; context = c })) w)

@@ -7,7 +7,7 @@ use Rattle.sctp_state.specs.Options.{SendOptions}
 use Rattle.sctp_state.specs.Events.{Event}
 use Rattle.spec_endpoint.specs.Association.{State, Closed, CookieWait, Open, Context, EndpointState, with_context}
 use Rattle.spec_endpoint.specs.Sending.{is_before_cookie_ack, send_in}
-use Rattle.spec_endpoint.specs.Calls.{shown_state, send_refusal, send_refusal_of, refusal_events, lifecycle_end_events, refuse, accept, offered, offer, sent_if, send, offer_all, send_many, set_low_threshold, set_priority, set_max_message_size, without_first_message_in, take_message}
+use Rattle.spec_endpoint.specs.Calls.{shown_state, send_refusal, send_refusal_of, refusal_events, lifecycle_end_events, refuse, accept, offered, offer, sent_if, send, offer_all, send_many, set_low_threshold, set_priority, set_max_message_size, take_message, message_taken_in}
 use Rattle.spec_endpoint.specs.Laws.{ends}
 use Rattle.proof_endpoint.proofs.StepsLemmas.{most_bytes, Goes, Steps}
 use Rattle.proof_endpoint.proofs.EmitsLemmas.{quiet_both, emits_all, emits_threshold, quiet_end, quiet_refusal}
@@ -69,7 +69,7 @@ module _ {P : Type 0} where
   pub steps_max_message_size : (n : ℕ) (s : EndpointState P) → Steps s (with_context s (set_max_message_size n s.context))
   steps_max_message_size n s = steps_context s (set_max_message_size n s.context) (goes_silent s.context (set_max_message_size n s.context) refl refl refl)
 
-  steps_taken : (st : State) (c : Context P) → Goes (ends st (without_first_message_in st)) c c
+  steps_taken : (st : State) (c : Context P) → Goes (ends st (message_taken_in c.options st)) c c
   steps_taken Closed c = goes_same c
   steps_taken (CookieWait tag first t1) c = goes_same c
   steps_taken (Open phase t) c = goes_same c

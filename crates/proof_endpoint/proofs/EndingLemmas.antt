@@ -6,8 +6,9 @@ use Rattle.sctp_packet.specs.Packet.{PacketTree}
 use Rattle.sctp_rx.specs.DataTracker.{is_ack_due}
 use Rattle.spec_endpoint.specs.Association.{Tcb, Phase, CookieEchoed, Established, ShutdownPending, ShutdownSent, ShutdownReceived, ShutdownAckSent, State, Closed, CookieWait, Open, Context, EndpointState, Endpoint, where_open}
 use Rattle.spec_endpoint.specs.Sending.{take_due_ack}
-use Rattle.spec_endpoint.specs.Input.{packet_refusal, AfterChunk, receive, receive_rest, receive_all, has_data_chunk, repeats, repeats_if, ack_if_due, at_end, on_packet_end, in_endpoint_state, on_accepted_packet, count_packet_at, packet_if, on_packet}
+use Rattle.spec_endpoint.specs.Input.{packet_refusal, AfterChunk, receive, receive_rest, receive_all, has_data_chunk, repeats, repeats_if, ack_if_due, at_end, on_packet_end, in_endpoint_state, on_accepted_packet, count_packet_at, packet_if, on_packet, packet_acked, shut_waiting, shut_if}
 use Rattle.spec_endpoint.specs.Laws.{Call, Connect, Close, Shutdown, Send, SendMany, TakeMessage, SetLowThreshold, SetPriority, SetMaxMessageSize, Advance, HandOver, Restore, ReceivePacket, ReceiveNoPacket, called, is_closed, ends, endings_after, endings_by, endings_unless, endings_in, endings_in_call, ResetStreams}
+use Rattle.spec_endpoint.specs.Shutdown.{}
 
 one_ends : (s t : State) → is_closed s ≡ false → is_closed t ≡ true → 1 ≤ ends s t
 one_ends Closed t e f = absurd (both_ways true e refl)
@@ -46,8 +47,18 @@ module _ {P : Type 0} where
   open_ended_if true phase t c = refl
   open_ended_if false phase t c = refl
 
+  open_acked : (phase : Phase) (t : Tcb) (c : Context P) → is_closed (packet_acked phase t c).state ≡ false
+  open_acked phase t c = open_ended_if (is_ack_due false (at_end c.now t).tracker.tracker.ack) phase (take_due_ack false (at_end c.now t)) c
+
+  open_shut : (phase : Phase) (t : Tcb) (c : Context P) → is_closed (shut_waiting phase t c).state ≡ false
+  open_shut phase t c = refl
+
+  same_shut : (b : Bool) (s : EndpointState P) → is_closed (shut_if b s).state ≡ is_closed s.state
+  same_shut true s = stays_open shut_waiting s open_shut
+  same_shut false s = refl
+
   open_ended : (phase : Phase) (t : Tcb) (c : Context P) → is_closed (on_packet_end phase t c).state ≡ false
-  open_ended phase t c = open_ended_if (is_ack_due false (at_end c.now t).tracker.tracker.ack) phase (take_due_ack false (at_end c.now t)) c
+  open_ended phase t c = same_shut c.options.avoid_stalls (packet_acked phase t c) ∙ open_acked phase t c
 
   -- ---- the chunks
 

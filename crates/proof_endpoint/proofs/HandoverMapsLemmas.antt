@@ -8,9 +8,9 @@ use Rattle.sctp_state.specs.Handover.{HandoverState}
 use Rattle.spec_endpoint.specs.Association.{Tcb, Phase, CookieEchoed, Established, ShutdownPending, ShutdownSent, ShutdownReceived, ShutdownAckSent, State, Closed, CookieWait, Open, Context, EndpointState}
 use Rattle.spec_endpoint.specs.Packets.{emit_event_in}
 use Rattle.spec_endpoint.specs.Sending.{AfterSending, open_with, send_buffered}
-use Rattle.spec_endpoint.specs.Handover.{readiness_open, readiness, left_in, left_if, hand_over, tcb_from, queue_restored, take_up, restore_refusal_in, restored_as, restored_unless, restore}
+use Rattle.spec_endpoint.specs.Handover.{readiness_open, readiness, left_in, left_if, hand_over, tcb_from, queue_restored, take_up, restore_refusal_in, restored_as, restored_unless, restore, woken_if, goes_on}
 use Rattle.proof_endpoint.specs.Mapped.{Mapping, map_context, map_endpoint_state}
-use Rattle.proof_endpoint.proofs.SendingMapsLemmas.{maps_say, maps_send_buffered}
+use Rattle.proof_endpoint.proofs.SendingMapsLemmas.{map_sent, maps_say, maps_send_buffered}
 use Rattle.proof_endpoint.proofs.RowMapsLemmas.{maps_in_state}
 
 module _ {P Q : Type 0} (f : Mapping P Q) where
@@ -41,12 +41,16 @@ module _ {P Q : Type 0} (f : Mapping P Q) where
   maps_hand_over s =
       ap (λ (b : Bool). left_if b (map_endpoint_state f s)) (ap (λ (n : ℕ). n == 0) (maps_readiness_in s.state s.context)) ∙ maps_left_if (readiness s == 0) s
 
+  maps_woken : (b : Bool) (t : Tcb) (c : Context P) → woken_if b t (map_context f c) ≡ map_sent f (woken_if b t c)
+  maps_woken true t c = refl
+  maps_woken false t c = refl
+
   maps_take_up : (h : HandoverState) (c : Context P) → take_up h (map_context f c) ≡ map_endpoint_state f (take_up h c)
   maps_take_up h c =
-      let d : Context P = queue_restored h c in
-      let t : Tcb = tcb_from c.now c.options h in
-      ap (λ (e : Context Q). open_with Established (send_buffered false t e)) (maps_say f OnConnected d)
-      ∙ ap (λ (x : AfterSending Q). open_with Established x) (maps_send_buffered f false t (emit_event_in OnConnected d))
+      let x : AfterSending P = woken_if c.options.avoid_stalls (tcb_from c.now c.options h) (queue_restored h c) in
+      ap (λ (y : AfterSending Q). goes_on y) (maps_woken c.options.avoid_stalls (tcb_from c.now c.options h) (queue_restored h c))
+      ∙ (ap (λ (e : Context Q). open_with Established (send_buffered false x.tcb e)) (maps_say f OnConnected x.context)
+      ∙ ap (λ (y : AfterSending Q). open_with Established y) (maps_send_buffered f false x.tcb (emit_event_in OnConnected x.context)))
 
   maps_taken_as : (how : HandoverSocketState) (h : HandoverState) (s : EndpointState P) → restored_as how h (map_endpoint_state f s) ≡ map_endpoint_state f (restored_as how h s)
   maps_taken_as handed.Closed h s = refl

@@ -7,7 +7,8 @@ use Rattle.sctp_state.specs.Events.{OnConnected, OnClosed}
 use Rattle.sctp_state.specs.Handover.{HandoverState}
 use Rattle.spec_endpoint.specs.Association.{Tcb, State, Closed, CookieWait, Open, Context, EndpointState}
 use Rattle.spec_endpoint.specs.Packets.{emit_event_in}
-use Rattle.spec_endpoint.specs.Handover.{readiness, left_in, left_if, hand_over, tcb_from, queue_restored, take_up, restore_refusal_in, restored_as, restored_unless, restore}
+use Rattle.spec_endpoint.specs.Handover.{readiness, left_in, left_if, hand_over, tcb_from, queue_restored, take_up, restore_refusal_in, restored_as, restored_unless, restore, woken_if}
+use Rattle.spec_endpoint.specs.Sending.{AfterSending}
 use Rattle.proof_endpoint.proofs.StepsLemmas.{Goes, Steps}
 use Rattle.proof_endpoint.proofs.GoesLemmas.{goes_silent, goes_same, goes_then, goes_said}
 use Rattle.proof_endpoint.proofs.SendingStepsLemmas.{goes_send_buffered}
@@ -26,13 +27,18 @@ module _ {P : Type 0} where
   pub steps_hand_over : (s : EndpointState P) → Steps s (hand_over s)
   steps_hand_over s = steps_left_if (readiness s == 0) s
 
+  goes_woken : (b : Bool) (t : Tcb) (c : Context P) → Goes 0 c (woken_if b t c).context
+  goes_woken true t c = goes_silent c (woken_if true t c).context refl refl refl
+  goes_woken false t c = goes_same c
+
   goes_take_up : (h : HandoverState) (c : Context P) → Goes 0 c (take_up h c).context
   goes_take_up h c =
       let d : Context P = queue_restored h c in
-      let e : Context P = emit_event_in OnConnected d in
-      let t : Tcb = tcb_from c.now c.options h in
+      let x : AfterSending P = woken_if c.options.avoid_stalls (tcb_from c.now c.options h) d in
+      let e : Context P = emit_event_in OnConnected x.context in
       goes_then 0 c d (take_up h c).context (goes_silent c d refl refl refl)
-      (goes_then 0 d e (take_up h c).context (goes_said 0 d e OnConnected refl refl refl tt refl) (goes_send_buffered e false t))
+      (goes_then 0 d x.context (take_up h c).context (goes_woken c.options.avoid_stalls (tcb_from c.now c.options h) d)
+      (goes_then 0 x.context e (take_up h c).context (goes_said 0 x.context e OnConnected refl refl refl tt refl) (goes_send_buffered e false x.tcb)))
 
   steps_taken_as : (how : HandoverSocketState) (h : HandoverState) (s : EndpointState P) → Steps s (restored_as how h s)
   steps_taken_as handed.Closed h s = steps_same s

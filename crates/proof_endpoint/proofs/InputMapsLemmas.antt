@@ -10,15 +10,15 @@ use Rattle.spec_endpoint.specs.Association.{Tcb, Phase, CookieEchoed, Establishe
 use Rattle.spec_endpoint.specs.Heartbeats.{info_in, clear_if_last, is_last_info, no_info, ack_by_length, on_heartbeat_info, on_heartbeat_ack}
 use Rattle.spec_endpoint.specs.Packets.{add, new_packet, emit_chunk}
 use Rattle.spec_endpoint.specs.Sending.{AfterSending, take_due_ack, without_duplicates, selective_ack, is_before_cookie_ack, open_with}
-use Rattle.spec_endpoint.specs.Shutdown.{send_shutdown, abort_for_violation, on_abort, on_error, on_shutdown, on_shutdown_ack, on_shutdown_complete}
+use Rattle.spec_endpoint.specs.Shutdown.{send_shutdown, abort_for_violation, on_abort, on_error, on_shutdown, on_shutdown_ack, on_shutdown_complete, PhaseStep, open_phase_step}
 use Rattle.spec_endpoint.specs.Data.{on_data, on_forward}
 use Rattle.spec_endpoint.specs.Sack.{on_sack}
 use Rattle.spec_endpoint.specs.Opening.{on_cookie_ack}
 use Rattle.spec_endpoint.specs.StreamReset.{on_reconfig}
-use Rattle.spec_endpoint.specs.Input.{packet_refusal, is_reported, unrecognized_chunk_error, report_unrecognized_in, emit_unknown_chunk_error, on_unknown_if, on_unknown, on_heartbeat, AfterChunk, in_endpoint_state, on_chunk, allows_next, violation, received_if, receive, receive_rest, receive_all, has_data_chunk, repeats, repeats_if, ack_if_due, at_end, on_packet_end, on_accepted_packet, count_packet_at, packet_if, on_packet, on_no_packet}
+use Rattle.spec_endpoint.specs.Input.{packet_refusal, is_reported, unrecognized_chunk_error, report_unrecognized_in, emit_unknown_chunk_error, on_unknown_if, on_unknown, on_heartbeat, AfterChunk, in_endpoint_state, on_chunk, allows_next, violation, received_if, receive, receive_rest, receive_all, has_data_chunk, repeats, repeats_if, ack_if_due, at_end, on_packet_end, on_accepted_packet, count_packet_at, packet_if, on_packet, on_no_packet, packet_acked, shut_waiting, shut_if}
 use Rattle.proof_endpoint.specs.Mapped.{Mapping, map_context, map_endpoint_state, map_end}
 use Rattle.proof_endpoint.proofs.SendingMapsLemmas.{maps_emit_error, maps_emit_chunk, maps_send_with}
-use Rattle.proof_endpoint.proofs.RowMapsLemmas.{OpenMaps, maps_where_open, maps_in_state, maps_send_shutdown, maps_on_shutdown, maps_shutdown_ack, maps_shutdown_complete, maps_abort_for_violation, maps_on_abort, maps_on_error, maps_data, maps_forward, maps_on_sack}
+use Rattle.proof_endpoint.proofs.RowMapsLemmas.{OpenMaps, maps_where_open, maps_in_state, maps_send_shutdown, maps_on_shutdown, maps_shutdown_ack, maps_shutdown_complete, maps_abort_for_violation, maps_on_abort, maps_on_error, maps_data, maps_forward, maps_on_sack, maps_go_on}
 use Rattle.proof_endpoint.proofs.ResetMapsLemmas.{maps_reconfig}
 use Rattle.proof_endpoint.proofs.OpeningMapsLemmas.{maps_stands, maps_init, maps_init_ack, maps_cookie_ack, maps_cookie_echo, maps_emit_parse_error}
 
@@ -145,10 +145,21 @@ module _ {P Q : Type 0} (f : Mapping P Q) where
       ap (λ (x : AfterSending Q). open_with phase x) (maps_send_with f (is_before_cookie_ack phase) (add (selective_ack t) (new_packet c.options t)) (without_duplicates t) c)
   maps_ended_if false phase t c = refl
 
-  maps_ended : OpenMaps f on_packet_end on_packet_end
-  maps_ended phase t c =
+  maps_acked : OpenMaps f packet_acked packet_acked
+  maps_acked phase t c =
       let u : Tcb = at_end c.now t in
       maps_ended_if (is_ack_due false u.tracker.tracker.ack) phase (take_due_ack false u) c
+
+  maps_shut_waiting : OpenMaps f shut_waiting shut_waiting
+  maps_shut_waiting phase t c = ap (λ (o : PhaseStep Q). open_phase_step t o) (maps_go_on f phase t c)
+
+  maps_shut_if : (b : Bool) (s : EndpointState P) → shut_if b (map_endpoint_state f s) ≡ map_endpoint_state f (shut_if b s)
+  maps_shut_if true s = maps_where_open f shut_waiting shut_waiting s maps_shut_waiting
+  maps_shut_if false s = refl
+
+  maps_ended : OpenMaps f on_packet_end on_packet_end
+  maps_ended phase t c =
+      ap (λ (s : EndpointState Q). shut_if c.options.avoid_stalls s) (maps_acked phase t c) ∙ maps_shut_if c.options.avoid_stalls (packet_acked phase t c)
 
   maps_handled : (tag : ℕ) (chunks : List ChunkTree) (s : Endpoint P) → on_accepted_packet tag chunks (map_end f s) ≡ map_end f (on_accepted_packet tag chunks s)
   maps_handled tag chunks s =

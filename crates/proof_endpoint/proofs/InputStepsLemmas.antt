@@ -13,12 +13,12 @@ use Rattle.spec_endpoint.specs.Sending.{take_due_ack, without_duplicates, select
 use Rattle.spec_endpoint.specs.Shutdown.{abort_for_violation, on_abort, on_error, on_shutdown, on_shutdown_complete}
 use Rattle.spec_endpoint.specs.Opening.{on_cookie_ack}
 use Rattle.spec_endpoint.specs.StreamReset.{on_reconfig}
-use Rattle.spec_endpoint.specs.Input.{packet_refusal, is_reported, unrecognized_chunk_error, report_unrecognized_in, emit_unknown_chunk_error, on_unknown_if, on_unknown, on_heartbeat, AfterChunk, in_endpoint_state, on_chunk, violation, received_if, receive, receive_rest, receive_all, has_data_chunk, repeats, repeats_if, ack_if_due, at_end, on_packet_end, on_accepted_packet, count_packet, count_packet_at, packet_if, on_packet, on_no_packet}
+use Rattle.spec_endpoint.specs.Input.{packet_refusal, is_reported, unrecognized_chunk_error, report_unrecognized_in, emit_unknown_chunk_error, on_unknown_if, on_unknown, on_heartbeat, AfterChunk, in_endpoint_state, on_chunk, violation, received_if, receive, receive_rest, receive_all, has_data_chunk, repeats, repeats_if, ack_if_due, at_end, on_packet_end, on_accepted_packet, count_packet, count_packet_at, packet_if, on_packet, on_no_packet, packet_acked, shut_waiting, shut_if}
 use Rattle.spec_endpoint.specs.Laws.{ends, endings_after, endings_by, endings_unless, endings_in}
 use Rattle.proof_endpoint.proofs.StepsLemmas.{most_bytes, Goes, Steps, EndSteps}
 use Rattle.proof_endpoint.proofs.GoesLemmas.{small_add, small_new, goes_silent, goes_same, goes_through, goes_then, goes_last, goes_emit_error, goes_emit_chunk}
 use Rattle.proof_endpoint.proofs.SendingStepsLemmas.{goes_send_with}
-use Rattle.proof_endpoint.proofs.RowStepsLemmas.{OpenSteps, steps_context, steps_same, steps_where_open, goes_send_shutdown, steps_abort_for_violation, steps_abort, steps_error, steps_data, steps_forward, steps_sack, steps_shut_by_peer, steps_shutdown_ack, steps_shutdown_complete}
+use Rattle.proof_endpoint.proofs.RowStepsLemmas.{OpenSteps, steps_context, steps_same, steps_where_open, goes_send_shutdown, steps_abort_for_violation, steps_abort, steps_error, steps_data, steps_forward, steps_sack, steps_shut_by_peer, steps_shutdown_ack, steps_shutdown_complete, goes_on}
 use Rattle.proof_endpoint.proofs.ResetStepsLemmas.{steps_reconfig}
 use Rattle.proof_endpoint.proofs.OpeningStepsLemmas.{steps_init, steps_init_ack, steps_cookie_ack, steps_emit_parse_error, steps_cookie_echo}
 
@@ -135,10 +135,19 @@ module _ {P : Type 0} where
       goes_send_with c (is_before_cookie_ack phase) (add (selective_ack t) p) (without_duplicates t) (small_add (most_bytes c) p (selective_ack t) (small_new t c))
   goes_ended_if false phase t c = goes_same c
 
-  goes_ended : (phase : Phase) (t : Tcb) (c : Context P) → Goes 0 c (on_packet_end phase t c).context
-  goes_ended phase t c =
+  goes_acked : (phase : Phase) (t : Tcb) (c : Context P) → Goes 0 c (packet_acked phase t c).context
+  goes_acked phase t c =
       let u : Tcb = at_end c.now t in
       goes_ended_if (is_ack_due false u.tracker.tracker.ack) phase (take_due_ack false u) c
+
+  goes_shut_if : (b : Bool) (s : EndpointState P) → Goes 0 s.context (shut_if b s).context
+  goes_shut_if true s = goes_where_open shut_waiting s goes_on
+  goes_shut_if false s = goes_same s.context
+
+  goes_ended : (phase : Phase) (t : Tcb) (c : Context P) → Goes 0 c (on_packet_end phase t c).context
+  goes_ended phase t c =
+      let s : EndpointState P = packet_acked phase t c in
+      goes_then 0 c s.context (on_packet_end phase t c).context (goes_acked phase t c) (goes_shut_if c.options.avoid_stalls s)
 
   goes_handled : (tag : ℕ) (chunks : List ChunkTree) (s : Endpoint P)
       → Goes (endings_by tag chunks (in_endpoint_state (repeats_if (has_data_chunk chunks)) s)) s.endpoint_state.context (on_accepted_packet tag chunks s).endpoint_state.context

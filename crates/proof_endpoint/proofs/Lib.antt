@@ -49,6 +49,7 @@ pub mod SoundLawsLemmas
 pub mod SoundReceivedLemmas
 mod SpendsLemmas
 mod QueueSpendsLemmas
+pub mod EmptiedLemmas
 mod ItemSpendsLemmas
 pub mod LivesLemmas
 pub mod LifecycleLemmas

@@ -17,11 +17,14 @@ use Rattle.spec_endpoint.specs.Sending.{fast_most}
 use Rattle.spec_endpoint.specs.Opening.{agreed_by, queue_anew, queue_if, other_mode}
 use Rattle.spec_endpoint.specs.Sack.{clean_blocks}
 use Rattle.spec_endpoint.specs.StreamReset.{on_outcome}
+use Rattle.spec_endpoint.specs.Shutdown.{emptied_if}
+use Rattle.spec_endpoint.specs.Shutdown as shutdown
 use Rattle.spec_endpoint.specs.Laws.{Call, Send, SendMany, ending}
 use Rattle.proof_endpoint.specs.Lifecycles.{end_count, kept_in, waiting_count, alive_count, is_restore}
 use Rattle.proof_endpoint.specs.Acts.{EndWithPacket, end_of, in_state, in_open, with_context, opened_by, point_of, IsOffered, alone, among, PacketAct, emits, emits_error, before_packets, after_packets, OpeningAct, echoes, establishes, opens, restarts, opens_again, maintains, before_opening, after_opening, ClosingAct, closes, before_closing, after_closing, DataAct, takes_data, before_data, after_data, SackAct, takes_sack, before_sack, after_sack, SendingAct, expires, asks_no_reset, asks_reset, sends, sends_fast, before_sending, after_sending, TimeAct, times_out, before_time, after_time, CallAct, accepts, refuses, sets_low_threshold, sets_priority, before_call, after_call, ResetAct, prepares, performs, takes_response, before_reset, after_reset, HandoverAct, leaves, takes_up, before_handover, after_handover, InputAct, ends_packet, before_input, after_input, Preserves}
 use Rattle.proof_endpoint.proofs.SpendsLemmas.{Spends, spends_nothing, spends_one, spends_then, spends_within}
 use Rattle.proof_endpoint.proofs.QueueSpendsLemmas.{in_queue, waiting_priority, waiting_each_stepped, waiting_reset, spends_prepared, spends_threshold}
+use Rattle.proof_endpoint.proofs.EmptiedLemmas.{spends_emptied}
 use Rattle.proof_endpoint.proofs.ItemSpendsLemmas.{kept_fast, spends_nack_all, spends_expired, spends_sack, spends_sent}
 
 -- messages are handed in
@@ -67,6 +70,10 @@ module _ {P : Type 0} (l : ℕ) where
   ended : (e : Event P) (m : EndWithPacket P) → end_count l e ≡ 0 → Lives m (in_state Closed (with_context (emit_event_in e m.context) m))
   ended e m is = spends_one l e m.context.emitted (living m) (waiting_count l m.context + 0) (omega (arith, is))
 
+  -- and what waits is given up
+  emptied : (b : Bool) (m : EndWithPacket P) → Lives m (with_context (emptied_if b m.context) m)
+  emptied b m = waiting_on (kept_in l m.state) (spends_emptied l b m.context.queue m.context.emitted)
+
   no_lifecycle : (e : Event P) → ending e ≡ 1 → end_count l e ≡ 0
   no_lifecycle (OnLifecycleEnd id) is = cc
   no_lifecycle e is = refl
@@ -100,7 +107,7 @@ module _ {P : Type 0} (l : ℕ) where
     lives_opening (echoes tag i cookie my_tag first t1 m received brought) =
         requeued (queue_anew (agreed_by m.context.options i).message_interleaving m.context.queue) (in_state Closed m) (waiting_reset l m.context.queue)
     lives_opening (establishes tag t1 cookie t m received) = said OnConnected (in_open Established t m) refl
-    lives_opening (opens tag k m echoed none own) = opened false k m
+    lives_opening (opens tag k m echoed none own) = opened m.context.options.avoid_stalls k m
     lives_opening (restarts tag k phase t m echoed resolution) =
         let a : EndWithPacket P = in_open phase t m in
         spends_then l (said OnConnectionRestarted a refl) (opened true k (with_context (emit_event_in OnConnectionRestarted m.context) a))
@@ -109,7 +116,8 @@ module _ {P : Type 0} (l : ℕ) where
     lives_opening act = same (before_opening act)
 
     lives_closing : (act : ClosingAct P call) → Lives (before_closing act) (after_closing act)
-    lives_closing (closes e m there is) = ended e m (no_lifecycle e is)
+    lives_closing (closes e m there is) =
+        spends_then l (ended e m (no_lifecycle e is)) (emptied m.context.options.avoid_stalls (in_state Closed (with_context (shutdown.ended e m.context) m)))
     lives_closing act = same (before_closing act)
 
     lives_data : (act : DataAct P call) → Lives (before_data act) (after_data act)

@@ -1,6 +1,6 @@
 -- The law: each call commutes with a map of packets.
 use Rattle.std.proofs.Common.{◌≡◌, refl}
-use Rattle.spec_endpoint.specs.Association.{Endpoint, in_context, context}
+use Rattle.spec_endpoint.specs.Association.{Endpoint, in_context}
 use Rattle.spec_endpoint.specs.Shutdown.{close, shutdown}
 use Rattle.spec_endpoint.specs.Calls.{send, send_many, set_low_threshold}
 use Rattle.spec_endpoint.specs.StreamReset.{reset_streams}

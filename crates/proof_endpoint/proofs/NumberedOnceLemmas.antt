@@ -13,6 +13,7 @@ use Rattle.sctp_tx_queue.specs.SendQueue.{Queued, Stream, Streams, Entries, Queu
 use Rattle.sctp_tx_queue.specs.Produced.{Turn, is_stale, fresh, without_stale, ends as is_last, move_past, moved_front, front_numbers, advance, pause_if_pending, streams_without_stale, turn, next_stream, idle, produce_within, produce}
 use Rattle.sctp_tx_queue.specs.Settings.{with_threshold, set_low_threshold, with_priority, set_priority, front_discarded, without_front, streams_discarded, discard_from, discard}
 use Rattle.sctp_tx_queue.specs.Resets.{is_partly, prepare_stream, prepare_reset, after_step, apply_reset_step, each_stepped}
+use Rattle.sctp_tx_queue.specs.Emptied.{emptied, emptied_one, each_emptied, empty}
 use Rattle.sctp_tx_queue.specs.Restarted.{whole_front, restart, restarted_one, each_restarted, reset}
 use Rattle.proof_endpoint.specs.HandoverRoundTrip.{count_with_number, numbered_in, IsNumberedOnce, CallsNumberOnce}
 use Rattle.proof_endpoint.specs.Lifecycles.{one_if}
@@ -150,6 +151,9 @@ module _ (n : ℕ) where
       let s : Stream = stream id q.streams in
       omega (arith, put_numbered id (restart s) q.streams, whole_numbered s.messages)
 
+  emptied_numbered : (id : ℕ) (q : Queue) → in_queue (emptied_one id q) ≤ in_queue q
+  emptied_numbered id q = omega (arith, put_numbered id (emptied (stream id q.streams)) q.streams)
+
   discard_numbered_from : {P : Type 0} (id : ℕ) (ss : Streams) (o : Option (Option ℕ)) (q : Queue) (t : Emitted P) → numbered_in n ss.entries ≤ in_queue q
       → in_queue (discard_from id ss o q t).queue ≤ in_queue q
   discard_numbered_from id ss None q t h = h
@@ -207,7 +211,18 @@ fewer_reset q =
     let f : Fewer q (each_restarted (keys_of q.streams.entries) q) = fewer_restarted (keys_of q.streams.entries) q in
     record { less = f.less; next = f.next }
 
+fewer_emptied : (ids : List ℕ) (q : Queue) → Fewer q (each_emptied ids q)
+fewer_emptied [] q = fewer_same q
+fewer_emptied (id ∷ ids) q =
+    let r : Queue = emptied_one id q in
+    fewer_then q r (each_emptied ids r) (record { less = λ n. emptied_numbered n id q; next = refl }) (fewer_emptied ids r)
+
 module _ {P : Type 0} where
+  fewer_empty : (q : Queue) (t : Emitted P) → Fewer q (empty q t).queue
+  fewer_empty q t =
+      let f : Fewer q (each_emptied (keys_of q.streams.entries) q) = fewer_emptied (keys_of q.streams.entries) q in
+      record { less = f.less; next = f.next }
+
   fewer_discarded : (id number : ℕ) (q : Queue) (t : Emitted P) → Fewer q (discard id number q t).queue
   fewer_discarded id number q t = record { less = λ n. discard_numbered n id number q t; next = go (front_discarded number (stream id q.streams).messages) }
     where
@@ -268,4 +283,5 @@ calls_number_once = record {
   prepared = λ id q emitted. once_fewer q (prepare_reset id q emitted).queue (record { less = λ n. prepared_numbered n id q emitted; next = refl });
   steps = λ step ids q. once_fewer q (each_stepped step ids q) (fewer_steps step ids q);
   restarted = λ q. once_fewer q (reset q) (fewer_reset q);
+  emptied = λ q emitted. once_fewer q (empty q emitted).queue (fewer_empty q emitted);
 }

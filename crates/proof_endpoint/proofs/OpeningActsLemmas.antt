@@ -258,9 +258,9 @@ module _ {P : Type 0} {call : Call} {R : EndWithPacket P → EndWithPacket P →
     does_verdict_open InvalidTag phase t s is = does_invalid (end_in (Open phase t) s)
 
     -- without a control block
-    does_new_if : (b : Bool) (s : Endpoint P) → (tag == a.my_tag) ≡ b → ((b ≡ true) → R (calm s) (opened_by false a (calm s)))
+    does_new_if : (b : Bool) (s : Endpoint P) → (tag == a.my_tag) ≡ b → ((b ≡ true) → R (calm s) (opened_by s.endpoint_state.context.options.avoid_stalls a (calm s)))
         → R (calm s) (calm (on_resolution (new_if b) a s))
-    does_new_if true s is may = does_anew false s.endpoint_state.context s (calm s) (may refl)
+    does_new_if true s is may = does_anew s.endpoint_state.context.options.avoid_stalls s.endpoint_state.context s (calm s) (may refl)
     does_new_if false s is may = does_invalid s
 
     does_judged : (st : State) (s : Endpoint P) → R (calm (end_in st s)) (calm (on_resolution (resolve_cookie tag a st) a (end_in st s)))

@@ -212,7 +212,7 @@ module _ {P Q : Type 0} (f : Mapping P Q) where
       (maps_emit_error f ParseFailed text s.endpoint_state.context)
 
   maps_verdict : (v : CookieResolution) (k : Cookie) (s : Endpoint P) → on_resolution v k (map_end f s) ≡ map_end f (on_resolution v k s)
-  maps_verdict EstablishNew k s = maps_establishes false k s.endpoint_state.context s
+  maps_verdict EstablishNew k s = maps_establishes s.endpoint_state.context.options.avoid_stalls k s.endpoint_state.context s
   maps_verdict RestartDetected k s = maps_restart k s
   maps_verdict SimultaneousInit k s = maps_establishes true k s.endpoint_state.context s
   maps_verdict MaintainExisting k s = maps_stands s (maintain_existing_in k s.endpoint_state) (maintain_existing_in k (map_endpoint_state f s.endpoint_state)) (maps_keep k s.endpoint_state)

@@ -194,7 +194,7 @@ module _ {P : Type 0} where
   steps_emit_parse_error text s = steps_context s.endpoint_state (emit_error ParseFailed text s.endpoint_state.context) (goes_emit_error ParseFailed text s.endpoint_state.context)
 
   steps_verdict : (v : CookieResolution) (k : Cookie) (s : Endpoint P) → EndSteps s (on_resolution v k s)
-  steps_verdict EstablishNew k s = steps_establishes false k s.endpoint_state.context s (goes_same s.endpoint_state.context)
+  steps_verdict EstablishNew k s = steps_establishes s.endpoint_state.context.options.avoid_stalls k s.endpoint_state.context s (goes_same s.endpoint_state.context)
   steps_verdict RestartDetected k s = steps_restart k s
   steps_verdict SimultaneousInit k s = steps_establishes true k s.endpoint_state.context s (goes_same s.endpoint_state.context)
   steps_verdict MaintainExisting k s = steps_keep k s.endpoint_state

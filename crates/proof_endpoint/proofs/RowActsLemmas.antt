@@ -1,5 +1,5 @@
 -- The walk over the rows: shutdown, aborts, data, forward points and acknowledgements.
-use Rattle.std.proofs.Common.{◌≡◌, ℕ, ◌<◌, ◌^◌, ◌==◌, Bool, true, false, Option, Some, None, List, [], ◌∷◌, length, codes, refl}
+use Rattle.std.proofs.Common.{◌≡◌, ℕ, ◌<◌, ◌^◌, ◌==◌, Bool, true, false, Option, Some, None, List, [], ◌∷◌, ◌&&◌, length, codes, refl, sym, ap, subst}
 use Rattle.std.specs.Str.{IsUtf8}
 use Rattle.std.proofs.lemmas.Bool.{and_parts}
 use Rattle.rand_core.specs.Stream.{Stream}
@@ -7,22 +7,23 @@ use Rattle.sctp_wire.specs.Cause.{CauseTree, no_user_data, user_initiated_abort,
 use Rattle.sctp_chunk.specs.declared.forward_tsn.SkippedStream.{SkippedStream}
 use Rattle.sctp_packet.specs.Chunk.{ChunkTree, FragmentTree, SackTree, data_chunk, idata_chunk, forward_tsn_chunk, i_forward_tsn_chunk, sack_chunk, abort_chunk, error_chunk, shutdown_chunk, shutdown_ack_chunk, shutdown_complete_chunk}
 use Rattle.sctp_state.specs.declared.api.ErrorKind.TheVariants.{TooManyRetries, PeerReported, ProtocolViolation, NotConnected}
+use Rattle.sctp_state.specs.Options.{Options}
 use Rattle.sctp_state.specs.Events.{Event, OnClosed, OnAborted}
 use Rattle.sctp_state.specs.RetransmissionTimeout.{observe_rto}
 use Rattle.sctp_tx_outstanding.specs.Sack.{is_valid}
 use Rattle.sctp_rx.specs.DataTracker as tracker
 use Rattle.sctp_rx.specs.ReassemblyQueue.{admits_point}
-use Rattle.sctp_tx.specs.RetransmissionQueue.{nothing_in_flight, SackAnswer, Invalid, Valid, sender_if, emitted_if, answer_if}
+use Rattle.sctp_tx.specs.RetransmissionQueue.{SackAnswer, Invalid, Valid, sender_if, emitted_if, answer_if}
 use Rattle.spec_endpoint.specs.Association.{Tcb, Phase, CookieEchoed, Established, ShutdownPending, ShutdownSent, ShutdownReceived, ShutdownAckSent, State, Closed, CookieWait, Open, Context, EndpointState, where_open}
 use Rattle.spec_endpoint.specs.Packets.{PacketDraft, packet_to, emit_chunk}
 use Rattle.spec_endpoint.specs.Sending.{AfterSending, is_before_cookie_ack, send_lost}
-use Rattle.spec_endpoint.specs.Shutdown.{t2_shutdown, close_with, send_shutdown, send_shutdown_ack, PhaseStep, pending_next, received_next, maybe_send_shutdown_or_ack, shutdown_in_phase, shutdown_in, shutdown, shut_by_peer, on_shutdown, complete_shutdown, out_of_the_blue, on_shutdown_ack_open, on_shutdown_ack_in, on_shutdown_ack, on_shutdown_complete, abort, close_in, close, too_many, abort_for_violation, causes_text, on_abort, on_error}
-use Rattle.spec_endpoint.specs.Data.{no_data, on_no_data, not_connected, accepts_tsn, take_fragment, fragment_if, on_data_in, on_data_if, on_data, accepts_point, handle_forward_tsn, handle_forward_tsn_if, handle_forward_tsn_in, on_forward}
-use Rattle.spec_endpoint.specs.Sack.{clean_blocks, sample_rtt, clear_errors_if, send_after, after_sack, no_block, on_sack_in, on_sack}
+use Rattle.spec_endpoint.specs.Shutdown.{t2_shutdown, close_with, send_shutdown, send_shutdown_ack, PhaseStep, is_quiet, pending_next, received_next, maybe_send_shutdown_or_ack, shutdown_in_phase, shutdown_in, shutdown, shut_by_peer, on_shutdown, complete_shutdown, out_of_the_blue, on_shutdown_ack_open, on_shutdown_ack_in, on_shutdown_ack, on_shutdown_complete, abort, close_in, close, too_many, abort_for_violation, causes_text, on_abort, on_error}
+use Rattle.spec_endpoint.specs.Data.{no_data, on_no_data, not_connected, has_room, accepts_tsn, told_of_drop, take_fragment, fragment_if, on_data_in, on_data_if, on_data, accepts_point, handle_forward_tsn, handle_forward_tsn_if, handle_forward_tsn_in, on_forward}
+use Rattle.spec_endpoint.specs.Sack.{clean_blocks, is_late, sampled_unless, sample_rtt, clear_errors_if, send_after, after_sack, no_block, on_sack_in, on_sack}
 use Rattle.spec_endpoint.specs.Input.{misuse, violation}
 use Rattle.spec_endpoint.specs.Laws.{Call, Shutdown, ending, is_closed}
 use Rattle.proof_endpoint.specs.Fair.{IsFairCause}
-use Rattle.proof_endpoint.specs.Acts.{always, EndWithPacket, idle, in_open, BringsChunk, Fitting, point_of, closes, shuts, shuts_on, takes_data, takes_idata, takes_forward, takes_iforward, takes_sack, samples, counts_errors, Preserves}
+use Rattle.proof_endpoint.specs.Acts.{always, EndWithPacket, idle, in_open, BringsChunk, Fitting, point_of, closes, shuts, shuts_on, takes_data, takes_idata, takes_forward, takes_iforward, takes_sack, samples, counts_errors, forces_ack, Preserves}
 use Rattle.proof_endpoint.proofs.OwnChunksLemmas.{fair_user_abort, fair_abort, fair_error, fair_shutdown, fair_shutdown_ack, fair_complete}
 use Rattle.proof_endpoint.proofs.PacketActsLemmas.{whole_addressed, does_plain, does_chunk, does_emit_error, does_send_buffered, does_send_lost}
 
@@ -70,12 +71,12 @@ module _ {P : Type 0} {call : Call} {R : EndWithPacket P → EndWithPacket P →
       k.through (does_shut_on ShutdownReceived (ShutdownAckSent (t2_shutdown t c)) t c refl refl) (does_send_shutdown_ack (ShutdownAckSent (t2_shutdown t c)) t c)
   does_received false t c = k.same (idle (Open ShutdownReceived t) c w)
 
-  does_on : (phase : Phase) (t : Tcb) (c : Context P) → R (idle (Open phase t) c w) (idle (Open (maybe_send_shutdown_or_ack phase t c).phase t) (maybe_send_shutdown_or_ack phase t c).context w)
+  pub does_on : (phase : Phase) (t : Tcb) (c : Context P) → R (idle (Open phase t) c w) (idle (Open (maybe_send_shutdown_or_ack phase t c).phase t) (maybe_send_shutdown_or_ack phase t c).context w)
   does_on (CookieEchoed t1 cookie) t c = k.same (idle (Open (CookieEchoed t1 cookie) t) c w)
   does_on Established t c = k.same (idle (Open Established t) c w)
-  does_on ShutdownPending t c = does_pending (nothing_in_flight t.sender.outstanding.items) t c
+  does_on ShutdownPending t c = does_pending (is_quiet t c) t c
   does_on (ShutdownSent t2) t c = k.same (idle (Open (ShutdownSent t2) t) c w)
-  does_on ShutdownReceived t c = does_received (nothing_in_flight t.sender.outstanding.items) t c
+  does_on ShutdownReceived t c = does_received (is_quiet t c) t c
   does_on (ShutdownAckSent t2) t c = k.same (idle (Open (ShutdownAckSent t2) t) c w)
 
   -- the association is over
@@ -199,20 +200,42 @@ module _ {P : Type 0} {call : Call} {R : EndWithPacket P → EndWithPacket P →
   -- a fragment that came in such a chunk may be taken
   abbrev pub MayTake : (chunk : ChunkTree) (tsn : ℕ) (is_immediate : Bool) (f : FragmentTree) → Type 0
   MayTake chunk tsn is_immediate f =
-      (phase : Phase) (t : Tcb) (m : EndWithPacket P) → misuse t.capabilities chunk ≡ None → (length f.payload == 0) ≡ false → accepts_tsn tsn t ≡ true
+      (phase : Phase) (t : Tcb) (m : EndWithPacket P) → misuse t.capabilities chunk ≡ None → (length f.payload == 0) ≡ false → accepts_tsn m.context.options tsn t ≡ true
       → R (in_open phase t m) (in_open phase (take_fragment tsn is_immediate f t) m)
 
   does_taken_if : (chunk : ChunkTree) (tsn : ℕ) (is_immediate : Bool) (f : FragmentTree) → MayTake chunk tsn is_immediate f → (b : Bool) (phase : Phase) (t : Tcb)
-      (c : Context P) → misuse t.capabilities chunk ≡ None → (length f.payload == 0) ≡ false → accepts_tsn tsn t ≡ b
+      (c : Context P) → misuse t.capabilities chunk ≡ None → (length f.payload == 0) ≡ false → accepts_tsn c.options tsn t ≡ b
       → R (idle (Open phase t) c w) (idle (Open phase (fragment_if b tsn is_immediate f t)) c w)
   does_taken_if chunk tsn is_immediate f may true phase t c right some is = may phase t (idle (Open phase t) c w) right some is
   does_taken_if chunk tsn is_immediate f may false phase t c right some is = k.same (idle (Open phase t) c w)
+
+  does_told_of_drop : (b : Bool) (phase : Phase) (t : Tcb) (c : Context P) → R (idle (Open phase t) c w) (idle (Open phase (told_of_drop b false t)) c w)
+  does_told_of_drop true phase t c = k.sending (forces_ack phase t (idle (Open phase t) c w))
+  does_told_of_drop false phase t c = k.same (idle (Open phase t) c w)
+
+  told_of_none : (b : Bool) (t : Tcb) → told_of_drop b true t ≡ t
+  told_of_none true t = refl
+  told_of_none false t = refl
+
+  -- by whether there is room
+  abbrev data_by : (has_room : Bool) → Options → (tsn : ℕ) → (is_immediate : Bool) → FragmentTree → Tcb → Tcb
+  data_by room o tsn is_immediate f t =
+      fragment_if (room && tracker.is_valid t.tracker.tracker (tracker.number_of t.tracker tsn)) tsn is_immediate f (told_of_drop o.avoid_stalls room t)
+
+  does_take_data : (chunk : ChunkTree) (tsn : ℕ) (is_immediate : Bool) (f : FragmentTree) → MayTake chunk tsn is_immediate f → (room : Bool) (phase : Phase) (t : Tcb)
+      (c : Context P) → misuse t.capabilities chunk ≡ None → (length f.payload == 0) ≡ false → has_room c.options tsn t ≡ room
+      → R (idle (Open phase t) c w) (idle (Open phase (data_by room c.options tsn is_immediate f t)) c w)
+  does_take_data chunk tsn is_immediate f may false phase t c right some is = does_told_of_drop c.options.avoid_stalls phase t c
+  does_take_data chunk tsn is_immediate f may true phase t c right some is =
+      let valid : Bool = tracker.is_valid t.tracker.tracker (tracker.number_of t.tracker tsn) in
+      subst (λ (u : Tcb). R (idle (Open phase t) c w) (idle (Open phase (fragment_if valid tsn is_immediate f u)) c w)) (sym (told_of_none c.options.avoid_stalls t))
+      (does_taken_if chunk tsn is_immediate f may valid phase t c right some (ap (λ (r : Bool). r && valid) is))
 
   does_data_in : (chunk : ChunkTree) (tsn : ℕ) (is_immediate : Bool) (f : FragmentTree) → MayTake chunk tsn is_immediate f → (s : State) (c : Context P)
       → violation s chunk ≡ None → (length f.payload == 0) ≡ false → R (idle s c w) (placed (on_data_in s tsn is_immediate f c) w)
   does_data_in chunk tsn is_immediate f may Closed c right some = does_not_connected Closed c
   does_data_in chunk tsn is_immediate f may (CookieWait tag first t1) c right some = does_not_connected (CookieWait tag first t1) c
-  does_data_in chunk tsn is_immediate f may (Open phase t) c right some = does_taken_if chunk tsn is_immediate f may (accepts_tsn tsn t) phase t c right some refl
+  does_data_in chunk tsn is_immediate f may (Open phase t) c right some = does_take_data chunk tsn is_immediate f may (has_room c.options tsn t) phase t c right some refl
 
   does_data_if : (chunk : ChunkTree) (tsn : ℕ) (is_immediate : Bool) (f : FragmentTree) → MayTake chunk tsn is_immediate f → (b : Bool) (s : EndpointState P)
       → (Fitting call → tsn < 2 ^ 32) → violation s.state chunk ≡ None → (length f.payload == 0) ≡ b → R (placed s w) (placed (on_data_if b tsn is_immediate f s) w)
@@ -290,17 +313,17 @@ module _ {P : Type 0} {call : Call} {R : EndWithPacket P → EndWithPacket P →
       k.through (does_sampled rtt phase t c)
       (k.through (does_answered is_progress (Open phase u) c) (k.through (does_on phase u d) (does_send_after o.phase u o.context)))
 
-  does_sack_if : (b : Bool) (tag : ℕ) (a : SackTree) (phase : Phase) (t : Tcb) (c : Context P) → BringsChunk call tag (sack_chunk a)
+  does_sack_if : (late b : Bool) (tag : ℕ) (a : SackTree) (phase : Phase) (t : Tcb) (c : Context P) → BringsChunk call tag (sack_chunk a)
       → is_valid (point_of a t) (clean_blocks a.gap_ack_blocks) t.sender.outstanding.items ≡ b
-      → R (idle (Open phase t) c w) (placed (after_sack (answer_if b c.now (point_of a t) (clean_blocks a.gap_ack_blocks) t.sender) phase
+      → R (idle (Open phase t) c w) (placed (after_sack (sampled_unless late (answer_if b c.now (point_of a t) (clean_blocks a.gap_ack_blocks) t.sender)) phase
       (record t { sender = sender_if b c.now (point_of a t) a.a_rwnd (clean_blocks a.gap_ack_blocks) t.sender c.emitted })
       (record c { emitted = emitted_if b (point_of a t) (clean_blocks a.gap_ack_blocks) t.sender c.emitted })) w)
-  does_sack_if true tag a phase t c h is =
+  does_sack_if late true tag a phase t c h is =
       k.through (k.acknowledging (takes_sack tag a phase t (idle (Open phase t) c w) h is))
-      (does_receive (answer_if true c.now (point_of a t) (clean_blocks a.gap_ack_blocks) t.sender) phase
+      (does_receive (sampled_unless late (answer_if true c.now (point_of a t) (clean_blocks a.gap_ack_blocks) t.sender)) phase
       (record t { sender = sender_if true c.now (point_of a t) a.a_rwnd (clean_blocks a.gap_ack_blocks) t.sender c.emitted })
       (record c { emitted = emitted_if true (point_of a t) (clean_blocks a.gap_ack_blocks) t.sender c.emitted }))
-  does_sack_if false tag a phase t c h is = k.same (idle (Open phase t) c w)
+  does_sack_if late false tag a phase t c h is = does_receive (sampled_unless late Invalid) phase t c
 
   does_no_block : (s : State) (c : Context P) → R (idle s c w) (idle s (no_block c) w)
   does_no_block s c = does_emit_error k NotConnected (codes "No TCB") s c w
@@ -309,7 +332,7 @@ module _ {P : Type 0} {call : Call} {R : EndWithPacket P → EndWithPacket P →
   does_sack_in Closed tag a c h = does_no_block Closed c
   does_sack_in (CookieWait my_tag first t1) tag a c h = does_no_block (CookieWait my_tag first t1) c
   does_sack_in (Open phase t) tag a c h =
-      does_sack_if (is_valid (point_of a t) (clean_blocks a.gap_ack_blocks) t.sender.outstanding.items) tag a phase t c h refl
+      does_sack_if (is_late c.options (point_of a t) t.sender.outstanding.items) (is_valid (point_of a t) (clean_blocks a.gap_ack_blocks) t.sender.outstanding.items) tag a phase t c h refl
 
   pub does_sack : (tag : ℕ) (a : SackTree) (s : EndpointState P) → BringsChunk call tag (sack_chunk a) → R (placed s w) (placed (on_sack a s) w)
   does_sack tag a s h = does_sack_in s.state tag a s.context h

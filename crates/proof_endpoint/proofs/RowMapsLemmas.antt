@@ -9,17 +9,19 @@ use Rattle.sctp_state.specs.Events.{Event, OnClosed, OnAborted, Emitted}
 use Rattle.sctp_tx_outstanding.specs.OutstandingData.{number_of}
 use Rattle.sctp_tx_outstanding.specs.Sack.{is_valid}
 use Rattle.sctp_rx.specs.DataTracker as tracker
-use Rattle.sctp_tx.specs.RetransmissionQueue.{Sender, SackAnswer, Invalid, Valid, sender_if, emitted_if, answer_if, nothing_in_flight}
+use Rattle.sctp_tx_queue.specs.Settings.{Changed}
+use Rattle.sctp_tx.specs.RetransmissionQueue.{Sender, SackAnswer, Invalid, Valid, sender_if, emitted_if, answer_if}
 use Rattle.spec_endpoint.specs.Association.{Tcb, Phase, CookieEchoed, Established, ShutdownPending, ShutdownSent, ShutdownReceived, ShutdownAckSent, State, Closed, CookieWait, Open, Heartbeats, Context, EndpointState, where_open}
 use Rattle.spec_endpoint.specs.Heartbeats.{stop_heartbeats}
 use Rattle.spec_endpoint.specs.Packets.{add, packet_to, emit_error, emit_chunk}
 use Rattle.spec_endpoint.specs.Sending.{AfterSending, is_before_cookie_ack, open_with, send_buffered, send_lost}
-use Rattle.spec_endpoint.specs.Shutdown.{over, close_with, t2_shutdown, send_shutdown, send_shutdown_ack, PhaseStep, phase_step, pending_next, received_next, maybe_send_shutdown_or_ack, shutdown_in_phase, open_phase_step, shutdown_in, shutdown, shut_by_peer, on_shutdown, complete_shutdown, out_of_the_blue, on_shutdown_ack_open, on_shutdown_ack_in, on_shutdown_ack, on_shutdown_complete, abort, close_in, close, too_many, abort_for_violation, causes_text, on_abort, on_error}
+use Rattle.spec_endpoint.specs.Shutdown.{ended, emptied_if, over, close_with, t2_shutdown, send_shutdown, send_shutdown_ack, PhaseStep, phase_step, pending_next, received_next, maybe_send_shutdown_or_ack, shutdown_in_phase, open_phase_step, shutdown_in, shutdown, shut_by_peer, on_shutdown, complete_shutdown, out_of_the_blue, on_shutdown_ack_open, on_shutdown_ack_in, on_shutdown_ack, on_shutdown_complete, abort, close_in, close, too_many, abort_for_violation, causes_text, on_abort, on_error, is_quiet}
 use Rattle.spec_endpoint.specs.Data.{no_data, on_no_data, not_connected, on_data_in, on_data_if, on_data, on_forward}
-use Rattle.spec_endpoint.specs.Sack.{clean_blocks, sample_rtt, clear_errors_if, send_after, after_sack, on_clean_sack, no_block, on_sack_in, on_sack}
+use Rattle.spec_endpoint.specs.Sack.{clean_blocks, sample_rtt, clear_errors_if, send_after, after_sack, on_clean_sack, no_block, on_sack_in, on_sack, is_late, sampled_unless}
 use Rattle.spec_endpoint.specs.Sack as acks
 use Rattle.proof_endpoint.specs.Mapped.{Mapping, map_event, map_emitted, map_context, map_endpoint_state}
 use Rattle.proof_endpoint.proofs.EmittedMapsLemmas.{same_sender, maps_sack}
+use Rattle.proof_endpoint.proofs.EmptiedLemmas.{maps_emptied}
 use Rattle.proof_endpoint.proofs.SendingMapsLemmas.{map_sent, maps_say, maps_emit_error, maps_emit, maps_emit_chunk, maps_send_buffered, maps_send_lost}
 
 abbrev pub endpoint_state_in : {P : Type 0} → State → Context P → EndpointState P
@@ -35,6 +37,10 @@ OpenMaps {P} {Q} f row mapped = (phase : Phase) (t : Tcb) (c : Context P) → ma
 -- an answer to a SACK, in a context that emitted it
 abbrev pub received_with : {P : Type 0} → SackAnswer → Phase → Tcb → Context P → Sender → Emitted P → EndpointState P
 received_with a phase t c s u = after_sack a phase (record t { sender = s }) (record c { emitted = u })
+
+-- a context with this queue and what was emitted
+abbrev changed_to : {P : Type 0} → Context P → Changed P → Context P
+changed_to c x = record c { queue = x.queue; emitted = x.emitted }
 
 -- a context with these heartbeats
 abbrev pub beating_as : {P : Type 0} → Context P → Heartbeats → Context P
@@ -74,16 +80,20 @@ module _ {P Q : Type 0} (f : Mapping P Q) where
   maps_received true t c = maps_onward (ShutdownAckSent (t2_shutdown t c)) (send_shutdown_ack t c) (send_shutdown_ack t (map_context f c)) (maps_send_shutdown_ack t c)
   maps_received false t c = refl
 
-  maps_go_on : (phase : Phase) (t : Tcb) (c : Context P) → maybe_send_shutdown_or_ack phase t (map_context f c) ≡ map_onward f (maybe_send_shutdown_or_ack phase t c)
+  pub maps_go_on : (phase : Phase) (t : Tcb) (c : Context P) → maybe_send_shutdown_or_ack phase t (map_context f c) ≡ map_onward f (maybe_send_shutdown_or_ack phase t c)
   maps_go_on (CookieEchoed t1 cookie) t c = refl
   maps_go_on Established t c = refl
-  maps_go_on ShutdownPending t c = maps_pending (nothing_in_flight t.sender.outstanding.items) t c
+  maps_go_on ShutdownPending t c = maps_pending (is_quiet t c) t c
   maps_go_on (ShutdownSent t2) t c = refl
-  maps_go_on ShutdownReceived t c = maps_received (nothing_in_flight t.sender.outstanding.items) t c
+  maps_go_on ShutdownReceived t c = maps_received (is_quiet t c) t c
   maps_go_on (ShutdownAckSent t2) t c = refl
 
   pub maps_over : (e : Event P) (c : Context P) → over (map_event f e) (map_context f c) ≡ map_context f (over e c)
-  maps_over e c = ap (λ (d : Context Q). beating_as d (stop_heartbeats c.heartbeats)) (maps_say f e c)
+  maps_over e c =
+      let b : Bool = c.options.avoid_stalls in
+      let d : Context P = ended e c in
+      ap (λ (x : Context Q). emptied_if b x) (ap (λ (x : Context Q). beating_as x (stop_heartbeats c.heartbeats)) (maps_say f e c))
+      ∙ ap (λ (x : Changed Q). changed_to (map_context f d) x) (maps_emptied f b d.queue d.emitted)
 
   pub maps_closed : (e : Event P) (c : Context P) → close_with (map_event f e) (map_context f c) ≡ map_endpoint_state f (close_with e c)
   maps_closed e c = maps_in_state Closed (over e c) _ (maps_over e c)
@@ -237,7 +247,7 @@ module _ {P Q : Type 0} (f : Mapping P Q) where
   maps_clean_sack : (n a_rwnd : ℕ) (blocks : List GapAckBlock) → OpenMaps f (on_clean_sack n a_rwnd blocks) (on_clean_sack n a_rwnd blocks)
   maps_clean_sack n a_rwnd blocks phase t c =
       let valid : Bool = is_valid n blocks t.sender.outstanding.items in
-      let a : SackAnswer = answer_if valid c.now n blocks t.sender in
+      let a : SackAnswer = sampled_unless (is_late c.options n t.sender.outstanding.items) (answer_if valid c.now n blocks t.sender) in
       let s : Sender = sender_if valid c.now n a_rwnd blocks t.sender c.emitted in
       let u : Emitted P = emitted_if valid n blocks t.sender c.emitted in
       ap (λ (x : Sender). received_with a phase t (map_context f c) x (emitted_if valid n blocks t.sender (map_emitted f c.emitted))) (same_sender f valid c.now n a_rwnd blocks t.sender c.emitted)

@@ -9,19 +9,20 @@ use Rattle.sctp_state.specs.Events.{Event, OnClosed, OnAborted}
 use Rattle.sctp_tx_outstanding.specs.OutstandingData.{number_of}
 use Rattle.sctp_tx_outstanding.specs.Sack.{is_valid}
 use Rattle.sctp_rx.specs.DataTracker as tracker
-use Rattle.sctp_tx.specs.RetransmissionQueue.{nothing_in_flight, SackAnswer, Invalid, Valid, sender_if, emitted_if, answer_if}
+use Rattle.sctp_tx.specs.RetransmissionQueue.{SackAnswer, Invalid, Valid, sender_if, emitted_if, answer_if}
 use Rattle.spec_endpoint.specs.Association.{Tcb, Phase, CookieEchoed, Established, ShutdownPending, ShutdownSent, ShutdownReceived, ShutdownAckSent, State, Closed, CookieWait, Open, Context, EndpointState, open_as, with_context, where_open}
 use Rattle.spec_endpoint.specs.Packets.{PacketDraft, add, packet_to, emit_chunk}
 use Rattle.spec_endpoint.specs.Sending.{is_before_cookie_ack, send_lost}
-use Rattle.spec_endpoint.specs.Shutdown.{close_with, send_shutdown, send_shutdown_ack, PhaseStep, pending_next, received_next, maybe_send_shutdown_or_ack, shutdown_in_phase, shutdown_in, shutdown, on_shutdown, complete_shutdown, out_of_the_blue, on_shutdown_ack_open, on_shutdown_ack_in, on_shutdown_ack, on_shutdown_complete, abort, close_in, close, too_many, abort_for_violation, causes_text, on_abort, on_error}
+use Rattle.spec_endpoint.specs.Shutdown.{ended, close_with, send_shutdown, send_shutdown_ack, PhaseStep, pending_next, received_next, maybe_send_shutdown_or_ack, shutdown_in_phase, shutdown_in, shutdown, on_shutdown, complete_shutdown, out_of_the_blue, on_shutdown_ack_open, on_shutdown_ack_in, on_shutdown_ack, on_shutdown_complete, abort, close_in, close, too_many, abort_for_violation, causes_text, on_abort, on_error, is_quiet}
 use Rattle.spec_endpoint.specs.Data.{no_data, on_no_data, not_connected, on_data_in, on_data_if, on_data, handle_forward_tsn_in, on_forward}
-use Rattle.spec_endpoint.specs.Sack.{clean_blocks, sample_rtt, clear_errors_if, send_after, after_sack, on_clean_sack, no_block, on_sack_in, on_sack}
+use Rattle.spec_endpoint.specs.Sack.{clean_blocks, sample_rtt, clear_errors_if, send_after, after_sack, on_clean_sack, no_block, on_sack_in, on_sack, is_late, sampled_unless}
 use Rattle.spec_endpoint.specs.Sack as acks
 use Rattle.spec_endpoint.specs.Laws.{IsShort, ending, ends}
 use Rattle.proof_endpoint.proofs.StepsLemmas.{most_bytes, Goes, Steps}
 use Rattle.proof_endpoint.proofs.EmitsLemmas.{emits_sack}
-use Rattle.proof_endpoint.proofs.GoesLemmas.{small_add, small_whole, goes_emit, goes_by, goes_silent, goes_same, goes_then, goes_said, goes_emit_error, goes_emit_chunk}
+use Rattle.proof_endpoint.proofs.GoesLemmas.{small_add, small_whole, goes_emit, goes_by, goes_silent, goes_same, goes_then, goes_last, goes_said, goes_emit_error, goes_emit_chunk}
 use Rattle.proof_endpoint.proofs.SendingStepsLemmas.{goes_send_buffered, goes_send_lost}
+use Rattle.proof_endpoint.proofs.EmptiedLemmas.{emits_emptied}
 
 -- from a state and a context
 abbrev pub StepsFrom : {P : Type 0} → State → Context P → EndpointState P → Type 0
@@ -78,17 +79,20 @@ module _ {P : Type 0} where
   goes_received true t c = goes_send_shutdown_ack t c
   goes_received false t c = goes_same c
 
-  goes_on : (phase : Phase) (t : Tcb) (c : Context P) → Goes 0 c (maybe_send_shutdown_or_ack phase t c).context
+  pub goes_on : (phase : Phase) (t : Tcb) (c : Context P) → Goes 0 c (maybe_send_shutdown_or_ack phase t c).context
   goes_on (CookieEchoed t1 cookie) t c = goes_same c
   goes_on Established t c = goes_same c
-  goes_on ShutdownPending t c = goes_pending (nothing_in_flight t.sender.outstanding.items) t c
+  goes_on ShutdownPending t c = goes_pending (is_quiet t c) t c
   goes_on (ShutdownSent t2) t c = goes_same c
-  goes_on ShutdownReceived t c = goes_received (nothing_in_flight t.sender.outstanding.items) t c
+  goes_on ShutdownReceived t c = goes_received (is_quiet t c) t c
   goes_on (ShutdownAckSent t2) t c = goes_same c
 
-  -- one ending
+  -- one ending, behind which what waits is given up
   pub goes_closed : (e : Event P) (c : Context P) → IsShort c.pack (most_bytes c) e → ending e ≡ 1 → Goes 1 c (close_with e c).context
-  goes_closed e c short is = goes_said 1 c (close_with e c).context e refl refl refl short is
+  goes_closed e c short is =
+      let d : Context P = ended e c in
+      goes_last 1 c d (close_with e c).context (goes_said 1 c d e refl refl refl short is)
+      (goes_by 0 d (close_with e c).context refl refl (emits_emptied d.pack (most_bytes d) c.options.avoid_stalls d.queue d.emitted))
 
   -- of an event that is no packet
   pub goes_aborted : (cause : CauseTree) (e : Event P) (t : Tcb) (c : Context P) → ((d : Context P) → IsShort d.pack (most_bytes d) e) → ending e ≡ 1
@@ -238,9 +242,10 @@ module _ {P : Type 0} where
       let valid : Bool = is_valid n blocks t.sender.outstanding.items in
       let d : Context P = record c { emitted = emitted_if valid n blocks t.sender c.emitted } in
       let u : Tcb = record t { sender = sender_if valid c.now n a_rwnd blocks t.sender c.emitted } in
-      let s : EndpointState P = after_sack (answer_if valid c.now n blocks t.sender) phase u d in
+      let a : SackAnswer = sampled_unless (is_late c.options n t.sender.outstanding.items) (answer_if valid c.now n blocks t.sender) in
+      let s : EndpointState P = after_sack a phase u d in
       goes_then (ends (Open phase t) s.state) c d s.context (goes_by 0 c d refl refl (emits_sack c.pack (most_bytes c) valid n blocks t.sender c.emitted))
-      (steps_received (answer_if valid c.now n blocks t.sender) phase u d phase t)
+      (steps_received a phase u d phase t)
 
   goes_no_block : (c : Context P) → Goes 0 c (no_block c)
   goes_no_block c = goes_emit_error NotConnected (codes "No TCB") c

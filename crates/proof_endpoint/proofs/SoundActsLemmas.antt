@@ -29,16 +29,18 @@ use Rattle.spec_endpoint.specs.Sack.{clean_blocks}
 use Rattle.spec_endpoint.specs.Calls.{lifecycle_end_events, refusal_events, refuse, queue_entry, set_low_threshold}
 use Rattle.spec_endpoint.specs.StreamReset.{on_outcome, prepare_reset_stream}
 use Rattle.spec_endpoint.specs.Laws.{Call, ReceivePacket as Given, IsShort, ending}
+use Rattle.spec_endpoint.specs.Shutdown.{ended, emptied_if}
+use Rattle.proof_endpoint.proofs.EmptiedLemmas.{emits_emptied, emptied_fits}
 use Rattle.proof_endpoint.proofs.StepsLemmas.{Emits}
 use Rattle.proof_endpoint.proofs.EmitsLemmas.{quiet_both, quiet_expiry, quiet_end, quiet_refusal, emits_nothing, emits_given_up, emits_all, emits_then, emits_sack, emits_expired, emits_sent, emits_nack_all, emits_threshold}
 use Rattle.proof_endpoint.proofs.GoesLemmas.{small_empty}
 use Rattle.proof_endpoint.specs.Sound.{OptionsFit, FitsQueue, FitsRequest, FitsPhase, FitsState, FitsMessage, HasBytes, ArgumentFits}
 use Rattle.proof_endpoint.specs.ReadBack.{CanBeRead}
 use Rattle.proof_endpoint.specs.Fair.{IsFairParameter}
-use Rattle.proof_endpoint.specs.Acts.{EndWithPacket, end_of, in_open, with_context, drawn_tag, drawn_first, opened_by, point_of, fragments_of, IsOffered, alone, among, Fitting, HasRequest, for_outgoing, for_incoming, Answers, PacketAct, begins, adds_plain, emits, emits_error, counts, before_packets, after_packets, OpeningAct, connects, adds_init, answers_new, answers_waiting, answers_echoed, answers_again, echoes, adds_cookie, establishes, opens, restarts, opens_again, maintains, adds_cookie_ack, before_opening, after_opening, ClosingAct, closes, shuts, shuts_on, before_closing, after_closing, DataAct, takes_data, takes_idata, takes_forward, takes_iforward, before_data, after_data, SackAct, takes_sack, samples, counts_errors, before_sack, after_sack, SendingAct, asks, adds_ack, expires, adds_forward, forwards_later, asks_no_reset, asks_reset, adds_request, sends, sends_fast, before_sending, after_sending, TimeAct, advances, delay_ends, times_out, beats, times_init, times_cookie, times_request, wakes_request, timeout_of, before_time, after_time, CallAct, accepts, refuses, takes_message, sets_low_threshold, sets_priority, sets_max_message_size, before_call, after_call, ResetAct, prepares, defers, performs, processes, takes_response, adds_responses, before_reset, after_reset, HandoverAct, leaves, takes_up, before_handover, after_handover, InputAct, ends_packet, before_input, after_input, Preserves}
+use Rattle.proof_endpoint.specs.Acts.{EndWithPacket, end_of, in_state, in_open, with_context, drawn_tag, drawn_first, opened_by, point_of, fragments_of, IsOffered, alone, among, Fitting, HasRequest, for_outgoing, for_incoming, Answers, PacketAct, begins, adds_plain, emits, emits_error, counts, before_packets, after_packets, OpeningAct, connects, adds_init, answers_new, answers_waiting, answers_echoed, answers_again, echoes, adds_cookie, establishes, opens, restarts, opens_again, maintains, adds_cookie_ack, before_opening, after_opening, ClosingAct, closes, shuts, shuts_on, before_closing, after_closing, DataAct, takes_data, takes_idata, takes_forward, takes_iforward, before_data, after_data, SackAct, takes_sack, samples, counts_errors, before_sack, after_sack, SendingAct, asks, forces_ack, adds_ack, expires, adds_forward, forwards_later, asks_no_reset, asks_reset, adds_request, sends, sends_fast, before_sending, after_sending, TimeAct, advances, delay_ends, times_out, beats, times_init, times_cookie, times_request, times_items, wakes_request, timeout_of, before_time, after_time, CallAct, accepts, refuses, takes_message, sets_low_threshold, sets_priority, sets_max_message_size, before_call, after_call, ResetAct, prepares, defers, performs, processes, takes_response, adds_responses, before_reset, after_reset, HandoverAct, leaves, takes_up, before_handover, after_handover, InputAct, ends_packet, before_input, after_input, Preserves}
 use Rattle.proof_endpoint.proofs.ReceivedLemmas.{FitsCookie}
 use Rattle.proof_endpoint.proofs.OpeningActsLemmas.{echoed_fits}
-use Rattle.proof_endpoint.proofs.SoundTrackerLemmas.{ack_fits, end_fits, timeout_fits, reported_fits}
+use Rattle.proof_endpoint.proofs.SoundTrackerLemmas.{ack_fits, forced_fits, end_fits, timeout_fits, reported_fits}
 use Rattle.proof_endpoint.proofs.SoundQueueLemmas.{added_fits, threshold_fits, priority_fits, reset_fits, prepare_fits, steps_fit, requested_fits, restore_fits}
 use Rattle.proof_endpoint.proofs.SoundItemsLemmas.{word_small, nack_all_fits}
 use Rattle.proof_endpoint.proofs.SoundTxLemmas.{received_fits, sender_expired_fits, resent_fast_fits, sent_fast_fits, FitsFilling, send_fits}
@@ -215,6 +217,12 @@ module _ {P : Type 0} (g : Start P) where
       saying (in_the_state (with_the_queue h (opened_by resets k m).context.queue (queue_if_fits (resets || other_mode mode q.scheduler.is_interleaved) q h.queue))
       (opened_by resets k m).state (tt, tcb_fits o (identity_of k (long_word (end_of m))) _ _ h.options (cookie_identity k (long_word (end_of m)) f))) OnConnected tt
 
+  -- what waits is given up
+  emptied_sound : (b : Bool) (m : EndWithPacket P) → SoundAt g m → SoundAt g (with_context (emptied_if b m.context) m)
+  emptied_sound b m h =
+      let c : Context P = m.context in
+      quietly (with_the_queue h _ (emptied_fits b c.queue c.emitted h.queue)) c.emitted (emptied_if b c).emitted refl (emits_emptied g.pack 0 b c.queue c.emitted)
+
   pub after_outcome : (r : Outcome) (m : EndWithPacket P) → SoundAt g m → SoundAt g (with_context (on_outcome r m.context) m)
   after_outcome Unsettled m h = h
   after_outcome (Done streams) m h =
@@ -262,7 +270,7 @@ module _ {P : Type 0} (g : Start P) (call : Call) (a : Argument call) where
   goes_opening (adds_cookie t1 cookie t m to) h =
       with_the_packet h _ (good_add g.most m.packet (cookie_echo_chunk cookie) (own_cookie_echo cookie h.state.0) h.packet)
   goes_opening (establishes tag t1 cookie t m received) h = saying (in_the_state h (Open Established t) (tt, h.state.1)) OnConnected tt
-  goes_opening (opens tag k m echoed none own) h = opened g false k m (echoed_fits tag k echoed a.fitting) h
+  goes_opening (opens tag k m echoed none own) h = opened g m.context.options.avoid_stalls k m (echoed_fits tag k echoed a.fitting) h
   goes_opening (restarts tag k phase t m echoed resolution) h =
       opened g true k (with_context (emit_event_in OnConnectionRestarted m.context) (in_open phase t m)) (echoed_fits tag k echoed a.fitting) (saying h OnConnectionRestarted tt)
   goes_opening (opens_again tag k phase t m echoed resolution) h = opened g true k (in_open phase t m) (echoed_fits tag k echoed a.fitting) h
@@ -270,7 +278,8 @@ module _ {P : Type 0} (g : Start P) (call : Call) (a : Argument call) where
   goes_opening (adds_cookie_ack tag back phase t m echoed late) h = with_the_packet h _ (good_add g.most m.packet _ own_cookie_ack h.packet)
 
   goes_closing : (act : ClosingAct P call) → Onward (before_closing act) (after_closing act)
-  goes_closing (closes e m there is) h = saying (in_the_state h Closed tt) e (ends_can g.pack g.most e is)
+  goes_closing (closes e m there is) h =
+      emptied_sound g m.context.options.avoid_stalls (in_state Closed (with_context (ended e m.context) m)) (saying (in_the_state h Closed tt) e (ends_can g.pack g.most e is))
   goes_closing (shuts phase t m is early) h = in_the_state h (Open ShutdownPending t) (tt, h.state.1)
   goes_closing (shuts_on phase next t m late later) h = in_the_state h (Open next t) (later_fits next later, h.state.1)
 
@@ -292,6 +301,7 @@ module _ {P : Type 0} (g : Start P) (call : Call) (a : Argument call) where
 
   goes_sending : (act : SendingAct P call) → Onward (before_sending act) (after_sending act)
   goes_sending (asks b phase t m) h = in_the_state h _ (h.state.0, with_tracker t _ (ack_fits b t.tracker.tracker h.state.1.tracker) h.state.1)
+  goes_sending (forces_ack phase t m) h = in_the_state h _ (h.state.0, with_tracker t _ (forced_fits t.tracker.tracker h.state.1.tracker) h.state.1)
   goes_sending (adds_ack phase t m) h =
       in_the_state (with_the_packet h _ (good_add g.most m.packet (selective_ack t) (own_sack t h.state.1) h.packet)) _
       (h.state.0, with_tracker t _ (reported_fits t.tracker.tracker h.state.1.tracker) h.state.1)
@@ -338,6 +348,7 @@ module _ {P : Type 0} (g : Start P) (call : Call) (a : Argument call) where
   goes_time (times_request timer phase t m) h =
       let r = h.state.1.requests in
       in_the_state h _ (h.state.0, with_requests t _ (record { next = r.next; current = r.current; result = r.result }) h.state.1)
+  goes_time (times_items timer phase t m) h = in_the_state h _ (h.state.0, with_sender t _ h.state.1.items h.state.1)
   goes_time (wakes_request phase t m) h = in_the_state h _ (h.state.0, with_requests t _ (woken_fits t.requests h.state.1.requests) h.state.1)
 
   message_fits : (m : Message) (o : SendOptions) → IsOffered call m o → FitsMessage m

@@ -82,7 +82,7 @@ stream_on id ss h = go (lookup (is_at (nat_cmp id)) ss.entries) (found id ss.ent
 stream_fits : (id : ℕ) (ss : Streams) → FitEntries ss.entries → AreFit (stream id ss).messages
 stream_fits id ss h = each_off id (stream id ss).messages (stream_on id ss h)
 
-put_fits : (id : ℕ) (s : Stream) (ss : Streams) → AreFit s.messages → FitEntries ss.entries → FitEntries (put_stream id s ss).entries
+pub put_fits : (id : ℕ) (s : Stream) (ss : Streams) → AreFit s.messages → FitEntries ss.entries → FitEntries (put_stream id s ss).entries
 put_fits id s ss f h = set_fits id s ss.entries f h
 
 opened_fits : (id : ℕ) (ss : Streams) → id < 2 ^ 16 → FitEntries ss.entries → FitEntries (with_stream id ss).entries

@@ -11,7 +11,7 @@ use Rattle.sctp_packet.specs.Grammar.{Each, FitsBlock, FitsTsn, FitsSack}
 use Rattle.sctp_state.specs.Options.{Options}
 use Rattle.sctp_state.specs.Handover.{Receive}
 use Rattle.sctp_rx.specs.Seen.{Run, AreRuns, contains, with_number, absorb_runs}
-use Rattle.sctp_rx.specs.DataTracker.{Tracker, DataTracker, tracker, update_rto, take_ack, packet_end, ack_timeout, insert_number, with_duplicate, has_seen, observe, forward}
+use Rattle.sctp_rx.specs.DataTracker.{Tracker, DataTracker, tracker, update_rto, take_ack, force_ack, packet_end, ack_timeout, insert_number, with_duplicate, has_seen, observe, forward}
 use Rattle.sctp_rx.specs.TrackerHandover.{restore}
 use Rattle.sctp_rx.specs.Sack.{block, is_near, blocks_of, tsns, sack, clear_duplicates}
 use Rattle.sctp_rx.specs.ReassemblyQueue.{Reassembly, Waiting, Added, Forwarded, watermark, queued_bytes, number_of, came, is_kept_back, point_waits, keep_back, add_now, forward_now, add_or_keep_back, forward_or_wait, apply, apply_each, waiting_in, wait_with, resetting}
@@ -32,6 +32,9 @@ rto_fits rto t h = record { front = h.front; runs = h.runs; duplicates = h.dupli
 
 pub ack_fits : (b : Bool) (t : Tracker) → FitsTracker t → FitsTracker (take_ack b t)
 ack_fits b t h = record { front = h.front; runs = h.runs; duplicates = h.duplicates }
+
+pub forced_fits : (t : Tracker) → FitsTracker t → FitsTracker (force_ack t)
+forced_fits t h = record { front = h.front; runs = h.runs; duplicates = h.duplicates }
 
 pub end_fits : (now : ℕ) (t : Tracker) → FitsTracker t → FitsTracker (packet_end now t)
 end_fits now t h = record { front = h.front; runs = h.runs; duplicates = h.duplicates }

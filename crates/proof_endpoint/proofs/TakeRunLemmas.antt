@@ -85,7 +85,7 @@ module _ {P : Type 0} (pack : Packing P) (a b : rng.Stream) (m : Message) (o : S
   numbers : number_of tcb_b.tracker first ≡ 4294967296
   numbers = near_first first (first_small a)
 
-  is_taken : accepts_tsn first tcb_b ≡ true
+  is_taken : accepts_tsn defaults first tcb_b ≡ true
   is_taken = ap (λ (n : ℕ). not (is_full tcb_b.reassembly) && is_valid tcb_b.tracker.tracker n) numbers
 
   abbrev arrived : ℕ → Tcb

@@ -1,5 +1,5 @@
 -- The walk over the rows: the passing of time.
-use Rattle.std.proofs.Common.{◌≡◌, ℕ, nat_lt, Bool, true, false, List, codes, refl}
+use Rattle.std.proofs.Common.{◌≡◌, ℕ, nat_lt, Bool, true, false, List, codes, refl, ◌||◌}
 use Rattle.rand_core.specs.Stream.{Stream}
 use Rattle.sctp_state.specs.declared.api.ErrorKind.TheVariants.{TooManyRetries}
 use Rattle.sctp_state.specs.TxErrorCounter.{is_exhausted}
@@ -12,7 +12,7 @@ use Rattle.spec_endpoint.specs.ResetRequests.{lasting, expire_reconfig_timer, cl
 use Rattle.spec_endpoint.specs.Sending.{AfterSending, add_request, send_cookie}
 use Rattle.spec_endpoint.specs.Shutdown.{send_shutdown, send_shutdown_ack}
 use Rattle.spec_endpoint.specs.Heartbeats.{counted_on, heartbeat_chunk, send_heartbeat_if, heartbeat_timeout_if}
-use Rattle.spec_endpoint.specs.Timers.{Ticking, tick_ack, t3_if, tick_t3, tick_interval, tick_timeout, request_again, errs_if, reconfig_timeout, requests_if, ticking, tick_timers, TimerOutcome, after_timers, abort_if, abort_if_exhausted, abort_or_send_if, abort_or_send, after_ticks_if, after_ticks, t2_expired, t2_if, tick_t2, waits_if, t1_expired, t1_if, after_init_timer, init_expired, init_if, tick_open, tick_in, advance_if, advance}
+use Rattle.spec_endpoint.specs.Timers.{Ticking, tick_ack, t3_if, tick_t3, tick_interval, tick_timeout, request_again, errs_if, reconfig_timeout, requests_if, ticking, tick_timers, TimerOutcome, after_timers, abort_if, abort_if_exhausted, abort_or_send_if, abort_or_send, after_ticks_if, after_ticks, t2_expired, t2_if, tick_t2, waits_if, t1_expired, t1_if, after_init_timer, init_expired, init_if, tick_open, tick_in, advance_if, advance, is_owed}
 use Rattle.spec_endpoint.specs.Laws.{Call, Advance}
 use Rattle.proof_endpoint.specs.Acts.{all_along, EndWithPacket, idle, advances, delay_ends, times_out, beats, times_init, times_cookie, times_request, wakes_request, counts_errors, Preserves}
 use Rattle.proof_endpoint.proofs.BundledLemmas.{request_more}
@@ -113,7 +113,7 @@ module _ {P : Type 0} {call : Call} {R : EndWithPacket P → EndWithPacket P →
     does_settled_if false t c = k.same (idle (Open phase t) c w)
 
     does_settled : (x : Ticking P) → Leaves (idle (Open phase x.tcb) x.context w) (after_ticks x)
-    does_settled x = does_settled_if x.has_expired x.tcb x.context
+    does_settled x = does_settled_if (x.has_expired || is_owed x.tcb x.context) x.tcb x.context
 
     -- the timers, and then this
     does_ticked_settled : (t : Tcb) (c : Context P) → Leaves (idle (Open phase t) c w) (after_ticks (tick_timers t c))

@@ -1,5 +1,5 @@
 -- The passing of time.
-use Rattle.std.proofs.Common.{◌≡◌, ℕ, nat_lt, Bool, true, false, List, codes, refl, ap, ◌∙◌}
+use Rattle.std.proofs.Common.{◌≡◌, ℕ, nat_lt, Bool, true, false, List, codes, refl, ap, ◌∙◌, ◌||◌}
 use Rattle.sctp_state.specs.declared.api.ErrorKind.TheVariants.{TooManyRetries}
 use Rattle.sctp_state.specs.TxErrorCounter.{is_exhausted}
 use Rattle.sctp_state.specs.RetransmissionTimeout.{rto}
@@ -13,7 +13,7 @@ use Rattle.spec_endpoint.specs.Sending.{AfterSending, add_request, send_cookie}
 use Rattle.spec_endpoint.specs.Shutdown.{over, send_shutdown, send_shutdown_ack, too_many}
 use Rattle.spec_endpoint.specs.Opening.{send_init}
 use Rattle.spec_endpoint.specs.Heartbeats.{counted_on, heartbeat_chunk, send_heartbeat_if, heartbeat_timeout_if}
-use Rattle.spec_endpoint.specs.Timers.{Ticking, tick_ack, timed_out, t3_if, tick_t3, tick_interval, tick_timeout, request_again, errs_if, requests_again, reconfig_timeout, requests_if, tick_requests, ticking, tick_timers, TimerOutcome, timer_outcome, closed_if, after_timers, abort_if, abort_if_exhausted, abort_or_send_if, abort_or_send, after_ticks_if, after_ticks, t2_expired, t2_if, tick_t2, waits_if, echoed_again, t1_expired, t1_if, tick_cookie, InitOutcome, init_outcome, waiting_if, after_init_timer, init_expired, init_if, tick_init, tick_open, tick_in, advance_if, advance}
+use Rattle.spec_endpoint.specs.Timers.{Ticking, tick_ack, timed_out, t3_if, tick_t3, tick_interval, tick_timeout, request_again, errs_if, requests_again, reconfig_timeout, requests_if, tick_requests, ticking, tick_timers, TimerOutcome, timer_outcome, closed_if, after_timers, abort_if, abort_if_exhausted, abort_or_send_if, abort_or_send, after_ticks_if, after_ticks, t2_expired, t2_if, tick_t2, waits_if, echoed_again, t1_expired, t1_if, tick_cookie, InitOutcome, init_outcome, waiting_if, after_init_timer, init_expired, init_if, tick_init, tick_open, tick_in, advance_if, advance, is_owed}
 use Rattle.proof_endpoint.specs.Mapped.{Mapping, map_context, map_endpoint_state}
 use Rattle.proof_endpoint.proofs.EmittedMapsLemmas.{maps_nack_all}
 use Rattle.proof_endpoint.proofs.SendingMapsLemmas.{maps_emit, maps_emit_chunk, maps_send_buffered, maps_send_cookie}
@@ -124,7 +124,7 @@ module _ {P Q : Type 0} (f : Mapping P Q) where
   maps_settled_if false t c = refl
 
   maps_settled : (x : Ticking P) → after_ticks (map_ticking f x) ≡ map_left f (after_ticks x)
-  maps_settled x = maps_settled_if x.has_expired x.tcb x.context
+  maps_settled x = maps_settled_if (x.has_expired || is_owed x.tcb x.context) x.tcb x.context
 
   -- ---- T2-shutdown
 

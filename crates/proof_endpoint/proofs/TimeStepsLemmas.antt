@@ -1,5 +1,5 @@
 -- What the passing of time emits.
-use Rattle.std.proofs.Common.{ℕ, nat_lt, Bool, true, false, List, codes, refl}
+use Rattle.std.proofs.Common.{ℕ, nat_lt, Bool, true, false, List, codes, refl, ◌||◌}
 use Rattle.sctp_state.specs.declared.api.ErrorKind.TheVariants.{TooManyRetries}
 use Rattle.sctp_state.specs.TxErrorCounter.{is_exhausted}
 use Rattle.sctp_state.specs.RetransmissionTimeout.{rto}
@@ -11,13 +11,13 @@ use Rattle.spec_endpoint.specs.ResetRequests.{lasting, expire_reconfig_timer, cl
 use Rattle.spec_endpoint.specs.Sending.{AfterSending, add_request, send_cookie}
 use Rattle.spec_endpoint.specs.Shutdown.{send_shutdown, send_shutdown_ack}
 use Rattle.spec_endpoint.specs.Heartbeats.{counted_on, heartbeat_chunk, send_heartbeat_if, heartbeat_timeout_if}
-use Rattle.spec_endpoint.specs.Timers.{Ticking, tick_ack, t3_if, tick_t3, tick_interval, tick_timeout, request_again, errs_if, requests_again, reconfig_timeout, requests_if, ticking, tick_timers, TimerOutcome, closed_if, after_timers, abort_if, abort_if_exhausted, abort_or_send_if, abort_or_send, after_ticks_if, after_ticks, t2_expired, t2_if, tick_t2, waits_if, echoed_again, t1_expired, t1_if, tick_cookie, InitOutcome, waiting_if, init_expired, init_if, tick_init, tick_open, tick_in, advance_if, advance}
+use Rattle.spec_endpoint.specs.Timers.{Ticking, tick_ack, t3_if, tick_t3, tick_interval, tick_timeout, request_again, errs_if, requests_again, reconfig_timeout, requests_if, ticking, tick_timers, TimerOutcome, closed_if, after_timers, abort_if, abort_if_exhausted, abort_or_send_if, abort_or_send, after_ticks_if, after_ticks, t2_expired, t2_if, tick_t2, waits_if, echoed_again, t1_expired, t1_if, tick_cookie, InitOutcome, waiting_if, init_expired, init_if, tick_init, tick_open, tick_in, advance_if, advance, is_owed}
 use Rattle.spec_endpoint.specs.Laws.{ends}
 use Rattle.proof_endpoint.proofs.StepsLemmas.{most_bytes, Goes, Steps}
 use Rattle.proof_endpoint.proofs.EmitsLemmas.{emits_nack_all}
-use Rattle.proof_endpoint.proofs.GoesLemmas.{small_new, goes_by, goes_silent, goes_same, goes_then, goes_said, goes_emit, goes_emit_chunk}
+use Rattle.proof_endpoint.proofs.GoesLemmas.{small_new, goes_by, goes_silent, goes_same, goes_then, goes_emit, goes_emit_chunk}
 use Rattle.proof_endpoint.proofs.SendingStepsLemmas.{small_add_request, goes_send_buffered, goes_send_cookie}
-use Rattle.proof_endpoint.proofs.RowStepsLemmas.{StepsFrom, steps_same, goes_too_many, goes_send_shutdown, goes_send_shutdown_ack}
+use Rattle.proof_endpoint.proofs.RowStepsLemmas.{StepsFrom, steps_same, goes_closed, goes_too_many, goes_send_shutdown, goes_send_shutdown_ack}
 use Rattle.proof_endpoint.proofs.OpeningStepsLemmas.{goes_send_init}
 
 -- an association that has ended emitted so once
@@ -113,7 +113,7 @@ module _ {P : Type 0} where
   leaves_settled_if false t c = goes_same c
 
   leaves_settled : (c : Context P) (x : Ticking P) → Goes 0 c x.context → Leaves c (after_ticks x)
-  leaves_settled c x g = leaves_then c x.context (after_ticks x) g (leaves_settled_if x.has_expired x.tcb x.context)
+  leaves_settled c x g = leaves_then c x.context (after_ticks x) g (leaves_settled_if (x.has_expired || is_owed x.tcb x.context) x.tcb x.context)
 
   -- ---- T2-shutdown
 
@@ -147,7 +147,7 @@ module _ {P : Type 0} where
       let x : AfterSending P = send_cookie cookie t c in
       leaves_then c x.context (echoed_again x) (goes_send_cookie c cookie t) (leaves_abort_if_exhausted x.tcb x.context)
   leaves_t1_expired false cookie t c =
-      goes_said 1 c (t1_expired false cookie t c).context (OnAborted TooManyRetries (codes "No COOKIE_ACK received")) refl refl refl tt refl
+      goes_closed (OnAborted TooManyRetries (codes "No COOKIE_ACK received")) c tt refl
 
   leaves_t1_if : (b : Bool) (t1 : Timer) (cookie : List ℕ) (x : Ticking P) → Leaves x.context (t1_if b t1 cookie x)
   leaves_t1_if true t1 cookie x = leaves_t1_expired (is_running (expire x.context.now t1)) cookie x.tcb x.context
@@ -161,7 +161,7 @@ module _ {P : Type 0} where
   goes_init_expired : (b : Bool) (tag first : ℕ) (c : Context P) → Goes (once (init_expired b tag first c).has_ended) c (init_expired b tag first c).context
   goes_init_expired true tag first c = goes_send_init tag first c
   goes_init_expired false tag first c =
-      goes_said 1 c (init_expired false tag first c).context (OnAborted TooManyRetries (codes "No INIT_ACK received")) refl refl refl tt refl
+      goes_closed (OnAborted TooManyRetries (codes "No INIT_ACK received")) c tt refl
 
   goes_init_if : (b : Bool) (tag first : ℕ) (t1 : Timer) (c : Context P) → Goes (once (init_if b tag first t1 c).has_ended) c (init_if b tag first t1 c).context
   goes_init_if true tag first t1 c = goes_init_expired (is_running (expire c.now t1)) tag first c

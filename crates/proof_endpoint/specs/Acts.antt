@@ -37,7 +37,7 @@ use Rattle.sctp_tx.specs.Sending.{send}
 use Rattle.spec_endpoint.specs.Association.{Tcb, tcb, Phase, CookieEchoed, Established, ShutdownPending, State, Closed, CookieWait, Open, Heartbeats, Context, Endpoint}
 use Rattle.spec_endpoint.specs.Packets.{PacketDraft, clear_chunks, room, add, add_all, has_chunks, packet_to, emit_event_in, emit_error, emit_if}
 use Rattle.spec_endpoint.specs.ResetRequests.{Request, Requests, request_chunk, in_progress, performed, nothing_to_do, bad_number, is_final, is_last_request, is_known_request, clear_deferral, set_last_request, outcome, handle_response}
-use Rattle.spec_endpoint.specs.Sending.{selective_ack, take_due_ack, without_duplicates, request_started, data_chunks, is_small, is_before_cookie_ack, fast_most}
+use Rattle.spec_endpoint.specs.Sending.{selective_ack, take_due_ack, force_ack, without_duplicates, request_started, data_chunks, is_small, is_before_cookie_ack, fast_most}
 use Rattle.spec_endpoint.specs.Heartbeats.{restart_interval_if}
 use Rattle.spec_endpoint.specs.Shutdown.{over}
 use Rattle.spec_endpoint.specs.Opening.{tsn_from, tag_from, word, drew_word, long_word, drew_long_word, init_of, t1_init, init_ack_of, next_first, agreed_by, cookie_in, maker, queue_anew, t1_cookie, identity_of_init_ack, enter_connected, RestartDetected, SimultaneousInit, MaintainExisting, resolve_by_tags, queue_for, tcb_by}
@@ -308,7 +308,7 @@ after_opening (answers_again tag i phase t m received late to) = with_init_ack i
 after_opening (echoes tag i cookie my_tag first t1 m received brought) = echo_step i cookie my_tag first m
 after_opening (adds_cookie t1 cookie t m to) = with_chunk (cookie_echo_chunk cookie) (in_open (CookieEchoed t1 cookie) t m)
 after_opening (establishes tag t1 cookie t m received) = in_open Established t (with_context (enter_connected m.context) m)
-after_opening (opens tag k m echoed none own) = opened_by false k m
+after_opening (opens tag k m echoed none own) = opened_by m.context.options.avoid_stalls k m
 after_opening (restarts tag k phase t m echoed resolution) = opened_by true k (with_context (emit_event_in OnConnectionRestarted m.context) m)
 after_opening (opens_again tag k phase t m echoed resolution) = opened_by true k m
 after_opening (maintains tag k t1 cookie t m echoed resolution) = in_open Established t (with_context (enter_connected m.context) m)
@@ -343,10 +343,10 @@ after_closing (shuts_on phase next t m late later) = in_open next t m
 pub data DataAct (P : Type 0) (call : Call) : Type 0 where
   takes_data : (tag tsn : ℕ) (is_immediate : Bool) (f : FragmentTree) (phase : Phase) (t : Tcb) (m : EndWithPacket P)
       → BringsChunk call tag (data_chunk tsn is_immediate f) → misuse t.capabilities (data_chunk tsn is_immediate f) ≡ None → (length f.payload == 0) ≡ false
-      → accepts_tsn tsn t ≡ true → DataAct P call
+      → accepts_tsn m.context.options tsn t ≡ true → DataAct P call
   takes_idata : (tag tsn : ℕ) (is_immediate : Bool) (f : FragmentTree) (phase : Phase) (t : Tcb) (m : EndWithPacket P)
       → BringsChunk call tag (idata_chunk tsn is_immediate f) → misuse t.capabilities (idata_chunk tsn is_immediate f) ≡ None → (length f.payload == 0) ≡ false
-      → accepts_tsn tsn t ≡ true → DataAct P call
+      → accepts_tsn m.context.options tsn t ≡ true → DataAct P call
   takes_forward : (tag tsn : ℕ) (skipped : List SkippedStream) (phase : Phase) (t : Tcb) (m : EndWithPacket P) → BringsChunk call tag (forward_tsn_chunk tsn skipped)
       → misuse t.capabilities (forward_tsn_chunk tsn skipped) ≡ None → is_valid t.tracker.tracker (tracker.number_of t.tracker tsn) ≡ true → DataAct P call
   takes_iforward : (tag tsn : ℕ) (skipped : List SkippedStream) (phase : Phase) (t : Tcb) (m : EndWithPacket P) → BringsChunk call tag (i_forward_tsn_chunk tsn skipped)
@@ -392,8 +392,9 @@ after_sack (counts_errors e m) = with_context (record m.context { errors = e }) 
 -- ---- sending
 
 pub data SendingAct (P : Type 0) (call : Call) : Type 0 where
-  -- the tracker is asked whether an acknowledgement is due, and one is made
+  -- the tracker is asked whether an acknowledgement is due, or one is made due; and one is made
   asks : (also_if_delayed : Bool) (phase : Phase) (t : Tcb) (m : EndWithPacket P) → SendingAct P call
+  forces_ack : (phase : Phase) (t : Tcb) (m : EndWithPacket P) → SendingAct P call
   adds_ack : (phase : Phase) (t : Tcb) (m : EndWithPacket P) → SendingAct P call
   -- what has expired is given up, and a forward point made
   expires : (phase : Phase) (t : Tcb) (m : EndWithPacket P) → SendingAct P call
@@ -410,6 +411,7 @@ pub data SendingAct (P : Type 0) (call : Call) : Type 0 where
 
 abbrev pub before_sending : {P : Type 0} {call : Call} → SendingAct P call → EndWithPacket P
 before_sending (asks also_if_delayed phase t m) = in_open phase t m
+before_sending (forces_ack phase t m) = in_open phase t m
 before_sending (adds_ack phase t m) = in_open phase t m
 before_sending (expires phase t m) = in_open phase t m
 before_sending (adds_forward phase t m due) = in_open phase t m
@@ -437,6 +439,7 @@ with_fragments f phase t m = record m {
 
 abbrev pub after_sending : {P : Type 0} {call : Call} → SendingAct P call → EndWithPacket P
 after_sending (asks also_if_delayed phase t m) = in_open phase (take_due_ack also_if_delayed t) m
+after_sending (forces_ack phase t m) = in_open phase (force_ack t) m
 after_sending (adds_ack phase t m) = with_chunk (selective_ack t) (in_open phase (without_duplicates t) m)
 after_sending (expires phase t m) =
     in_open phase (record t { sender = abandon_expired m.context.now t.sender m.context.emitted })
@@ -463,6 +466,7 @@ pub data TimeAct (P : Type 0) (call : Call) : Type 0 where
   beats : (h : Heartbeats) (m : EndWithPacket P) → TimeAct P call
   times_init : (tag first : ℕ) (old new : Timer) (m : EndWithPacket P) → TimeAct P call
   times_cookie : (old new : Timer) (cookie : List ℕ) (t : Tcb) (m : EndWithPacket P) → TimeAct P call
+  times_items : (timer : Timer) (phase : Phase) (t : Tcb) (m : EndWithPacket P) → TimeAct P call
   times_request : (timer : Timer) (phase : Phase) (t : Tcb) (m : EndWithPacket P) → TimeAct P call
   wakes_request : (phase : Phase) (t : Tcb) (m : EndWithPacket P) → TimeAct P call
 
@@ -473,6 +477,7 @@ before_time (times_out phase t m due) = in_open phase t m
 before_time (beats h m) = m
 before_time (times_init tag first old new m) = in_state (CookieWait tag first old) m
 before_time (times_cookie old new cookie t m) = in_open (CookieEchoed old cookie) t m
+before_time (times_items timer phase t m) = in_open phase t m
 before_time (times_request timer phase t m) = in_open phase t m
 before_time (wakes_request phase t m) = in_open phase t m
 
@@ -489,6 +494,7 @@ after_time (times_out phase t m due) =
 after_time (beats h m) = with_context (record m.context { heartbeats = h }) m
 after_time (times_init tag first old new m) = in_state (CookieWait tag first new) m
 after_time (times_cookie old new cookie t m) = in_open (CookieEchoed new cookie) t m
+after_time (times_items timer phase t m) = in_open phase (record t { sender = record t.sender { t3 = timer } }) m
 after_time (times_request timer phase t m) = in_open phase (record t { requests = record t.requests { timer = timer } }) m
 after_time (wakes_request phase t m) = in_open phase (record t { requests = clear_deferral t.requests }) m
 

@@ -24,13 +24,14 @@ use Rattle.sctp_tx_queue.specs.Produced.{produce}
 use Rattle.sctp_tx_queue.specs.Settings.{set_low_threshold, set_priority, set_mode, discard}
 use Rattle.sctp_tx_queue.specs.Resets.{prepare_reset, each_stepped}
 use Rattle.sctp_tx_queue.specs.Restarted.{reset}
+use Rattle.sctp_tx_queue.specs.Emptied.{empty}
 use Rattle.sctp_tx_queue.specs.InOrder.{IsInOrder, HasRests}
 use Rattle.sctp_tx_queue.specs.Readiness.{has_reset_pending}
 use Rattle.sctp_tx_queue.specs.Again.{again, entries_again}
 use Rattle.spec_endpoint.specs.Association.{Identity, Tcb, tcb, Established, Closed, Open, Context, context, EndpointState, fresh, Packing}
 use Rattle.spec_endpoint.specs.Packets.{emit_event_in}
-use Rattle.spec_endpoint.specs.Sending.{open_with, send_buffered}
-use Rattle.spec_endpoint.specs.Handover.{readiness, handover_state, handed_over, hand_over, method_if, tcb_from, queue_restored, restore}
+use Rattle.spec_endpoint.specs.Sending.{AfterSending}
+use Rattle.spec_endpoint.specs.Handover.{readiness, handover_state, handed_over, hand_over, method_if, tcb_from, queue_restored, woken_if, goes_on, restore}
 use Rattle.proof_endpoint.specs.Lifecycles.{one_if}
 
 -- ---- what each end with an association has
@@ -113,6 +114,11 @@ block_again t c = tcb_from c.now c.options (handover_state t c)
 abbrev pub context_again : Tcb → Context (List ℕ) → Packing (List ℕ) → Words → Context (List ℕ)
 context_again t c pack draws = emit_event_in OnConnected (queue_restored (handover_state t c) (successor c pack draws).context)
 
+-- and with stalls avoided, its timers started
+abbrev pub woken_again : Tcb → Context (List ℕ) → Packing (List ℕ) → Words → AfterSending (List ℕ)
+woken_again t c pack draws =
+    woken_if c.options.avoid_stalls (block_again t c) (queue_restored (handover_state t c) (successor c pack draws).context)
+
 -- The items come back under their TSNs, with what the record doesn't hold read anew.
 pub record ItemsComeBack (now : ℕ) (d after : Outstanding) : Type 0 where
   pub kept : after.items.kept ≡ items_again now d.items.kept
@@ -157,8 +163,7 @@ pub record GoesOn (t : Tcb) (c : Context (List ℕ)) (pack : Packing (List ℕ))
   pub left : hand_over (established_state t c) ≡ record { state = Closed; context = emit_event_in OnClosed c }
   pub nothing : NothingWaits t c.queue
   pub valid : is_valid_state (handed_over (established_state t c)) ≡ true
-  pub taken : restore (handed_over (established_state t c)) (successor c pack draws)
-      ≡ open_with Established (send_buffered false (block_again t c) (context_again t c pack draws))
+  pub taken : restore (handed_over (established_state t c)) (successor c pack draws) ≡ goes_on (woken_again t c pack draws)
   pub association : (block_again t c).identity ≡ t.identity
   pub capabilities : (block_again t c).capabilities ≡ t.capabilities
   pub items : ItemsComeBack c.now t.sender.outstanding (block_again t c).sender.outstanding
@@ -211,3 +216,4 @@ pub record CallsNumberOnce : Type 0 where
   pub prepared : (id : ℕ) (q : Queue) (emitted : Emitted (List ℕ)) → IsNumberedOnce q → IsNumberedOnce (prepare_reset id q emitted).queue
   pub steps : (step : ResetStep) (ids : List ℕ) (q : Queue) → IsNumberedOnce q → IsNumberedOnce (each_stepped step ids q)
   pub restarted : (q : Queue) → IsNumberedOnce q → IsNumberedOnce (reset q)
+  pub emptied : (q : Queue) (emitted : Emitted (List ℕ)) → IsNumberedOnce q → IsNumberedOnce (empty q emitted).queue

@@ -249,7 +249,7 @@ module _ (o : Options) (past : List (Event Carried)) (y : Past) (fine : AreValid
 
     judged_open : (v : CookieResolution) (phase : Phase) (t : Tcb) (s : Endpoint Carried) → resolve_by_tags tag t.identity k ≡ v → InvAt g x y (calm (end_in (Open phase t) s))
         → Goes g y n echoed (noted [] (on_resolution v k (end_in (Open phase t) s)).endpoint_state.state n) (on_resolution v k (end_in (Open phase t) s))
-    judged_open EstablishNew phase t s is inv = anew false (view_of (Open phase t)) s.endpoint_state.context (end_in (Open phase t) s) inv
+    judged_open EstablishNew phase t s is inv = anew s.endpoint_state.context.options.avoid_stalls (view_of (Open phase t)) s.endpoint_state.context (end_in (Open phase t) s) inv
     judged_open RestartDetected phase t s is inv = restarted phase t s inv
     judged_open SimultaneousInit phase t s is inv = anew true (view_of (Open phase t)) s.endpoint_state.context (end_in (Open phase t) s) inv
     judged_open MaintainExisting phase t s is inv = keeps phase t s.endpoint_state.context s.draws is inv
@@ -258,7 +258,7 @@ module _ (o : Options) (past : List (Event Carried)) (y : Past) (fine : AreValid
 
     judged_new : (b : Bool) (st : State) (s : Endpoint Carried) → InvAt g x y (calm (end_in st s))
         → Goes g y n echoed (noted [] (on_resolution (new_if b) k (end_in st s)).endpoint_state.state n) (on_resolution (new_if b) k (end_in st s))
-    judged_new true st s inv = anew false (view_of st) s.endpoint_state.context (end_in st s) inv
+    judged_new true st s inv = anew s.endpoint_state.context.options.avoid_stalls (view_of st) s.endpoint_state.context (end_in st s) inv
     judged_new false st s inv = invalid st s inv
 
     pub does_judged : (st : State) (s : Endpoint Carried) → InvAt g x y (calm (end_in st s))

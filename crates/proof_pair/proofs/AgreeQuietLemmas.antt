@@ -9,10 +9,11 @@ use Rattle.sctp_state.specs.Handover.{HandoverState}
 use Rattle.sctp_state.specs.Options.{Options}
 use Rattle.sctp_state.specs.Events.{Event, OnError, OnClosed}
 use Rattle.sctp_capabilities.proofs.CapabilitiesLemmas.{announced_with_options}
-use Rattle.spec_endpoint.specs.Association.{Tcb, Phase, CookieEchoed, Established, ShutdownPending, CookieWait, Open, Context}
+use Rattle.spec_endpoint.specs.Association.{Tcb, Phase, CookieEchoed, Established, ShutdownPending, Closed, CookieWait, Open, Context}
 use Rattle.spec_endpoint.specs.Packets.{PacketDraft, packet_to, add}
 use Rattle.spec_endpoint.specs.ResetRequests.{Outcome, Unsettled, Done, Denied, outcome, request_chunk}
 use Rattle.spec_endpoint.specs.StreamReset.{on_outcome}
+use Rattle.spec_endpoint.specs.Shutdown.{ended, over}
 use Rattle.spec_endpoint.specs.Sending.{is_small, selective_ack, fast_most}
 use Rattle.spec_endpoint.specs.Opening.{init_of}
 use Rattle.spec_endpoint.specs.Laws.{Call, Connect, Restore, ending}
@@ -21,11 +22,11 @@ use Rattle.sctp_tx.specs.Resent.{resent_fast}
 use Rattle.sctp_tx.specs.ForwardPoints.{chunk_if, forward_chunk}
 use Rattle.sctp_tx.specs.Sending as fragments
 use Rattle.proof_endpoint.specs.Mapped.{Carried}
-use Rattle.proof_endpoint.specs.Acts.{EndWithPacket, in_open, may_shut, BringsChunk, IsEchoed, fragments_of, PacketAct, begins, adds_plain, emits, emits_error, counts, before_packets, after_packets, OpeningAct, connects, adds_init, answers_new, answers_waiting, answers_echoed, answers_again, echoes, adds_cookie, establishes, opens, restarts, opens_again, maintains, adds_cookie_ack, before_opening, after_opening, ClosingAct, closes, shuts, shuts_on, before_closing, after_closing, DataAct, takes_data, takes_idata, takes_forward, takes_iforward, before_data, after_data, SackAct, takes_sack, samples, counts_errors, before_sack, after_sack, SendingAct, asks, adds_ack, expires, adds_forward, forwards_later, asks_no_reset, asks_reset, adds_request, sends, sends_fast, before_sending, after_sending, TimeAct, advances, delay_ends, times_out, beats, times_init, times_cookie, times_request, wakes_request, before_time, after_time, CallAct, accepts, refuses, takes_message, sets_low_threshold, sets_priority, sets_max_message_size, before_call, after_call, ResetAct, prepares, defers, performs, processes, takes_response, adds_responses, before_reset, after_reset, HandoverAct, leaves, takes_up, before_handover, after_handover, InputAct, ends_packet, before_input, after_input, Preserves}
+use Rattle.proof_endpoint.specs.Acts.{EndWithPacket, in_state, with_context, in_open, may_shut, BringsChunk, IsEchoed, fragments_of, PacketAct, begins, adds_plain, emits, emits_error, counts, before_packets, after_packets, OpeningAct, connects, adds_init, answers_new, answers_waiting, answers_echoed, answers_again, echoes, adds_cookie, establishes, opens, restarts, opens_again, maintains, adds_cookie_ack, before_opening, after_opening, ClosingAct, closes, shuts, shuts_on, before_closing, after_closing, DataAct, takes_data, takes_idata, takes_forward, takes_iforward, before_data, after_data, SackAct, takes_sack, samples, counts_errors, before_sack, after_sack, SendingAct, asks, forces_ack, adds_ack, expires, adds_forward, forwards_later, asks_no_reset, asks_reset, adds_request, sends, sends_fast, before_sending, after_sending, TimeAct, advances, delay_ends, times_out, beats, times_init, times_cookie, times_request, times_items, wakes_request, before_time, after_time, CallAct, accepts, refuses, takes_message, sets_low_threshold, sets_priority, sets_max_message_size, before_call, after_call, ResetAct, prepares, defers, performs, processes, takes_response, adds_responses, before_reset, after_reset, HandoverAct, leaves, takes_up, before_handover, after_handover, InputAct, ends_packet, before_input, after_input, Preserves}
 use Rattle.proof_pair.specs.Trace.{AreValidOptions}
 use Rattle.proof_pair.specs.Agreement.{association_of}
 use Rattle.proof_pair.proofs.EmittedLemmas.{EmitsNoPacketOrStatus}
-use Rattle.proof_pair.proofs.UntilLemmas.{sack_act_emits_no_packet_or_status, sending_act_emits_no_packet_or_status, time_act_emits_no_packet_or_status, call_act_emits_no_packet_or_status, reset_act_emits_no_packet_or_status}
+use Rattle.proof_pair.proofs.UntilLemmas.{over_gives_up, sack_act_emits_no_packet_or_status, sending_act_emits_no_packet_or_status, time_act_emits_no_packet_or_status, call_act_emits_no_packet_or_status, reset_act_emits_no_packet_or_status}
 use Rattle.proof_pair.proofs.AgreeLemmas.{Past, View, rests, holds, view_of, late_phase, FitsDraw, FitsInit, Says, Shape, Holds, tagged_rests, tagged_holds, later_same}
 use Rattle.proof_pair.proofs.AgreeActsLemmas.{Setting, Inv, InvAt, inv_made, inv_view, inv_no_packet_or_status, inv_emitted, inv_options, inv_later, adds, IsLoad, adds_load, adds_data, adds_simple}
 use Rattle.proof_pair.proofs.JoinActsLemmas.{ends_no_packet}
@@ -147,7 +148,9 @@ module _ (g : Setting) (x y : Past) (call : Call) (own : AreValidOptions g.own) 
   shuts_from phase t m early inv = cc
 
   keeps_closing : (act : ClosingAct Carried call) → InvAt g x y (before_closing act) → InvAt g x y (after_closing act)
-  keeps_closing (closes e m there is) inv = closed_from (view_of m.state) m e is inv
+  keeps_closing (closes e m there is) inv =
+      emits_all rests (in_state Closed (with_context (ended e m.context) m)) (in_state Closed (with_context (over e m.context) m)) m.packet.tag m.packet.chunks
+      (over_gives_up e m.context) (closed_from (view_of m.state) m e is inv)
   keeps_closing (shuts phase t m is early) inv = shuts_from phase t m early inv
   keeps_closing (shuts_on phase next t m late later) inv =
       subst (λ (v : View). Inv g x y v m.context.options m.context.pack m.context.emitted.events m.packet.tag m.packet.chunks)
@@ -176,6 +179,7 @@ module _ (g : Setting) (x y : Past) (call : Call) (own : AreValidOptions g.own) 
 
   keeps_sending : (act : SendingAct Carried call) → InvAt g x y (before_sending act) → InvAt g x y (after_sending act)
   keeps_sending (asks also_if_delayed phase t m) inv = inv
+  keeps_sending (forces_ack phase t m) inv = inv
   keeps_sending (adds_ack phase t m) inv =
       loads (view_of (Open phase t)) m (selective_ack t) inv (record { says = λ tag. tt; load = refl })
   keeps_sending (expires phase t m) inv =
@@ -210,6 +214,7 @@ module _ (g : Setting) (x y : Past) (call : Call) (own : AreValidOptions g.own) 
   keeps_time (times_init tag first old new m) inv = inv
   keeps_time (times_cookie old new cookie t m) inv = inv
   keeps_time (times_request timer phase t m) inv = inv
+  keeps_time (times_items timer phase t m) inv = inv
   keeps_time (wakes_request phase t m) inv = inv
 
   keeps_calls : (act : CallAct Carried call) → InvAt g x y (before_call act) → InvAt g x y (after_call act)

@@ -12,13 +12,15 @@ use Rattle.sctp_capabilities.specs.declared.state_cookie.StateCookieError.{State
 use Rattle.sctp_capabilities.specs.StateCookie.{Cookie, read_cookie, refusal_text}
 use Rattle.sctp_state.specs.Events.{Event, OnAborted, OnError}
 use Rattle.sctp_tx.specs.RetransmissionQueue.{SackAnswer, Invalid, Valid}
-use Rattle.spec_endpoint.specs.Association.{Tcb, Phase, CookieEchoed, Established, ShutdownPending, ShutdownSent, ShutdownReceived, ShutdownAckSent, State, Closed, CookieWait, Open, Context, Endpoint, where_open}
+use Rattle.spec_endpoint.specs.Association.{Tcb, Phase, CookieEchoed, Established, ShutdownPending, ShutdownSent, ShutdownReceived, ShutdownAckSent, State, Closed, CookieWait, Open, Context, EndpointState, Endpoint, where_open}
 use Rattle.spec_endpoint.specs.Packets.{PacketDraft, packet_to, round_down_to_4, add, emit}
 use Rattle.spec_endpoint.specs.Data.{on_data_if}
 use Rattle.spec_endpoint.specs.Sack as acknowledging
 use Rattle.spec_endpoint.specs.StreamReset.{Handling, finish_reconfig_if}
 use Rattle.spec_endpoint.specs.Opening.{CookieResolution, EstablishNew, RestartDetected, SimultaneousInit, MaintainExisting, Discard, InvalidTag, new_if, resolve_by_tags, cookie_in, echo_or_abort, on_resolution, on_read_cookie}
-use Rattle.spec_endpoint.specs.Input.{AfterChunk, receive, received_if, receive_all, receive_rest, violation, on_chunk, in_endpoint_state, ack_if_due, on_packet_end}
+use Rattle.sctp_rx.specs.DataTracker.{is_ack_due}
+use Rattle.spec_endpoint.specs.Sending.{take_due_ack}
+use Rattle.spec_endpoint.specs.Input.{AfterChunk, receive, received_if, receive_all, receive_rest, violation, on_chunk, in_endpoint_state, ack_if_due, at_end, packet_acked, shut_waiting, shut_if, on_packet_end}
 use Rattle.spec_endpoint.specs.Laws.{ReceivePacket as Given, ReceiveNoPacket}
 use Rattle.proof_endpoint.specs.Mapped.{Carried}
 use Rattle.proof_endpoint.proofs.OpeningStepsLemmas.{end_in}
@@ -87,10 +89,24 @@ ended_if_open : (b : Bool) (phase : Phase) (t : Tcb) (c : Context Carried) → i
 ended_if_open true phase t c = refl
 ended_if_open false phase t c = refl
 
+-- a shutdown that waited may go on then
+shut_open : (b : Bool) (s : EndpointState Carried) → is_opened s.state ≡ true → is_opened (shut_if b s).state ≡ true
+shut_open true s e = by s.state s.context e
+  where
+    by : (st : State) (c : Context Carried) → is_opened st ≡ true → is_opened (where_open shut_waiting (record { state = st; context = c })).state ≡ true
+    by Closed c e = cc
+    by (CookieWait tag first t1) c e = cc
+    by (Open phase t) c e = refl
+shut_open false s e = e
+
+acked_open : (phase : Phase) (t : Tcb) (c : Context Carried) → is_opened (packet_acked phase t c).state ≡ true
+acked_open phase t c = let u : Tcb = at_end c.now t in ended_if_open (is_ack_due false u.tracker.tracker.ack) phase (take_due_ack false u) c
+
 ended_open : (st : State) (s : Endpoint Carried) → is_opened st ≡ true → is_opened (in_endpoint_state (where_open on_packet_end) (end_in st s)).endpoint_state.state ≡ true
 ended_open Closed s e = cc
 ended_open (CookieWait tag first t1) s e = cc
-ended_open (Open phase t) s e = ended_if_open _ phase _ _
+ended_open (Open phase t) s e =
+    let c : Context Carried = s.endpoint_state.context in shut_open c.options.avoid_stalls (packet_acked phase t c) (acked_open phase t c)
 
 -- ---- what is emitted
 

@@ -6,14 +6,15 @@ use Rattle.sctp_packet.specs.Chunk.{ChunkTree, init_ack_chunk, cookie_echo_chunk
 use Rattle.sctp_capabilities.specs.StateCookie.{Cookie}
 use Rattle.sctp_state.specs.Handover.{HandoverState}
 use Rattle.sctp_state.specs.Events.{Event, SendPacket, OnConnected, OnError, OnClosed}
-use Rattle.spec_endpoint.specs.Association.{State}
+use Rattle.spec_endpoint.specs.Association.{State, Closed}
+use Rattle.spec_endpoint.specs.Shutdown.{ended, over}
 use Rattle.spec_endpoint.specs.Laws.{Call, Restore, ending}
 use Rattle.proof_endpoint.specs.Mapped.{Carried}
-use Rattle.proof_endpoint.specs.Acts.{EndWithPacket, BringsChunk, IsEchoed, PacketAct, begins, adds_plain, emits, emits_error, counts, before_packets, after_packets, OpeningAct, connects, adds_init, answers_new, answers_waiting, answers_echoed, answers_again, echoes, adds_cookie, establishes, opens, restarts, opens_again, maintains, adds_cookie_ack, before_opening, after_opening, ClosingAct, closes, shuts, shuts_on, before_closing, after_closing, DataAct, takes_data, takes_idata, takes_forward, takes_iforward, before_data, after_data, SackAct, takes_sack, samples, counts_errors, before_sack, after_sack, SendingAct, asks, adds_ack, expires, adds_forward, forwards_later, asks_no_reset, asks_reset, adds_request, sends, sends_fast, before_sending, after_sending, TimeAct, advances, delay_ends, times_out, beats, times_init, times_cookie, times_request, wakes_request, before_time, after_time, CallAct, takes_message, before_call, after_call, ResetAct, prepares, defers, performs, processes, takes_response, adds_responses, before_reset, after_reset, HandoverAct, leaves, takes_up, before_handover, after_handover, InputAct, ends_packet, before_input, after_input, Preserves}
+use Rattle.proof_endpoint.specs.Acts.{EndWithPacket, in_state, with_context, BringsChunk, IsEchoed, PacketAct, begins, adds_plain, emits, emits_error, counts, before_packets, after_packets, OpeningAct, connects, adds_init, answers_new, answers_waiting, answers_echoed, answers_again, echoes, adds_cookie, establishes, opens, restarts, opens_again, maintains, adds_cookie_ack, before_opening, after_opening, ClosingAct, closes, shuts, shuts_on, before_closing, after_closing, DataAct, takes_data, takes_idata, takes_forward, takes_iforward, before_data, after_data, SackAct, takes_sack, samples, counts_errors, before_sack, after_sack, SendingAct, asks, forces_ack, adds_ack, expires, adds_forward, forwards_later, asks_no_reset, asks_reset, adds_request, sends, sends_fast, before_sending, after_sending, TimeAct, advances, delay_ends, times_out, beats, times_init, times_cookie, times_request, times_items, wakes_request, before_time, after_time, CallAct, takes_message, before_call, after_call, ResetAct, prepares, defers, performs, processes, takes_response, adds_responses, before_reset, after_reset, HandoverAct, leaves, takes_up, before_handover, after_handover, InputAct, ends_packet, before_input, after_input, Preserves}
 use Rattle.proof_pair.specs.Trace.{has_connected}
 use Rattle.proof_pair.specs.Agreement.{Association, Has, held_in}
 use Rattle.proof_pair.proofs.EmittedLemmas.{EmitsNoPacketOrStatus}
-use Rattle.proof_pair.proofs.UntilLemmas.{sack_act_emits_no_packet_or_status, sending_act_emits_no_packet_or_status, time_act_emits_no_packet_or_status, call_act_emits_no_packet_or_status, reset_act_emits_no_packet_or_status}
+use Rattle.proof_pair.proofs.UntilLemmas.{over_gives_up, sack_act_emits_no_packet_or_status, sending_act_emits_no_packet_or_status, time_act_emits_no_packet_or_status, call_act_emits_no_packet_or_status, reset_act_emits_no_packet_or_status}
 use Rattle.proof_pair.proofs.JoinActsLemmas.{connected_both, no_packet_or_status_not_connected}
 use Rattle.proof_pair.proofs.AgreeLemmas.{is_opening}
 
@@ -79,7 +80,11 @@ module _ (call : Call) (calm : BringsNoOpening call) where
   keeps_opening (adds_cookie_ack tag back phase t m h late) = record { held = λ a h. h; emitted = refl }
 
   keeps_closing : (act : ClosingAct Carried call) → RestsAt (before_closing act) (after_closing act)
-  keeps_closing (closes e m there is) = record { held = λ a h. absurd h; emitted = emitted_more m.context.emitted.events (e ∷ []) (ends_unconnected e is) }
+  keeps_closing (closes e m there is) =
+      let n : EndWithPacket Carried = in_state Closed (with_context (ended e m.context) m) in
+      let rest : RestsAt n (in_state Closed (with_context (over e m.context) m)) =
+      rests_emitting_no_packet_or_status Closed Closed n (in_state Closed (with_context (over e m.context) m)) (λ a h. h) (over_gives_up e m.context) in
+      record { held = λ a h. absurd h; emitted = rest.emitted ∙ emitted_more m.context.emitted.events (e ∷ []) (ends_unconnected e is) }
   keeps_closing (shuts phase t m is early) = record { held = λ a h. h; emitted = refl }
   keeps_closing (shuts_on phase next t m late later) = record { held = λ a h. h; emitted = refl }
 
@@ -98,6 +103,7 @@ module _ (call : Call) (calm : BringsNoOpening call) where
 
   keeps_sending : (act : SendingAct Carried call) → RestsAt (before_sending act) (after_sending act)
   keeps_sending (asks also_if_delayed phase t m) = record { held = λ a h. h; emitted = refl }
+  keeps_sending (forces_ack phase t m) = record { held = λ a h. h; emitted = refl }
   keeps_sending (adds_ack phase t m) = record { held = λ a h. h; emitted = refl }
   keeps_sending (expires phase t m) =
       let act : SendingAct Carried call = expires phase t m in
@@ -122,6 +128,7 @@ module _ (call : Call) (calm : BringsNoOpening call) where
   keeps_time (times_init tag first old new m) = record { held = λ a h. h; emitted = refl }
   keeps_time (times_cookie old new cookie t m) = record { held = λ a h. h; emitted = refl }
   keeps_time (times_request timer phase t m) = record { held = λ a h. h; emitted = refl }
+  keeps_time (times_items timer phase t m) = record { held = λ a h. h; emitted = refl }
   keeps_time (wakes_request phase t m) = record { held = λ a h. h; emitted = refl }
 
   keeps_calls : (act : CallAct Carried call) → RestsAt (before_call act) (after_call act)

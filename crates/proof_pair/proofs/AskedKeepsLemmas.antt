@@ -31,12 +31,13 @@ use Rattle.spec_endpoint.specs.Opening.{tsn_from, tag_from, identity_of, tcb_by,
 use Rattle.spec_endpoint.specs.Data.{added_unless, skipped_if, take_fragment, handle_forward_tsn}
 use Rattle.spec_endpoint.specs.Calls.{send_refusal_by, is_shutting_down, is_queue_full, shown_state, send_refusal, queue_entry, accept}
 use Rattle.spec_endpoint.specs.StreamReset.{on_outcome}
+use Rattle.spec_endpoint.specs.Shutdown.{ended}
 use Rattle.spec_endpoint.specs.Laws.{Call, Restore}
 use Rattle.proof_endpoint.specs.HandoverRoundTrip.{IsNumberedOnce, CallsNumberOnce, MadeConnected}
-use Rattle.proof_endpoint.specs.Acts.{EndWithPacket, end_of, point_of, IsOffered, fragments_of, PacketAct, begins, adds_plain, emits, emits_error, counts, before_packets, after_packets, OpeningAct, connects, adds_init, answers_new, answers_waiting, answers_echoed, answers_again, echoes, adds_cookie, establishes, opens, restarts, opens_again, maintains, adds_cookie_ack, before_opening, after_opening, ClosingAct, closes, shuts, shuts_on, before_closing, after_closing, DataAct, takes_data, takes_idata, takes_forward, takes_iforward, before_data, after_data, SackAct, takes_sack, samples, counts_errors, before_sack, after_sack, SendingAct, asks, adds_ack, expires, adds_forward, forwards_later, asks_no_reset, asks_reset, adds_request, sends, sends_fast, before_sending, after_sending, TimeAct, advances, delay_ends, times_out, beats, times_init, times_cookie, times_request, wakes_request, before_time, after_time, CallAct, accepts, refuses, takes_message, sets_low_threshold, sets_priority, sets_max_message_size, before_call, after_call, ResetAct, prepares, defers, performs, processes, takes_response, adds_responses, before_reset, after_reset, HandoverAct, leaves, takes_up, before_handover, after_handover, InputAct, ends_packet, before_input, after_input, Preserves}
+use Rattle.proof_endpoint.specs.Acts.{EndWithPacket, end_of, point_of, IsOffered, fragments_of, PacketAct, begins, adds_plain, emits, emits_error, counts, before_packets, after_packets, OpeningAct, connects, adds_init, answers_new, answers_waiting, answers_echoed, answers_again, echoes, adds_cookie, establishes, opens, restarts, opens_again, maintains, adds_cookie_ack, before_opening, after_opening, ClosingAct, closes, shuts, shuts_on, before_closing, after_closing, DataAct, takes_data, takes_idata, takes_forward, takes_iforward, before_data, after_data, SackAct, takes_sack, samples, counts_errors, before_sack, after_sack, SendingAct, asks, forces_ack, adds_ack, expires, adds_forward, forwards_later, asks_no_reset, asks_reset, adds_request, sends, sends_fast, before_sending, after_sending, TimeAct, advances, delay_ends, times_out, beats, times_init, times_cookie, times_request, times_items, wakes_request, before_time, after_time, CallAct, accepts, refuses, takes_message, sets_low_threshold, sets_priority, sets_max_message_size, before_call, after_call, ResetAct, prepares, defers, performs, processes, takes_response, adds_responses, before_reset, after_reset, HandoverAct, leaves, takes_up, before_handover, after_handover, InputAct, ends_packet, before_input, after_input, Preserves}
 use Rattle.proof_pair.specs.HandoverInvariants.{IsOrdered, HandoverInvariantOf, HandsIn}
 use Rattle.proof_pair.proofs.StayLemmas.{stays_same, alike_all, alike_outstanding, alike_received, added_mode, forwarded_mode, reset_mode, Lasts, lasts_same, lasts_sent, stays_fast}
-use Rattle.proof_pair.proofs.QueueGoesLemmas.{Goes, goes_same, goes_threshold, goes_priority, goes_prepared, goes_steps, put_opened_sorted, sent_stays, sent_goes}
+use Rattle.proof_pair.proofs.QueueGoesLemmas.{Goes, goes_same, goes_threshold, goes_priority, goes_prepared, goes_steps, goes_emptied, put_opened_sorted, sent_stays, sent_goes}
 use Rattle.proof_pair.proofs.AskedActsLemmas.{names, IsNamed, echo_named, Begins, begins_anew, begins_for, Leads, leads_on, leads_still, leads_block, leads_closed, associated_on}
 
 tag_some : (w : ℕ) → 0 < tag_from w
@@ -225,7 +226,7 @@ module _ (once : CallsNumberOnce) (made : MadeConnected) (call : Call) (fits : H
       }
   keeps_opening (adds_cookie t1 cookie t m to) = still (Open (CookieEchoed t1 cookie) t) m.context m.context refl refl
   keeps_opening (establishes tag t1 cookie t m received) = block (CookieEchoed t1 cookie) Established t t m.context (enter_connected m.context) (lasts_same t) (goes_same m.context.queue) refl
-  keeps_opening (opens tag k m echoed none own) = opens_by false k (long_word (end_of m)) m.state m.context m.context (echo_named call fits tag k echoed) refl
+  keeps_opening (opens tag k m echoed none own) = opens_by m.context.options.avoid_stalls k (long_word (end_of m)) m.state m.context m.context (echo_named call fits tag k echoed) refl
   keeps_opening (restarts tag k phase t m echoed resolution) =
       opens_by true k _ (Open phase t) m.context (emit_event_in OnConnectionRestarted m.context) (echo_named call fits tag k echoed) refl
   keeps_opening (opens_again tag k phase t m echoed resolution) =
@@ -237,7 +238,8 @@ module _ (once : CallsNumberOnce) (made : MadeConnected) (call : Call) (fits : H
   -- ---- closing
 
   keeps_closing : (act : ClosingAct (List ℕ) call) → R (before_closing act) (after_closing act)
-  keeps_closing (closes e m there is) = leads_closed (IsQuiet call) m.state m.context _ (goes_same m.context.queue)
+  keeps_closing (closes e m there is) =
+      leads_closed (IsQuiet call) m.state m.context _ (goes_emptied once m.context.options.avoid_stalls m.context.queue (ended e m.context).emitted)
   keeps_closing (shuts phase t m is early) = block phase _ t t m.context m.context (lasts_same t) (goes_same m.context.queue) refl
   keeps_closing (shuts_on phase next t m late later) = block phase next t t m.context m.context (lasts_same t) (goes_same m.context.queue) refl
 
@@ -264,6 +266,7 @@ module _ (once : CallsNumberOnce) (made : MadeConnected) (call : Call) (fits : H
 
   keeps_sending : (act : SendingAct (List ℕ) call) → R (before_sending act) (after_sending act)
   keeps_sending (asks also_if_delayed phase t m) = block phase phase t _ m.context m.context (lasts_tracked t _ refl) (goes_same m.context.queue) refl
+  keeps_sending (forces_ack phase t m) = block phase phase t _ m.context m.context (lasts_tracked t _ refl) (goes_same m.context.queue) refl
   keeps_sending (adds_ack phase t m) = block phase phase t _ m.context m.context (lasts_tracked t _ refl) (goes_same m.context.queue) refl
   keeps_sending (expires phase t m) =
       block phase phase t _ m.context _
@@ -295,6 +298,8 @@ module _ (once : CallsNumberOnce) (made : MadeConnected) (call : Call) (fits : H
   keeps_time (times_init tag first old new m) = record { asked = λ h. record { association = h.association; queued = h.queued }; numbers = λ q h. h; next = λ q. refl }
   keeps_time (times_cookie old new cookie t m) = block _ _ t t m.context m.context (lasts_same t) (goes_same m.context.queue) refl
   keeps_time (times_request timer phase t m) = block phase phase t _ m.context m.context (lasts_asked t _) (goes_same m.context.queue) refl
+  keeps_time (times_items timer phase t m) =
+      block phase phase t _ m.context m.context (lasts_sent t (record t.sender { t3 = timer }) (stays_same t.sender.outstanding)) (goes_same m.context.queue) refl
   keeps_time (wakes_request phase t m) = block phase phase t _ m.context m.context (lasts_asked t _) (goes_same m.context.queue) refl
 
   -- ---- calls

@@ -1,11 +1,12 @@
 -- What the operations of the crates below emit: nothing of how an association stands, and no packets.
 use Rattle.std.proofs.Common.{◌≡◌, ℕ, zero, suc, ◌+◌, ◌-◌, ◌&&◌, Bool, true, false, cond, not, ◌||◌, nat_lt, Option, Some, None, unwrap_or, option_map, List, [], ◌∷◌, ◌++◌, length, take, slice_get, is_some, refl, sym, ap, ◌∙◌, append_assoc, append-nil}
 use Rattle.std.specs.List.{list_all}
+use Rattle.std.specs.Map.{keys_of}
 use Rattle.std.proofs.lemmas.List.Folds.{list_all-append}
 use Rattle.std.proofs.lemmas.Bool.{and_parts, and_from}
 use Rattle.sctp_chunk.specs.declared.sack.GapAckBlock.{GapAckBlock}
 use Rattle.sctp_state.specs.declared.api.GivenUpCause.{GivenUpCause}
-use Rattle.sctp_state.specs.declared.api.GivenUpCause.TheVariants.{Lifetime, Retransmissions, Reset}
+use Rattle.sctp_state.specs.declared.api.GivenUpCause.TheVariants.{Lifetime, Retransmissions, Reset, Ended}
 use Rattle.sctp_state.specs.Events.{Event, SendPacket, OnConnected, OnConnectionRestarted, OnClosed, OnAborted, OnBufferedAmountLow, OnTotalBufferedAmountLow, OnLifecycleMessageDelivered, Emitted, emit_events, emit_given_up, expired_events, OnError, OnLifecycleMessageFullySent, OnLifecycleMessageMaybeExpired, OnLifecycleMessageExpired, OnLifecycleEnd}
 use Rattle.sctp_tx_outstanding.specs.Item.{Item, is_abandoned}
 use Rattle.sctp_tx_outstanding.specs.OutstandingData.{Items, Discard}
@@ -22,10 +23,12 @@ use Rattle.sctp_tx.specs.Windows.{is_open}
 use Rattle.sctp_tx.specs.Resent.{resent, may_send_new}
 use Rattle.sctp_tx.specs.Sending.{Filling, QueueStep, append, queue_step_if, next_turn, offered_payload, fill, discard_all, without_discards, filled_with, fill_and_start_t3, send}
 use Rattle.sctp_tx_queue.specs.Resets.{is_partly, emit_unsent, prepare_reset}
+use Rattle.sctp_tx_queue.specs.Emptied.{emptied_one, emit_ended, emit_each_ended}
 use Rattle.sctp_state.specs.declared.api.errors.SendError.{SendError}
 use Rattle.sctp_state.specs.declared.api.errors.SendError.TheVariants.{EmptyPayload, MessageTooLarge, ShuttingDown, ResourceExhaustion as QueueFull, Memory, Failed}
 use Rattle.sctp_state.specs.declared.api.ErrorKind.{ErrorKind}
 use Rattle.spec_endpoint.specs.Calls.{refusal_events, lifecycle_end_events}
+use Rattle.spec_endpoint.specs.Shutdown.{empty_if}
 
 -- ---- events that say nothing of how the association stands, and are no packets
 
@@ -285,6 +288,27 @@ module _ {P : Type 0} (kind : Event P → Bool) (k : Kind kind) where
   pub prepares : (id : ℕ) (q : Queue) (t : Emitted P) → Emits kind t (prepare_reset id q t).emitted
   prepares id q t = waits (stream id q.streams).messages t
 
+  -- ---- what waits where an association ends
+
+  gives_up : (ms : List Queued) (t : Emitted P) → Emits kind t (emit_ended ms t)
+  gives_up [] t = same t
+  gives_up (m ∷ ms) t =
+      let recorded : Emitted P = emit_given_up m.number Ended t in
+      let said : Emitted P = emit_events (expired_events m.lifecycle) recorded in
+      onto t said (emit_ended ms said)
+      (onto t recorded said (given m.number Ended t) (these (expired_events m.lifecycle) recorded (all_expiry m.lifecycle)))
+      (gives_up ms said)
+
+  gives_each_up : (ids : List ℕ) (q : Queue) (t : Emitted P) → Emits kind t (emit_each_ended ids q t)
+  gives_each_up [] q t = same t
+  gives_each_up (id ∷ ids) q t =
+      let u : Emitted P = emit_ended (stream id q.streams).messages t in
+      onto t u (emit_each_ended ids (emptied_one id q) u) (gives_up (stream id q.streams).messages t) (gives_each_up ids (emptied_one id q) u)
+
+  pub empties : (b : Bool) (q : Queue) (t : Emitted P) → Emits kind t (empty_if b q t).emitted
+  empties true q t = gives_each_up (keys_of q.streams.entries) q t
+  empties false q t = same t
+
   pub refuses : (e : SendError) (l : Option ℕ) (t : Emitted P) → Emits kind t (emit_events (lifecycle_end_events l ++ refusal_events e) t)
   refuses e l t = these (lifecycle_end_events l ++ refusal_events e) t (both (lifecycle_end_events l) (refusal_events e) (all_ended l) (all_refusal e))
 
@@ -357,6 +381,9 @@ module _ {P : Type 0} where
 
   pub emits_prepared : (id : ℕ) (q : Queue) (t : Emitted P) → EmitsNoPacketOrStatus t (prepare_reset id q t).emitted
   emits_prepared = prepares is_no_packet_or_status no_packet_or_status_kind
+
+  pub emits_emptied : (b : Bool) (q : Queue) (t : Emitted P) → EmitsNoPacketOrStatus t (empty_if b q t).emitted
+  emits_emptied = empties is_no_packet_or_status no_packet_or_status_kind
 
   pub emits_refused : (e : SendError) (l : Option ℕ) (t : Emitted P) → EmitsNoPacketOrStatus t (emit_events (lifecycle_end_events l ++ refusal_events e) t)
   emits_refused = refuses is_no_packet_or_status no_packet_or_status_kind

@@ -18,8 +18,8 @@ use Rattle.spec_endpoint.specs.Calls.{ready_in}
 use Rattle.spec_endpoint.specs.Data.{added_unless, skipped_if}
 use Rattle.spec_endpoint.specs.Laws.{Call, TakeMessage}
 use Rattle.proof_endpoint.specs.Mapped.{Carried}
-use Rattle.proof_endpoint.specs.Acts.{EndWithPacket, is_opened, PacketAct, begins, adds_plain, emits, emits_error, counts, before_packets, after_packets, OpeningAct, connects, adds_init, answers_new, answers_waiting, answers_echoed, answers_again, echoes, adds_cookie, establishes, opens, restarts, opens_again, maintains, adds_cookie_ack, before_opening, after_opening, ClosingAct, closes, shuts, shuts_on, before_closing, after_closing, DataAct, takes_data, takes_idata, takes_forward, takes_iforward, before_data, after_data, SackAct, takes_sack, samples, counts_errors, before_sack, after_sack, SendingAct, asks, adds_ack, expires, adds_forward, forwards_later, asks_no_reset, asks_reset, adds_request, sends, sends_fast, before_sending, after_sending, TimeAct, advances, delay_ends, times_out, beats, times_init, times_cookie, times_request, wakes_request, before_time, after_time, CallAct, accepts, refuses, takes_message, sets_low_threshold, sets_priority, sets_max_message_size, before_call, after_call, ResetAct, prepares, defers, performs, processes, takes_response, adds_responses, before_reset, after_reset, HandoverAct, leaves, takes_up, before_handover, after_handover, InputAct, ends_packet, before_input, after_input, HasNoEnd, PreservesUntilEnd}
-use Rattle.proof_pair.proofs.UntilLemmas.{no_end}
+use Rattle.proof_endpoint.specs.Acts.{EndWithPacket, is_opened, PacketAct, begins, adds_plain, emits, emits_error, counts, before_packets, after_packets, OpeningAct, connects, adds_init, answers_new, answers_waiting, answers_echoed, answers_again, echoes, adds_cookie, establishes, opens, restarts, opens_again, maintains, adds_cookie_ack, before_opening, after_opening, ClosingAct, closes, shuts, shuts_on, before_closing, after_closing, DataAct, takes_data, takes_idata, takes_forward, takes_iforward, before_data, after_data, SackAct, takes_sack, samples, counts_errors, before_sack, after_sack, SendingAct, asks, forces_ack, adds_ack, expires, adds_forward, forwards_later, asks_no_reset, asks_reset, adds_request, sends, sends_fast, before_sending, after_sending, TimeAct, advances, delay_ends, times_out, beats, times_init, times_cookie, times_request, times_items, wakes_request, before_time, after_time, CallAct, accepts, refuses, takes_message, sets_low_threshold, sets_priority, sets_max_message_size, before_call, after_call, ResetAct, prepares, defers, performs, processes, takes_response, adds_responses, before_reset, after_reset, HandoverAct, leaves, takes_up, before_handover, after_handover, InputAct, ends_packet, before_input, after_input, HasNoEnd, PreservesUntilEnd}
+use Rattle.proof_pair.proofs.UntilLemmas.{no_end, no_end_over}
 use Rattle.proof_pair.proofs.JoinActsLemmas.{Setting, InvAt}
 use Rattle.proof_pair.proofs.JoinKeepsLemmas.{Rules, same_verdict, no_restart, no_again}
 use Rattle.proof_pair.proofs.JoinFrameLemmas.{joins}
@@ -130,7 +130,7 @@ module _ (g : Setting) (call : Call) (r : Rules g call) (other : call ≡ TakeMe
   more_opening (adds_cookie_ack tag back phase t m echoed late) inv = record { ready = extends_none t.reassembly.ready; stands = λ a e. e }
 
   more_closing : (act : ClosingAct Carried call) → HasNoEnd (after_closing act) → More (before_closing act) (after_closing act)
-  more_closing (closes e m there is) none = absurd (no_end m (after_closing {call = call} (closes e m there is)) e refl is none)
+  more_closing (closes e m there is) none = absurd (no_end_over e m is none)
   more_closing (shuts phase t m is early) none = record { ready = extends_none t.reassembly.ready; stands = λ a e. e }
   more_closing (shuts_on phase next t m late later) none = record { ready = extends_none t.reassembly.ready; stands = λ a e. e }
 
@@ -151,6 +151,7 @@ module _ (g : Setting) (call : Call) (r : Rules g call) (other : call ≡ TakeMe
 
   more_sending : (act : SendingAct Carried call) → More (before_sending act) (after_sending act)
   more_sending (asks also_if_delayed phase t m) = record { ready = extends_none t.reassembly.ready; stands = λ a e. e }
+  more_sending (forces_ack phase t m) = record { ready = extends_none t.reassembly.ready; stands = λ a e. e }
   more_sending (adds_ack phase t m) = record { ready = extends_none t.reassembly.ready; stands = λ a e. e }
   more_sending (expires phase t m) = record { ready = extends_none t.reassembly.ready; stands = λ a e. e }
   more_sending (adds_forward phase t m due) = record { ready = extends_none t.reassembly.ready; stands = λ a e. e }
@@ -169,6 +170,7 @@ module _ (g : Setting) (call : Call) (r : Rules g call) (other : call ≡ TakeMe
   more_time (times_init tag first old new m) = record { ready = extends_none []; stands = λ a e. e }
   more_time (times_cookie old new cookie t m) = record { ready = extends_none t.reassembly.ready; stands = λ a e. e }
   more_time (times_request timer phase t m) = record { ready = extends_none t.reassembly.ready; stands = λ a e. e }
+  more_time (times_items timer phase t m) = record { ready = extends_none t.reassembly.ready; stands = λ a e. e }
   more_time (wakes_request phase t m) = record { ready = extends_none t.reassembly.ready; stands = λ a e. e }
 
   more_calls : (act : CallAct Carried call) → More (before_call act) (after_call act)

@@ -10,9 +10,9 @@ use Rattle.sctp_packet.specs.Packet.{PacketTree}
 use Rattle.sctp_state.specs.Options.{Options}
 use Rattle.sctp_rx.specs.Delivery.{Extends}
 use Rattle.sctp_reassembly.proofs.ExtendsLemmas.{extends_by}
-use Rattle.spec_endpoint.specs.Association.{State, Closed, CookieWait, Open, Endpoint}
+use Rattle.spec_endpoint.specs.Association.{Tcb, Phase, State, Closed, CookieWait, Open, Endpoint}
 use Rattle.spec_endpoint.specs.Shown.{Association, association_in}
-use Rattle.spec_endpoint.specs.Calls.{ready_in, without_first_message_in}
+use Rattle.spec_endpoint.specs.Calls.{ready_in, without_first_message, opens_window, told_if, message_taken_in}
 use Rattle.spec_endpoint.specs.Opening.{emit_parse_error}
 use Rattle.spec_endpoint.specs.Input.{packet_refusal, count_packet_at, packet_if}
 use Rattle.spec_endpoint.specs.Laws.{Call, TakeMessage, ReceivePacket, called, endings}
@@ -60,10 +60,14 @@ hands_none s t h = record { all = seam (ready_in s) (ready_in t) h.ready; stands
 pub hands_still : (s : State) → Hands [] s s
 hands_still s = hands_none s s (goes_nowhere s)
 
-hands_taken : (s : State) → Hands (take 1 (ready_in s)) s (without_first_message_in s)
-hands_taken Closed = record { all = refl; stands = λ a e. e }
-hands_taken (CookieWait tag first t1) = record { all = refl; stands = λ a e. e }
-hands_taken (Open phase t) = record { all = seam_taken t.reassembly.ready; stands = λ a e. e }
+hands_told : (b : Bool) (phase : Phase) (t : Tcb) → Hands (take 1 t.reassembly.ready) (Open phase t) (Open phase (told_if b (without_first_message t)))
+hands_told true phase t = record { all = seam_taken t.reassembly.ready; stands = λ a e. e }
+hands_told false phase t = record { all = seam_taken t.reassembly.ready; stands = λ a e. e }
+
+hands_taken : (o : Options) (s : State) → Hands (take 1 (ready_in s)) s (message_taken_in o s)
+hands_taken o Closed = record { all = refl; stands = λ a e. e }
+hands_taken o (CookieWait tag first t1) = record { all = refl; stands = λ a e. e }
+hands_taken o (Open phase t) = hands_told (opens_window o t.reassembly (without_first_message t).reassembly) phase t
 
 module _ (o q : Options) (x y : Side) (own : AreValidOptions o) (other : AreValidOptions q) (h : Halves o q x y) where
   hands_other : (call : Call) → (call ≡ TakeMessage → ⊥) → MayCall call x → endings (act (Calls call) x y).emitted ≡ 0
@@ -76,7 +80,7 @@ module _ (o q : Options) (x y : Side) (own : AreValidOptions o) (other : AreVali
 
   hands_call : (call : Call) → MayCall call x → endings (act (Calls call) x y).emitted ≡ 0
       → Hands (handed_by (Calls call) x) (state_of x) (state_of (act (Calls call) x y))
-  hands_call TakeMessage may none = hands_taken (state_of x)
+  hands_call TakeMessage may none = hands_taken x.end.endpoint_state.context.options (state_of x)
   hands_call call may none = hands_other call (λ e. cc) may none
 
   hands_given : (p : Option Carried) (checksum n : ℕ) → slice_get (emitted_packets y) n ≡ p → endings (give_carried p checksum x).emitted ≡ 0

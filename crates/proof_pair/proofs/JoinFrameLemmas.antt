@@ -17,10 +17,10 @@ use Rattle.sctp_tx.specs.Resent.{resent_fast}
 use Rattle.sctp_tx.specs.ForwardPoints.{chunk_if, forward_chunk}
 use Rattle.sctp_tx.specs.Sending as fragments
 use Rattle.proof_endpoint.specs.Mapped.{Carried}
-use Rattle.proof_endpoint.specs.Acts.{EndWithPacket, in_open, in_state, end_of, drawn_tag, drawn_first, drawn_tag_alone, is_opened, may_shut, IsEchoed, fragments_of, PacketAct, begins, adds_plain, emits, emits_error, counts, before_packets, after_packets, OpeningAct, connects, adds_init, answers_new, answers_waiting, answers_echoed, answers_again, echoes, adds_cookie, establishes, opens, restarts, opens_again, maintains, adds_cookie_ack, before_opening, after_opening, ClosingAct, closes, shuts, shuts_on, before_closing, after_closing, DataAct, takes_data, takes_idata, takes_forward, takes_iforward, before_data, after_data, SackAct, takes_sack, samples, counts_errors, before_sack, after_sack, SendingAct, asks, adds_ack, expires, adds_forward, forwards_later, asks_no_reset, asks_reset, adds_request, sends, sends_fast, before_sending, after_sending, TimeAct, advances, delay_ends, times_out, beats, times_init, times_cookie, times_request, wakes_request, before_time, after_time, CallAct, accepts, refuses, takes_message, sets_low_threshold, sets_priority, sets_max_message_size, before_call, after_call, ResetAct, prepares, defers, performs, processes, takes_response, adds_responses, before_reset, after_reset, HandoverAct, leaves, takes_up, before_handover, after_handover, InputAct, ends_packet, before_input, after_input, HasNoEnd, PreservesUntilEnd}
+use Rattle.proof_endpoint.specs.Acts.{EndWithPacket, in_open, in_state, end_of, drawn_tag, drawn_first, drawn_tag_alone, is_opened, may_shut, IsEchoed, fragments_of, PacketAct, begins, adds_plain, emits, emits_error, counts, before_packets, after_packets, OpeningAct, connects, adds_init, answers_new, answers_waiting, answers_echoed, answers_again, echoes, adds_cookie, establishes, opens, restarts, opens_again, maintains, adds_cookie_ack, before_opening, after_opening, ClosingAct, closes, shuts, shuts_on, before_closing, after_closing, DataAct, takes_data, takes_idata, takes_forward, takes_iforward, before_data, after_data, SackAct, takes_sack, samples, counts_errors, before_sack, after_sack, SendingAct, asks, forces_ack, adds_ack, expires, adds_forward, forwards_later, asks_no_reset, asks_reset, adds_request, sends, sends_fast, before_sending, after_sending, TimeAct, advances, delay_ends, times_out, beats, times_init, times_cookie, times_request, times_items, wakes_request, before_time, after_time, CallAct, accepts, refuses, takes_message, sets_low_threshold, sets_priority, sets_max_message_size, before_call, after_call, ResetAct, prepares, defers, performs, processes, takes_response, adds_responses, before_reset, after_reset, HandoverAct, leaves, takes_up, before_handover, after_handover, InputAct, ends_packet, before_input, after_input, HasNoEnd, PreservesUntilEnd}
 use Rattle.proof_pair.specs.Trace.{has_connected}
 use Rattle.proof_pair.proofs.EmittedLemmas.{EmitsNoPacketOrStatus}
-use Rattle.proof_pair.proofs.UntilLemmas.{sack_act_emits_no_packet_or_status, sending_act_emits_no_packet_or_status, time_act_emits_no_packet_or_status, call_act_emits_no_packet_or_status, reset_act_emits_no_packet_or_status, no_end}
+use Rattle.proof_pair.proofs.UntilLemmas.{sack_act_emits_no_packet_or_status, sending_act_emits_no_packet_or_status, time_act_emits_no_packet_or_status, call_act_emits_no_packet_or_status, reset_act_emits_no_packet_or_status, no_end, no_end_over}
 use Rattle.proof_pair.proofs.AddedLemmas.{holds_added, holds_all_added}
 use Rattle.proof_pair.proofs.JoinLemmas.{Draw, drawn_is, View, both_of, view_of, late_view, late_phase, IsPlain, IsEcho}
 use Rattle.proof_pair.proofs.JoinActsLemmas.{Setting, OwnSays, Inv, InvAt, inv_made, inv_no_packet_or_status, inv_emitted, inv_options, own_says_plain, own_says_data, connected_both}
@@ -145,7 +145,7 @@ module _ (g : Setting) (call : Call) (r : Rules g call) where
   shuts_from phase t m is early inv = cc
 
   keeps_closing : (act : ClosingAct Carried call) → HasNoEnd (after_closing act) → InvAt g (before_closing act) → InvAt g (after_closing act)
-  keeps_closing (closes e m there is) none inv = absurd (no_end m (after_closing {call = call} (closes e m there is)) e refl is none)
+  keeps_closing (closes e m there is) none inv = absurd (no_end_over e m is none)
   keeps_closing (shuts phase t m is early) none inv = shuts_from phase t m is early inv
   keeps_closing (shuts_on phase next t m late later) none inv =
       subst (λ (v : View). Inv g v m.context.options m.context.pack m.context.emitted.events m.packet.tag m.packet.chunks)
@@ -174,6 +174,7 @@ module _ (g : Setting) (call : Call) (r : Rules g call) where
 
   keeps_sending : (act : SendingAct Carried call) → InvAt g (before_sending act) → InvAt g (after_sending act)
   keeps_sending (asks also_if_delayed phase t m) inv = inv
+  keeps_sending (forces_ack phase t m) inv = inv
   keeps_sending (adds_ack phase t m) inv =
       adds (view_of (Open phase t)) m.context.options m.context.pack m.context.emitted.events m.packet (selective_ack t) inv tt
   keeps_sending (expires phase t m) inv =
@@ -212,6 +213,7 @@ module _ (g : Setting) (call : Call) (r : Rules g call) where
   keeps_time (times_init tag first old new m) inv = inv
   keeps_time (times_cookie old new cookie t m) inv = inv
   keeps_time (times_request timer phase t m) inv = inv
+  keeps_time (times_items timer phase t m) inv = inv
   keeps_time (wakes_request phase t m) inv = inv
 
   keeps_calls : (act : CallAct Carried call) → InvAt g (before_call act) → InvAt g (after_call act)

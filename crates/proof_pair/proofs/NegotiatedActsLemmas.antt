@@ -22,14 +22,15 @@ use Rattle.spec_endpoint.specs.ResetRequests.{Outcome, Unsettled, Done, Denied, 
 use Rattle.spec_endpoint.specs.StreamReset.{on_outcome}
 use Rattle.spec_endpoint.specs.Sending.{is_small, selective_ack, data_chunk_of, data_chunks, fast_most}
 use Rattle.spec_endpoint.specs.Sack.{clean_blocks}
+use Rattle.spec_endpoint.specs.Shutdown.{ended, over}
 use Rattle.spec_endpoint.specs.Opening.{init_of, init_ack_of, agreed_by, identity_of_init_ack, long_word, tcb_by}
 use Rattle.spec_endpoint.specs.Input.{misuse}
 use Rattle.spec_endpoint.specs.Laws.{Call, Restore}
 use Rattle.proof_endpoint.specs.Mapped.{Carried}
-use Rattle.proof_endpoint.specs.Acts.{EndWithPacket, in_open, end_of, is_plain, may_shut, point_of, BringsChunk, IsEchoed, fragments_of, PacketAct, begins, adds_plain, emits, emits_error, counts, before_packets, after_packets, OpeningAct, connects, adds_init, answers_new, answers_waiting, answers_echoed, answers_again, echoes, adds_cookie, establishes, opens, restarts, opens_again, maintains, adds_cookie_ack, before_opening, after_opening, ClosingAct, closes, shuts, shuts_on, before_closing, after_closing, DataAct, takes_data, takes_idata, takes_forward, takes_iforward, before_data, after_data, SackAct, takes_sack, samples, counts_errors, before_sack, after_sack, SendingAct, asks, adds_ack, expires, adds_forward, forwards_later, asks_no_reset, asks_reset, adds_request, sends, sends_fast, before_sending, after_sending, TimeAct, advances, delay_ends, times_out, beats, times_init, times_cookie, times_request, wakes_request, before_time, timeout_of, after_time, CallAct, accepts, refuses, takes_message, sets_low_threshold, sets_priority, sets_max_message_size, before_call, after_call, ResetAct, prepares, defers, performs, processes, takes_response, adds_responses, before_reset, after_reset, HandoverAct, leaves, takes_up, before_handover, after_handover, InputAct, ends_packet, before_input, after_input, Preserves}
+use Rattle.proof_endpoint.specs.Acts.{EndWithPacket, in_state, with_context, in_open, end_of, is_plain, may_shut, point_of, BringsChunk, IsEchoed, fragments_of, PacketAct, begins, adds_plain, emits, emits_error, counts, before_packets, after_packets, OpeningAct, connects, adds_init, answers_new, answers_waiting, answers_echoed, answers_again, echoes, adds_cookie, establishes, opens, restarts, opens_again, maintains, adds_cookie_ack, before_opening, after_opening, ClosingAct, closes, shuts, shuts_on, before_closing, after_closing, DataAct, takes_data, takes_idata, takes_forward, takes_iforward, before_data, after_data, SackAct, takes_sack, samples, counts_errors, before_sack, after_sack, SendingAct, asks, forces_ack, adds_ack, expires, adds_forward, forwards_later, asks_no_reset, asks_reset, adds_request, sends, sends_fast, before_sending, after_sending, TimeAct, advances, delay_ends, times_out, beats, times_init, times_cookie, times_request, times_items, wakes_request, before_time, timeout_of, after_time, CallAct, accepts, refuses, takes_message, sets_low_threshold, sets_priority, sets_max_message_size, before_call, after_call, ResetAct, prepares, defers, performs, processes, takes_response, adds_responses, before_reset, after_reset, HandoverAct, leaves, takes_up, before_handover, after_handover, InputAct, ends_packet, before_input, after_input, Preserves}
 use Rattle.proof_pair.specs.Trace.{as_carried, packets_in, AreValidOptions}
 use Rattle.proof_pair.proofs.EmittedLemmas.{EmitsNoPacketOrStatus}
-use Rattle.proof_pair.proofs.UntilLemmas.{sack_act_emits_no_packet_or_status, sending_act_emits_no_packet_or_status, time_act_emits_no_packet_or_status, call_act_emits_no_packet_or_status, reset_act_emits_no_packet_or_status}
+use Rattle.proof_pair.proofs.UntilLemmas.{over_gives_up, sack_act_emits_no_packet_or_status, sending_act_emits_no_packet_or_status, time_act_emits_no_packet_or_status, call_act_emits_no_packet_or_status, reset_act_emits_no_packet_or_status}
 use Rattle.proof_pair.proofs.AddedLemmas.{holds_added, holds_all_added}
 use Rattle.proof_pair.proofs.StayLemmas.{Stays, stays_same, stays_then, stays_resent, stays_timed, alike_all, alike_outstanding, alike_received, stays_fast}
 use Rattle.proof_pair.proofs.JoinActsLemmas.{no_packet_or_status_has_no_packets, ends_no_packet, packets_now}
@@ -278,7 +279,10 @@ module _ (g : Setting) (call : Call) (r : Receives g call) where
 
   keeps_closing : (act : ClosingAct Carried call) → InvAt g (before_closing act) → InvAt g (after_closing act)
   keeps_closing (closes e m there is) inv =
-      inv_view g (view_of m.state) m.context.options m.context.pack m.context.emitted.events m.packet.chunks inv alone (e ∷ []) _ refl (ends_no_packet e is) tt
+      inv_emitting_no_packet_or_status alone alone (in_state Closed (with_context (ended e m.context) m)) (in_state Closed (with_context (over e m.context) m)) m.packet.chunks
+      (over_gives_up e m.context) tt
+      (inv_view g (view_of m.state) m.context.options m.context.pack m.context.emitted.events m.packet.chunks inv alone (e ∷ []) (m.context.emitted.events ++ e ∷ []) refl
+      (ends_no_packet e is) tt)
   keeps_closing (shuts phase t m is early) inv = shuts_from phase t m early inv
   keeps_closing (shuts_on phase next t m late later) inv =
       subst (λ (v : View). Inv g v m.context.options m.context.pack m.context.emitted.events m.packet.chunks) (late_phase phase t late ∙ sym (late_phase next t later)) inv
@@ -304,6 +308,7 @@ module _ (g : Setting) (call : Call) (r : Receives g call) where
 
   keeps_sending : (act : SendingAct Carried call) → InvAt g (before_sending act) → InvAt g (after_sending act)
   keeps_sending (asks also_if_delayed phase t m) inv = inv
+  keeps_sending (forces_ack phase t m) inv = inv
   keeps_sending (adds_ack phase t m) inv =
       adds (view_of (Open phase t)) m.context.options m.context.pack m.context.emitted.events m.packet (selective_ack t) inv refl
   keeps_sending (expires phase t m) inv =
@@ -361,6 +366,7 @@ module _ (g : Setting) (call : Call) (r : Receives g call) where
   keeps_time (times_init tag first old new m) inv = inv
   keeps_time (times_cookie old new cookie t m) inv = inv
   keeps_time (times_request timer phase t m) inv = inv
+  keeps_time (times_items timer phase t m) inv = inv
   keeps_time (wakes_request phase t m) inv = inv
 
   keeps_calls : (act : CallAct Carried call) → InvAt g (before_call act) → InvAt g (after_call act)

@@ -14,6 +14,7 @@ use Rattle.sctp_tx_queue.specs.SendQueue.{Stream, Streams, Entries, Queue, blank
 use Rattle.sctp_tx_queue.specs.Produced.{Produced, Turn, next_fragment, advance, without_stale, streams_without_stale, turn, next_stream, idle, produce_within, produce}
 use Rattle.sctp_tx_queue.specs.Settings.{set_low_threshold, set_priority, front_discarded, without_front, streams_discarded, discard_from, discard}
 use Rattle.sctp_tx_queue.specs.Resets.{prepare_reset, apply_reset_step, each_stepped}
+use Rattle.sctp_tx_queue.specs.Emptied.{emptied_one, each_emptied, empty}
 use Rattle.sctp_tx_queue.specs.Restarted.{restarted_one, each_restarted, reset}
 use Rattle.sctp_tx_queue.specs.InOrder.{IsInOrder, HasRests}
 use Rattle.sctp_tx_queue.proofs.AgainLemmas.{AreAbove, are_above}
@@ -23,7 +24,9 @@ use Rattle.sctp_tx.specs.Sending.{Filling, offered_payload, append, queue_step_i
 use Rattle.sctp_tx.specs.RetransmissionQueue.{Sender}
 use Rattle.sctp_tx.specs.Resent.{may_send_new, resent}
 use Rattle.sctp_tx_outstanding.specs.Resending.{Resent}
+use Rattle.spec_endpoint.specs.Shutdown.{empty_if}
 use Rattle.proof_endpoint.specs.HandoverRoundTrip.{IsNumberedOnce, CallsNumberOnce}
+use Rattle.proof_endpoint.proofs.EmptiedLemmas.{emptied_in_order, emptied_rests}
 use Rattle.proof_pair.proofs.StayLemmas.{Stays, stays_same, stays_then, stays_resent, stays_timed}
 use Rattle.sctp_serial.proofs.NumberLemmas.{is_less, is_greater, nat_cmp_less, positive_of_both}
 
@@ -139,6 +142,13 @@ shape_restarted (id ∷ ids) q =
     shape_then q r (each_restarted ids r) (record { sorted = put_sorted id _ q.streams; mode = set_bytes_mode id _ _ q.scheduler; next = refl })
     (shape_restarted ids r)
 
+shape_emptied : (ids : List ℕ) (q : Queue) → Shape q (each_emptied ids q)
+shape_emptied [] q = shape_same q
+shape_emptied (id ∷ ids) q =
+    let r : Queue = emptied_one id q in
+    shape_then q r (each_emptied ids r) (record { sorted = put_sorted id _ q.streams; mode = set_bytes_mode id _ _ q.scheduler; next = refl })
+    (shape_emptied ids r)
+
 -- ---- all that is asked of the queue
 
 pub record Goes (q r : Queue) : Type 0 where
@@ -201,6 +211,13 @@ module _ (once : CallsNumberOnce) where
   pub goes_steps : (step : ResetStep) (ids : List ℕ) (q : Queue) → Goes q (each_stepped step ids q)
   goes_steps step ids q =
       goes_by q (each_stepped step ids q) (steps_in_order step ids q) (calls_leave_rests.steps step ids q) (once.steps step ids q) (shape_steps step ids q)
+
+  pub goes_emptied : (b : Bool) (q : Queue) (t : Emitted (List ℕ)) → Goes q (empty_if b q t).queue
+  goes_emptied true q t =
+      let s : Shape q (each_emptied (keys_of q.streams.entries) q) = shape_emptied (keys_of q.streams.entries) q in
+      goes_by q (empty q t).queue (emptied_in_order true q t) (emptied_rests true q t) (once.emptied q t)
+      (record { sorted = s.sorted; mode = s.mode; next = s.next })
+  goes_emptied false q t = goes_same q
 
 -- ---- what is put into a packet
 

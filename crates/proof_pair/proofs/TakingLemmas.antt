@@ -1,25 +1,39 @@
 -- Data and forward points: refused ones change nothing, new ones are added, and points reach reassembly.
-use Rattle.std.proofs.Common.{◌≡◌, ℕ, ◌==◌, ◌||◌, ◌&&◌, not, Bool, true, false, Option, None, List, length, refl, ap, ◌∙◌}
+use Rattle.std.proofs.Common.{◌≡◌, ℕ, ◌==◌, ◌||◌, ◌&&◌, not, Bool, true, false, cond, Option, None, List, length, refl, ap, ◌∙◌}
+use Rattle.sctp_state.specs.Options.{Options}
 use Rattle.sctp_chunk.specs.declared.forward_tsn.SkippedStream.{SkippedStream}
 use Rattle.sctp_packet.specs.Chunk.{FragmentTree}
 use Rattle.sctp_rx.specs.DataTracker.{number_of, is_valid, has_seen, moves_on}
 use Rattle.sctp_rx.specs.ReassemblyQueue.{Reassembly, add, forward}
 use Rattle.spec_endpoint.specs.Association.{Tcb, Phase, Open, Context, EndpointState, Endpoint}
-use Rattle.spec_endpoint.specs.Data.{is_full, added_unless, take_fragment, fragment_if, on_data_if, on_data, skipped_if, handle_forward_tsn, handle_forward_tsn_if, handle_forward_tsn_in}
+use Rattle.spec_endpoint.specs.Data.{has_room, accepts_tsn, told_of_drop, added_unless, take_fragment, fragment_if, on_data_if, on_data, skipped_if, handle_forward_tsn, handle_forward_tsn_if, handle_forward_tsn_in}
 use Rattle.spec_endpoint.specs.Input.{misuse, received_if, receive}
-use Rattle.proof_pair.specs.Taking.{opened, fragment_chunk, point_chunk, IsTaken, IsPassed, RefusedDataChangesNothing, NewDataIsAdded, RefusedPointsChangeNothing, PointsReachReassembly}
+use Rattle.proof_pair.specs.Taking.{opened, fragment_chunk, point_chunk, IsLeft, IsTaken, IsPassed, RefusedDataChangesNothing, NewDataIsAdded, RefusedPointsChangeNothing, PointsReachReassembly}
 
 -- ---- by tests
 
-none_taken : (b v : Bool) → (b || not v) ≡ true → (not b && v) ≡ false
-none_taken true v e = refl
-none_taken false true e = cc
-none_taken false false e = refl
+none_taken : (accepts : Bool) → not accepts ≡ true → accepts ≡ false
+none_taken true e = cc
+none_taken false e = refl
 
-some_taken : (b v : Bool) → (b || not v) ≡ false → (not b && v) ≡ true
-some_taken true v e = cc
-some_taken false true e = refl
-some_taken false false e = cc
+some_taken : (accepts : Bool) → not accepts ≡ false → accepts ≡ true
+some_taken true e = refl
+some_taken false e = cc
+
+-- what is taken has room
+has_some_room : (room v : Bool) → (room && v) ≡ true → room ≡ true
+has_some_room true v e = refl
+has_some_room false v e = cc
+
+not_told : (b room : Bool) (t : Tcb) → room ≡ true → told_of_drop b room t ≡ t
+not_told true true t e = refl
+not_told true false t e = cc
+not_told false room t e = refl
+
+left_by : (o : Options) (b room : Bool) (t : Tcb) → o.avoid_stalls ≡ b → IsLeft o t (told_of_drop b room t)
+left_by o true true t e = record { reassembly = refl; seen = refl; all = λ off. refl }
+left_by o true false t e = record { reassembly = refl; seen = refl; all = λ off. absurd (cc) }
+left_by o false room t e = record { reassembly = refl; seen = refl; all = λ off. refl }
 
 new_by : (b : Bool) (tsn : ℕ) (f : FragmentTree) (r : Reassembly) → not b ≡ true → added_unless b tsn f r ≡ add tsn f r
 new_by true tsn f r e = cc
@@ -41,19 +55,32 @@ module _ {P : Type 0} (tsn : ℕ) (is_immediate : Bool) (f : FragmentTree) (phas
   abbrev endpoint_state : EndpointState P
   endpoint_state = record { state = Open phase t; context = c }
 
-  refused_by : (a : Bool) → (a || (is_full t.reassembly || not (is_valid t.tracker.tracker (number_of t.tracker tsn)))) ≡ true
-      → (on_data_if a tsn is_immediate f endpoint_state).state ≡ Open phase t
-  refused_by true e = refl
-  refused_by false e =
-      ap (λ (b : Bool). Open phase (fragment_if b tsn is_immediate f t))
-      (none_taken (is_full t.reassembly) (is_valid t.tracker.tracker (number_of t.tracker tsn)) e)
+  abbrev o : Options
+  o = c.options
 
-  taken_by : (a : Bool) → (a || (is_full t.reassembly || not (is_valid t.tracker.tracker (number_of t.tracker tsn)))) ≡ false
+  abbrev told : Tcb
+  told = told_of_drop o.avoid_stalls (has_room o tsn t) t
+
+  -- what a chunk leaves that isn't taken
+  abbrev left : (is_empty : Bool) → Tcb
+  left is_empty = cond is_empty t told
+
+  left_is : (a : Bool) → IsLeft o t (left a)
+  left_is true = record { reassembly = refl; seen = refl; all = λ off. refl }
+  left_is false = left_by o o.avoid_stalls (has_room o tsn t) t refl
+
+  refused_by : (a : Bool) → (a || not (accepts_tsn o tsn t)) ≡ true → (on_data_if a tsn is_immediate f endpoint_state).state ≡ Open phase (left a)
+  refused_by true e = refl
+  refused_by false e = ap (λ (b : Bool). Open phase (fragment_if b tsn is_immediate f told)) (none_taken (accepts_tsn o tsn t) e)
+
+  taken_by : (a : Bool) → (a || not (accepts_tsn o tsn t)) ≡ false
       → (on_data_if a tsn is_immediate f endpoint_state).state ≡ Open phase (take_fragment tsn is_immediate f t)
   taken_by true e = cc
   taken_by false e =
-      ap (λ (b : Bool). Open phase (fragment_if b tsn is_immediate f t))
-      (some_taken (is_full t.reassembly) (is_valid t.tracker.tracker (number_of t.tracker tsn)) e)
+      let accepted : accepts_tsn o tsn t ≡ true = some_taken (accepts_tsn o tsn t) e in
+      let room : has_room o tsn t ≡ true = has_some_room (has_room o tsn t) (is_valid t.tracker.tracker (number_of t.tracker tsn)) accepted in
+      ap (λ (b : Bool). Open phase (fragment_if b tsn is_immediate f told)) accepted
+      ∙ ap (λ (u : Tcb). Open phase (take_fragment tsn is_immediate f u)) (not_told o.avoid_stalls (has_room o tsn t) t room)
 
   is_taken : IsTaken tsn is_immediate f t (take_fragment tsn is_immediate f t)
   is_taken = record {
@@ -86,9 +113,14 @@ module _ {P : Type 0} (tag tsn : ℕ) (skipped : List SkippedStream) (phase : Ph
 -- ---- the laws
 
 pub refused_data : RefusedDataChangesNothing
-refused_data is_interleaved tag tsn is_immediate f phase t e right refused =
-    data_row tag tsn is_immediate f phase t e is_interleaved right
-    ∙ refused_by tsn is_immediate f phase t e.endpoint_state.context (length f.payload == 0) refused
+refused_data is_interleaved tag tsn is_immediate f phase t e right refused = (
+  record {
+    tcb = left tsn is_immediate f phase t e.endpoint_state.context (length f.payload == 0);
+    is = data_row tag tsn is_immediate f phase t e is_interleaved right
+        ∙ refused_by tsn is_immediate f phase t e.endpoint_state.context (length f.payload == 0) refused;
+  },
+  left_is tsn is_immediate f phase t e.endpoint_state.context (length f.payload == 0),
+)
 
 pub new_data : NewDataIsAdded
 new_data is_interleaved tag tsn is_immediate f phase t e right fine = (

@@ -3,14 +3,15 @@ use Rattle.std.proofs.Common.{◌≡◌, ◌⊎◌, inl, inr, true, List, [], �
 use Rattle.std.specs.List.{list_all}
 use Rattle.std.proofs.lemmas.Bool.{and_parts}
 use Rattle.sctp_state.specs.Events.{Event, OnConnected, OnConnectionRestarted, OnClosed, OnAborted, OnIncomingStreamReset, OnStreamsResetPerformed, OnStreamsResetFailed, OnError, numbers_of}
-use Rattle.spec_endpoint.specs.Association.{Context, Endpoint}
+use Rattle.spec_endpoint.specs.Association.{Closed, Context, Endpoint}
 use Rattle.spec_endpoint.specs.Sack.{clean_blocks}
 use Rattle.spec_endpoint.specs.ResetRequests.{Outcome, Unsettled, Done, Denied, outcome}
 use Rattle.spec_endpoint.specs.Packets.{room}
 use Rattle.spec_endpoint.specs.StreamReset.{on_outcome}
+use Rattle.spec_endpoint.specs.Shutdown.{ended, over}
 use Rattle.spec_endpoint.specs.Laws.{Call, called, ending, endings}
-use Rattle.proof_endpoint.specs.Acts.{EndWithPacket, calm, PacketAct, begins, adds_plain, emits, emits_error, counts, before_packets, after_packets, OpeningAct, connects, adds_init, answers_new, answers_waiting, answers_echoed, answers_again, echoes, adds_cookie, establishes, opens, restarts, opens_again, maintains, adds_cookie_ack, before_opening, after_opening, ClosingAct, closes, shuts, shuts_on, before_closing, after_closing, DataAct, takes_data, takes_idata, takes_forward, takes_iforward, before_data, after_data, SackAct, takes_sack, samples, counts_errors, point_of, before_sack, after_sack, SendingAct, asks, adds_ack, expires, adds_forward, forwards_later, asks_no_reset, asks_reset, adds_request, sends, sends_fast, before_sending, after_sending, TimeAct, advances, delay_ends, times_out, beats, times_init, times_cookie, times_request, wakes_request, before_time, after_time, CallAct, accepts, refuses, takes_message, sets_low_threshold, sets_priority, sets_max_message_size, before_call, after_call, ResetAct, prepares, defers, performs, processes, takes_response, adds_responses, before_reset, after_reset, HandoverAct, leaves, takes_up, before_handover, after_handover, InputAct, ends_packet, before_input, after_input, Preserves, HasNoEnd, PreservesUntilEnd}
-use Rattle.proof_pair.proofs.EmittedLemmas.{is_no_packet_or_status, EmitsNoPacketOrStatus, emits_same, emits_all, emits_nack_all, emits_expired, emits_sack, emits_threshold, emits_sent, emits_prepared, emits_refused}
+use Rattle.proof_endpoint.specs.Acts.{EndWithPacket, in_state, with_context, calm, PacketAct, begins, adds_plain, emits, emits_error, counts, before_packets, after_packets, OpeningAct, connects, adds_init, answers_new, answers_waiting, answers_echoed, answers_again, echoes, adds_cookie, establishes, opens, restarts, opens_again, maintains, adds_cookie_ack, before_opening, after_opening, ClosingAct, closes, shuts, shuts_on, before_closing, after_closing, DataAct, takes_data, takes_idata, takes_forward, takes_iforward, before_data, after_data, SackAct, takes_sack, samples, counts_errors, point_of, before_sack, after_sack, SendingAct, asks, forces_ack, adds_ack, expires, adds_forward, forwards_later, asks_no_reset, asks_reset, adds_request, sends, sends_fast, before_sending, after_sending, TimeAct, advances, delay_ends, times_out, beats, times_init, times_cookie, times_request, times_items, wakes_request, before_time, after_time, CallAct, accepts, refuses, takes_message, sets_low_threshold, sets_priority, sets_max_message_size, before_call, after_call, ResetAct, prepares, defers, performs, processes, takes_response, adds_responses, before_reset, after_reset, HandoverAct, leaves, takes_up, before_handover, after_handover, InputAct, ends_packet, before_input, after_input, Preserves, HasNoEnd, PreservesUntilEnd}
+use Rattle.proof_pair.proofs.EmittedLemmas.{is_no_packet_or_status, EmitsNoPacketOrStatus, emits_same, emits_all, emits_nack_all, emits_expired, emits_sack, emits_threshold, emits_sent, emits_prepared, emits_emptied, emits_refused}
 use Rattle.proof_endpoint.proofs.ActsLemmas.{keeps_call}
 use Rattle.proof_endpoint.proofs.EmitsLemmas.{endings_append}
 
@@ -40,6 +41,7 @@ module _ {P : Type 0} {call : Call} where
   sending_act_emits_no_packet_or_status (expires phase t m) = emits_expired m.context.now t.sender.outstanding.items m.context.emitted
   sending_act_emits_no_packet_or_status (sends phase t m) = emits_sent m.context.now (room m.packet) t.sender m.context.queue m.context.emitted
   sending_act_emits_no_packet_or_status (asks also_if_delayed phase t m) = emits_same m.context.emitted
+  sending_act_emits_no_packet_or_status (forces_ack phase t m) = emits_same m.context.emitted
   sending_act_emits_no_packet_or_status (adds_ack phase t m) = emits_same m.context.emitted
   sending_act_emits_no_packet_or_status (adds_forward phase t m due) = emits_same m.context.emitted
   sending_act_emits_no_packet_or_status (forwards_later n m) = emits_same m.context.emitted
@@ -56,6 +58,7 @@ module _ {P : Type 0} {call : Call} where
   time_act_emits_no_packet_or_status (times_init tag first old new m) = emits_same m.context.emitted
   time_act_emits_no_packet_or_status (times_cookie old new cookie t m) = emits_same m.context.emitted
   time_act_emits_no_packet_or_status (times_request timer phase t m) = emits_same m.context.emitted
+  time_act_emits_no_packet_or_status (times_items timer phase t m) = emits_same m.context.emitted
   time_act_emits_no_packet_or_status (wakes_request phase t m) = emits_same m.context.emitted
 
   pub call_act_emits_no_packet_or_status : (act : CallAct P call) → ActEmitsNoPacketOrStatus (before_call act) (after_call act)
@@ -77,6 +80,16 @@ module _ {P : Type 0} {call : Call} where
 
   pub input_act_emits_no_packet_or_status : (act : InputAct P call) → ActEmitsNoPacketOrStatus (before_input act) (after_input act)
   input_act_emits_no_packet_or_status (ends_packet phase t m) = emits_same m.context.emitted
+
+-- ---- an association is over
+
+module _ {P : Type 0} where
+  -- what waits is given up behind the event that says so
+  pub over_gives_up : (e : Event P) (c : Context P) → EmitsNoPacketOrStatus (ended e c).emitted (over e c).emitted
+  over_gives_up e c = emits_emptied c.options.avoid_stalls c.queue (ended e c).emitted
+
+  pub over_emits : (e : Event P) (c : Context P) → (over e c).emitted.events ≡ c.emitted.events ++ e ∷ (over_gives_up e c).events
+  over_emits e c = (over_gives_up e c).behind ∙ append_assoc c.emitted.events (e ∷ []) (over_gives_up e c).events
 
 -- ---- what was emitted stands
 
@@ -128,7 +141,7 @@ module _ {P : Type 0} {call : Call} where
   grows_opening (adds_cookie_ack tag back phase t m echoed late) = record { events = []; behind = sym (append-nil m.context.emitted.events) }
 
   grows_closing : (act : ClosingAct P call) → Grows (before_closing act) (after_closing act)
-  grows_closing (closes e m there is) = record { events = e ∷ []; behind = refl }
+  grows_closing (closes e m there is) = record { events = e ∷ (over_gives_up e m.context).events; behind = over_emits e m.context }
   grows_closing (shuts phase t m is early) = record { events = []; behind = sym (append-nil m.context.emitted.events) }
   grows_closing (shuts_on phase next t m late later) = record { events = []; behind = sym (append-nil m.context.emitted.events) }
 
@@ -146,6 +159,11 @@ module _ {P : Type 0} where
   -- an end that is emitted is one
   pub no_end : (a b : EndWithPacket P) (e : Event P) → b.context.emitted.events ≡ a.context.emitted.events ++ e ∷ [] → ending e ≡ 1 → HasNoEnd b → ⊥
   no_end a b e is one h = omega (arith, ap endings is, endings_append a.context.emitted.events (e ∷ []), one, h)
+
+  pub no_end_over : (e : Event P) (m : EndWithPacket P) → ending e ≡ 1 → HasNoEnd (in_state Closed (with_context (over e m.context) m)) → ⊥
+  no_end_over e m one h =
+      let more : List (Event P) = (over_gives_up e m.context).events in
+      omega (arith, ap endings (over_emits e m.context), endings_append m.context.emitted.events (e ∷ more), one, h)
 
   -- as long as there is none
   abbrev pub Until : (EndWithPacket P → EndWithPacket P → Type 0) → EndWithPacket P → EndWithPacket P → Type 0
@@ -233,8 +251,8 @@ module _ {P : Type 0} {call : Call} {R : EndWithPacket P → EndWithPacket P →
       })
 
   -- an act that ends it
-  over_by : (a b : EndWithPacket P) (e : Event P) → b.context.emitted.events ≡ a.context.emitted.events ++ e ∷ [] → ending e ≡ 1 → First a b
-  over_by a b e emitted_is is none = inr (record { here = a; none = none; kept = k.same a; event = e; ends = is; more = []; emitted = emitted_is })
+  over_by : (a b : EndWithPacket P) (e : Event P) (more : List (Event P)) → b.context.emitted.events ≡ a.context.emitted.events ++ e ∷ more → ending e ≡ 1 → First a b
+  over_by a b e more emitted_is is none = inr (record { here = a; none = none; kept = k.same a; event = e; ends = is; more = more; emitted = emitted_is })
 
   first_packets : (act : PacketAct P call) → First (before_packets act) (after_packets act)
   unfolding grows_packets grows_same grows_one
@@ -269,7 +287,7 @@ module _ {P : Type 0} {call : Call} {R : EndWithPacket P → EndWithPacket P →
 
   first_closing : (act : ClosingAct P call) → First (before_closing act) (after_closing act)
   unfolding grows_closing
-  first_closing (closes e m there is) = over_by m (after_closing {call = call} (closes e m there is)) e refl is
+  first_closing (closes e m there is) = over_by m (after_closing {call = call} (closes e m there is)) e (over_gives_up e m.context).events (over_emits e m.context) is
   first_closing (shuts phase t m is early) =
       let act : ClosingAct P call = shuts phase t m is early in still (before_closing act) (after_closing act) [] (grows_closing act).behind refl (k.closing act)
   first_closing (shuts_on phase next t m late later) =
@@ -277,7 +295,7 @@ module _ {P : Type 0} {call : Call} {R : EndWithPacket P → EndWithPacket P →
 
   first_handover : (act : HandoverAct P call) → First (before_handover act) (after_handover act)
   first_handover (leaves phase t m is) =
-      let act : HandoverAct P call = leaves phase t m is in over_by (before_handover act) (after_handover act) OnClosed refl refl
+      let act : HandoverAct P call = leaves phase t m is in over_by (before_handover act) (after_handover act) OnClosed [] refl refl
   first_handover (takes_up h m is valid) =
       let act : HandoverAct P call = takes_up h m is valid in still (before_handover act) (after_handover act) (OnConnected ∷ []) refl refl (k.handover act)
 

@@ -3,10 +3,11 @@
 use Rattle.std.specs.Prelude.{◌≡◌, ℕ, ◌==◌, ◌||◌, not, Bool, true, false, None, List, length}
 use Rattle.sctp_chunk.specs.declared.forward_tsn.SkippedStream.{SkippedStream}
 use Rattle.sctp_packet.specs.Chunk.{ChunkTree, FragmentTree, data_chunk, idata_chunk, forward_tsn_chunk, i_forward_tsn_chunk}
-use Rattle.sctp_rx.specs.DataTracker.{number_of, is_valid, has_seen, moves_on}
+use Rattle.sctp_state.specs.Options.{Options}
+use Rattle.sctp_rx.specs.DataTracker.{number_of, has_seen, moves_on}
 use Rattle.sctp_rx.specs.ReassemblyQueue.{add, forward}
 use Rattle.spec_endpoint.specs.Association.{Tcb, Phase, Open, Endpoint}
-use Rattle.spec_endpoint.specs.Data.{is_full, observe_tsn, advance_cumulative_tsn, accepts_point}
+use Rattle.spec_endpoint.specs.Data.{accepts_tsn, observe_tsn, advance_cumulative_tsn, accepts_point}
 use Rattle.spec_endpoint.specs.Input.{misuse, receive}
 
 -- an end in this phase, with this control block
@@ -23,8 +24,8 @@ point_chunk true tsn skipped = i_forward_tsn_chunk tsn skipped
 point_chunk false tsn skipped = forward_tsn_chunk tsn skipped
 
 -- it is empty, there is no room for it, or its TSN is out of range
-abbrev pub is_refused : (tsn : ℕ) → FragmentTree → Tcb → Bool
-is_refused tsn f t = (length f.payload == 0) || (is_full t.reassembly || not (is_valid t.tracker.tracker (number_of t.tracker tsn)))
+abbrev pub is_refused : Options → (tsn : ℕ) → FragmentTree → Tcb → Bool
+is_refused o tsn f t = (length f.payload == 0) || not (accepts_tsn o tsn t)
 
 -- its TSN wasn't seen before
 abbrev pub is_new : (tsn : ℕ) → Tcb → Bool
@@ -34,6 +35,12 @@ is_new tsn t = not (has_seen t.tracker.tracker (number_of t.tracker tsn))
 pub record Leaves {P : Type 0} (e : Endpoint P) (phase : Phase) : Type 0 where
   pub tcb : Tcb
   pub is : e.endpoint_state.state ≡ Open phase tcb
+
+-- Of the control block afterwards: nothing was observed or added. With stalls avoided an acknowledgement may be due; else nothing changed.
+pub record IsLeft (o : Options) (before after : Tcb) : Type 0 where
+  pub reassembly : after.reassembly ≡ before.reassembly
+  pub seen : after.tracker.tracker.seen ≡ before.tracker.tracker.seen
+  pub all : o.avoid_stalls ≡ false → after ≡ before
 
 -- Of the control block afterwards: the TSN was observed, and the fragment added where it was new.
 pub record IsTaken (tsn : ℕ) (is_immediate : Bool) (f : FragmentTree) (before after : Tcb) : Type 0 where
@@ -49,17 +56,17 @@ pub record IsPassed (tsn : ℕ) (skipped : List SkippedStream) (before after : T
 
 -- ---- the laws, of chunks that what was negotiated allows
 
--- what is refused before it is observed leaves tracker and reassembly as they were
+-- what is refused before it is observed leaves reassembly, and what the tracker has seen, as they were
 abbrev pub RefusedDataChangesNothing : Type 0
 RefusedDataChangesNothing =
     (is_interleaved : Bool) (tag tsn : ℕ) (is_immediate : Bool) (f : FragmentTree) (phase : Phase) (t : Tcb) (e : Endpoint (List ℕ))
-    → misuse t.capabilities (fragment_chunk is_interleaved tsn is_immediate f) ≡ None → is_refused tsn f t ≡ true
-    → (receive tag (fragment_chunk is_interleaved tsn is_immediate f) (opened phase t e)).end.endpoint_state.state ≡ Open phase t
+    → misuse t.capabilities (fragment_chunk is_interleaved tsn is_immediate f) ≡ None → is_refused e.endpoint_state.context.options tsn f t ≡ true
+    → (l : Leaves (receive tag (fragment_chunk is_interleaved tsn is_immediate f) (opened phase t e)).end phase) × IsLeft e.endpoint_state.context.options t l.tcb
 
 abbrev pub NewDataIsAdded : Type 0
 NewDataIsAdded =
     (is_interleaved : Bool) (tag tsn : ℕ) (is_immediate : Bool) (f : FragmentTree) (phase : Phase) (t : Tcb) (e : Endpoint (List ℕ))
-    → misuse t.capabilities (fragment_chunk is_interleaved tsn is_immediate f) ≡ None → is_refused tsn f t ≡ false
+    → misuse t.capabilities (fragment_chunk is_interleaved tsn is_immediate f) ≡ None → is_refused e.endpoint_state.context.options tsn f t ≡ false
     → (l : Leaves (receive tag (fragment_chunk is_interleaved tsn is_immediate f) (opened phase t e)).end phase) × IsTaken tsn is_immediate f t l.tcb
 
 abbrev pub RefusedPointsChangeNothing : Type 0

@@ -4,10 +4,11 @@ use Rattle.std.specs.Prelude.{⊤}
 use Rattle.std.specs.List.{flat_map}
 use Rattle.std.proofs.lemmas.Grind.{flat_map-append}
 use Rattle.sctp_serial.specs.Messages.{Message}
+use Rattle.sctp_state.specs.Options.{Options}
 use Rattle.sctp_rx.specs.Delivery.{Extends}
 use Rattle.sctp_reassembly.proofs.ExtendsLemmas.{extends_by}
-use Rattle.spec_endpoint.specs.Association.{State, Closed, CookieWait, Open}
-use Rattle.spec_endpoint.specs.Calls.{ready_in, without_first_message_in}
+use Rattle.spec_endpoint.specs.Association.{Tcb, Phase, State, Closed, CookieWait, Open}
+use Rattle.spec_endpoint.specs.Calls.{ready_in, without_first_message, opens_window, told_if, message_taken_in}
 use Rattle.spec_endpoint.specs.Laws.{TakeMessage}
 use Rattle.spec_endpoint.specs.Shown.{Association, association_in}
 use Rattle.proof_pair.specs.Trace.{Side, Pair, EndAction, Calls, Gives, Refuses, act, goes, run, side_of, state_of}
@@ -357,14 +358,18 @@ none_dropped (m ∷ ms) = go ms
     go [] = refl
     go (z ∷ zs) = go zs
 
-taken_none : (s : State) → new_behind (ready_in s) (ready_in (without_first_message_in s)) ≡ []
-taken_none Closed = refl
-taken_none (CookieWait tag first t1) = refl
-taken_none (Open phase t) = none_dropped t.reassembly.ready
+told_none : (b : Bool) (phase : Phase) (t : Tcb) → new_behind t.reassembly.ready (ready_in (Open phase (told_if b (without_first_message t)))) ≡ []
+told_none true phase t = none_dropped t.reassembly.ready
+told_none false phase t = none_dropped t.reassembly.ready
+
+taken_none : (o : Options) (s : State) → new_behind (ready_in s) (ready_in (message_taken_in o s)) ≡ []
+taken_none o Closed = refl
+taken_none o (CookieWait tag first t1) = refl
+taken_none o (Open phase t) = told_none (opens_window o t.reassembly (without_first_message t).reassembly) phase t
 
 -- an action hands out nothing, or nothing becomes ready at it
 one_or_none : (t : EndAction) (own beside : Side) → (handed_by t own ≡ []) ⊎ (new_behind (ready_at own) (ready_at (act t own beside)) ≡ [])
-one_or_none (Calls TakeMessage) own beside = inr (taken_none (state_of own))
+one_or_none (Calls TakeMessage) own beside = inr (taken_none own.end.endpoint_state.context.options (state_of own))
 one_or_none (Calls call) own beside = inl refl
 one_or_none (Gives which checksum) own beside = inl refl
 one_or_none (Refuses p) own beside = inl refl

@@ -15,6 +15,7 @@ use Rattle.spec_endpoint.specs.Packets.{header_to, room, emit_event_in}
 use Rattle.spec_endpoint.specs.ResetRequests.{Outcome, Unsettled, Done, Denied, outcome}
 use Rattle.spec_endpoint.specs.Sack.{clean_blocks}
 use Rattle.spec_endpoint.specs.Calls.{lifecycle_end_events, refusal_events}
+use Rattle.spec_endpoint.specs.Shutdown.{ended, over}
 use Rattle.spec_endpoint.specs.StreamReset.{on_outcome}
 use Rattle.spec_endpoint.specs.Input.{packet_refusal}
 use Rattle.spec_endpoint.specs.Laws.{Call, ReceivePacket, called, IsShort, ending}
@@ -22,6 +23,7 @@ use Rattle.proof_endpoint.specs.Mapped.{Carried}
 use Rattle.proof_endpoint.specs.Acts.{EndWithPacket, in_open, with_context, opened_by, point_of, IsBundled, PacketAct, emits, emits_error, before_packets, after_packets, OpeningAct, establishes, opens, restarts, opens_again, maintains, before_opening, after_opening, ClosingAct, closes, before_closing, after_closing, DataAct, takes_data, before_data, after_data, SackAct, takes_sack, before_sack, after_sack, SendingAct, expires, sends, before_sending, after_sending, TimeAct, times_out, before_time, after_time, CallAct, refuses, sets_low_threshold, before_call, after_call, ResetAct, prepares, performs, takes_response, before_reset, after_reset, HandoverAct, leaves, takes_up, before_handover, after_handover, InputAct, ends_packet, before_input, after_input, Preserves}
 use Rattle.proof_endpoint.proofs.ActsLemmas.{keeps_call}
 use Rattle.proof_endpoint.proofs.StepsLemmas.{Emits}
+use Rattle.proof_endpoint.proofs.EmptiedLemmas.{emits_emptied}
 use Rattle.proof_endpoint.proofs.EmitsLemmas.{quiet_both, quiet_expiry, quiet_end, quiet_refusal, emits_nothing, emits_given_up, emits_all, emits_then, emits_sack, emits_expired, emits_sent, emits_nack_all, emits_threshold}
 use Rattle.proof_pair.specs.Trace.{Side, as_carried, new_side, packets_in, emitted_packets, EndAction, Calls, Gives, Refuses, drain, as_received, give_carried, foreign_if, act}
 use Rattle.proof_pair.proofs.JoinActsLemmas.{packets_both}
@@ -93,7 +95,7 @@ module _ (call : Call) where
 
   b_opening : (act : OpeningAct Carried call) → Onward (before_opening act) (after_opening act)
   b_opening (establishes tag t1 cookie t m received) h = saying m.context.pack m.context.emitted.events OnConnected tt h
-  b_opening (opens tag k m echoed none own) h = opened false k m h
+  b_opening (opens tag k m echoed none own) h = opened m.context.options.avoid_stalls k m h
   b_opening (restarts tag k phase t m echoed resolution) h =
       let a : EndWithPacket Carried = in_open phase t m in
       opened true k (with_context (emit_event_in OnConnectionRestarted m.context) a) (saying m.context.pack m.context.emitted.events OnConnectionRestarted tt h)
@@ -102,7 +104,9 @@ module _ (call : Call) where
   b_opening act h = h
 
   b_closing : (act : ClosingAct Carried call) → Onward (before_closing act) (after_closing act)
-  b_closing (closes e m there is) h = saying m.context.pack m.context.emitted.events e (ends_bundled e is) h
+  b_closing (closes e m there is) h =
+      quietly m.context.pack (ended e m.context).emitted (over e m.context).emitted (emits_emptied as_carried 0 m.context.options.avoid_stalls m.context.queue (ended e m.context).emitted)
+      (saying m.context.pack m.context.emitted.events e (ends_bundled e is) h)
   b_closing act h = h
 
   b_data : (act : DataAct Carried call) → Onward (before_data act) (after_data act)

@@ -25,10 +25,11 @@ use Rattle.spec_world.specs.World as worlds
 use Rattle.proof_world.specs.Reachable.{ActionFits, IsInBytes}
 use Rattle.proof_world.specs.Traces.{is_a, end_of, give_action, IsForeign, IsActionOf}
 use Rattle.proof_world.specs.Delivered.{accepted_messages_by, accepted_messages, reset_in}
-use Rattle.proof_world.specs.Justified.{clock_if, clock_after, clock_from, clock, resets_if, resets_after, resets_from, resets, acceptances_by, acceptances, WorldsAreJustified, AcceptancesAreOfAcceptedMessages}
+use Rattle.proof_world.specs.Justified.{clock_if, clock_after, clock_from, clock, resets_if, resets_after, resets_from, resets, acceptances_by, acceptances, options_of, WorldsAreJustified, AcceptancesAreOfAcceptedMessages}
 use Rattle.proof_world.proofs.LoggedLemmas.{IsQuietOn, none_in_news}
 use Rattle.proof_world.proofs.EventLemmas.{same_itself}
 use Rattle.proof_world.proofs.ClockLemmas.{moves, action_still}
+use Rattle.proof_world.proofs.AvoidingLemmas.{option_stands}
 use Rattle.proof_world.proofs.EmittingLemmas.{not_other, call_resets, BeginsWith, call_begins, given_accepts, given_resets, foreign_accepts, foreign_resets}
 use Rattle.proof_world.proofs.WorldLemmas.{Both, Extends, extends_then, in_bytes_before, Stepped, steps}
 use Rattle.proof_world.proofs.RunsLemmas.{runs_extends, happens_extends, fresh_both}
@@ -39,39 +40,39 @@ use Rattle.proof_protocol.proofs.ToolsLemmas.{not_both}
 
 -- ---- a log, entry by entry
 
--- of a record of this end, by what was accepted so far, the clock, and the streams that the event resets
-abbrev IsRight : End → List Acceptance → (now : ℕ) → (resets : List ℕ) → Entry → Type 0
-IsRight x all now resets (GaveUp y g) = same_end x y ≡ true → IsJustifiedAt all resets now g
-IsRight x all now resets entry = ⊤
+-- of a record of this end, which avoids stalls or doesn't, by what was accepted so far, the clock, and the streams that the event resets
+abbrev IsRight : End → (avoids : Bool) → List Acceptance → (now : ℕ) → (resets : List ℕ) → Entry → Type 0
+IsRight x avoids all now resets (GaveUp y g) = same_end x y ≡ true → IsJustifiedAt all avoids resets now g
+IsRight x avoids all now resets entry = ⊤
 
-abbrev Each : End → List Acceptance → (now : ℕ) → (resets : List ℕ) → List Entry → Type 0
-Each x all now resets [] = ⊤
-Each x all now resets (e ∷ log) = IsRight x all now resets e × Each x (all ++ acceptances_by x e) (clock_after x now e) (resets_after x resets e) log
+abbrev Each : End → (avoids : Bool) → List Acceptance → (now : ℕ) → (resets : List ℕ) → List Entry → Type 0
+Each x avoids all now resets [] = ⊤
+Each x avoids all now resets (e ∷ log) = IsRight x avoids all now resets e × Each x avoids (all ++ acceptances_by x e) (clock_after x now e) (resets_after x resets e) log
 
-each_both : (x : End) (all : List Acceptance) (now : ℕ) (resets : List ℕ) (log more : List Entry) → Each x all now resets log
-    → Each x (all ++ acceptances x log) (clock_from x now log) (resets_from x resets log) more → Each x all now resets (log ++ more)
-each_both x all now resets [] more h k = subst (λ (l : List Acceptance). Each x l now resets more) (append-nil all) k
-each_both x all now resets (e ∷ log) more h k =
+each_both : (x : End) (avoids : Bool) (all : List Acceptance) (now : ℕ) (resets : List ℕ) (log more : List Entry) → Each x avoids all now resets log
+    → Each x avoids (all ++ acceptances x log) (clock_from x now log) (resets_from x resets log) more → Each x avoids all now resets (log ++ more)
+each_both x avoids all now resets [] more h k = subst (λ (l : List Acceptance). Each x avoids l now resets more) (append-nil all) k
+each_both x avoids all now resets (e ∷ log) more h k =
     let later : List ℕ = resets_after x resets e in (
       h.0,
-      each_both x (all ++ acceptances_by x e) (clock_after x now e) later log more h.1
-          (subst (λ (l : List Acceptance). Each x l (clock_from x (clock_after x now e) log) (resets_from x later log) more)
+      each_both x avoids (all ++ acceptances_by x e) (clock_after x now e) later log more h.1
+          (subst (λ (l : List Acceptance). Each x avoids l (clock_from x (clock_after x now e) log) (resets_from x later log) more)
           (sym (append_assoc all (acceptances_by x e) (acceptances x log))) k),
     )
 
-at_each : (x : End) (all : List Acceptance) (now : ℕ) (resets : List ℕ) (log before behind : List Entry) (g : GivenUp) → Each x all now resets log
-    → log ≡ before ++ GaveUp x g ∷ behind → IsJustifiedAt (all ++ acceptances x before) (resets_from x resets before) (clock_from x now before) g
-at_each x all now resets [] [] behind g h is = cc
-at_each x all now resets [] (f ∷ before) behind g h is = cc
-at_each x all now resets (d ∷ log) [] behind g h is =
-    subst (λ (l : List Acceptance). IsJustifiedAt l resets now g) (sym (append-nil all))
-    (subst (IsRight x all now resets) (split_head d (GaveUp x g) log behind is) h.0 (same_itself x))
-at_each x all now resets (d ∷ log) (f ∷ before) behind g h is =
-    subst (λ (e : Entry). IsJustifiedAt (all ++ (acceptances_by x e ++ acceptances x before)) (resets_from x (resets_after x resets e) before) (clock_from x (clock_after x now e) before) g)
+at_each : (x : End) (avoids : Bool) (all : List Acceptance) (now : ℕ) (resets : List ℕ) (log before behind : List Entry) (g : GivenUp) → Each x avoids all now resets log
+    → log ≡ before ++ GaveUp x g ∷ behind → IsJustifiedAt (all ++ acceptances x before) avoids (resets_from x resets before) (clock_from x now before) g
+at_each x avoids all now resets [] [] behind g h is = cc
+at_each x avoids all now resets [] (f ∷ before) behind g h is = cc
+at_each x avoids all now resets (d ∷ log) [] behind g h is =
+    subst (λ (l : List Acceptance). IsJustifiedAt l avoids resets now g) (sym (append-nil all))
+    (subst (IsRight x avoids all now resets) (split_head d (GaveUp x g) log behind is) h.0 (same_itself x))
+at_each x avoids all now resets (d ∷ log) (f ∷ before) behind g h is =
+    subst (λ (e : Entry). IsJustifiedAt (all ++ (acceptances_by x e ++ acceptances x before)) avoids (resets_from x (resets_after x resets e) before) (clock_from x (clock_after x now e) before) g)
     (split_head d f log (before ++ GaveUp x g ∷ behind) is)
-    (subst (λ (l : List Acceptance). IsJustifiedAt l (resets_from x (resets_after x resets d) before) (clock_from x (clock_after x now d) before) g)
+    (subst (λ (l : List Acceptance). IsJustifiedAt l avoids (resets_from x (resets_after x resets d) before) (clock_from x (clock_after x now d) before) g)
     (append_assoc all (acceptances_by x d) (acceptances x before))
-    (at_each x (all ++ acceptances_by x d) (clock_after x now d) (resets_after x resets d) log before behind g h.1 (split_tail d f log (before ++ GaveUp x g ∷ behind) is)))
+    (at_each x avoids (all ++ acceptances_by x d) (clock_after x now d) (resets_after x resets d) log before behind g h.1 (split_tail d f log (before ++ GaveUp x g ∷ behind) is)))
 
 -- ---- entries behind the first of an event
 
@@ -102,11 +103,11 @@ stand_still x now (Foreign y clock bytes ∷ more) h = cc
 stand_still x now (Timed y clock moment ∷ more) h = cc
 stand_still x now (e ∷ more) h = stand_still x now more h
 
-module _ (x : End) (all : List Acceptance) (resets : List ℕ) (now : ℕ) where
-  each_more : (log : List Entry) → Each x all now resets log → Each x (all ++ []) now resets log
-  each_more log h = subst (λ (l : List Acceptance). Each x l now resets log) (sym (append-nil all)) h
+module _ (x : End) (avoids : Bool) (all : List Acceptance) (resets : List ℕ) (now : ℕ) where
+  each_more : (log : List Entry) → Each x avoids all now resets log → Each x avoids (all ++ []) now resets log
+  each_more log h = subst (λ (l : List Acceptance). Each x avoids l now resets log) (sym (append-nil all)) h
 
-  each_quiet : (more : List Entry) → flat_map firsts more ≡ [] → AllByRecursion (IsJustifiedAt all resets now) (given_up x more) → Each x all now resets more
+  each_quiet : (more : List Entry) → flat_map firsts more ≡ [] → AllByRecursion (IsJustifiedAt all avoids resets now) (given_up x more) → Each x avoids all now resets more
   each_quiet [] h k = tt
   each_quiet (Called y clock call answer ∷ more) h k = cc
   each_quiet (Given y clock packet ∷ more) h k = cc
@@ -114,8 +115,8 @@ module _ (x : End) (all : List Acceptance) (resets : List ℕ) (now : ℕ) where
   each_quiet (Timed y clock moment ∷ more) h k = cc
   each_quiet (GaveUp y g ∷ more) h k = go (same_end x y) refl k (λ l. each_more more (each_quiet more h l))
     where
-      go : (b : Bool) → same_end x y ≡ b → AllByRecursion (IsJustifiedAt all resets now) (none_unless b g ++ given_up x more)
-          → (AllByRecursion (IsJustifiedAt all resets now) (given_up x more) → Each x (all ++ []) now resets more) → Each x all now resets (GaveUp y g ∷ more)
+      go : (b : Bool) → same_end x y ≡ b → AllByRecursion (IsJustifiedAt all avoids resets now) (none_unless b g ++ given_up x more)
+          → (AllByRecursion (IsJustifiedAt all avoids resets now) (given_up x more) → Each x avoids (all ++ []) now resets more) → Each x avoids all now resets (GaveUp y g ∷ more)
       go true is k rest = (λ e. k.0, rest k.1)
       go false is k rest = (λ e. absurd (not_both e is), rest k)
   each_quiet (e ∷ more) h k = (tt, each_more more (each_quiet more h k))
@@ -124,7 +125,7 @@ module _ (x : End) (all : List Acceptance) (resets : List ℕ) (now : ℕ) where
 
 -- a first entry with this clock, at which these streams are reset
 record HasClock (x : End) (n : ℕ) (cleared : List ℕ) (first : Entry) : Type 0 where
-  right : (y : End) (all : List Acceptance) (now : ℕ) (rs : List ℕ) → IsRight y all now rs first
+  right : (y : End) (avoids : Bool) (all : List Acceptance) (now : ℕ) (rs : List ℕ) → IsRight y avoids all now rs first
   takes : (y : End) → acceptances_by y first ≡ map (accepted_then n) (accepted_messages_by y first)
   ticks : (y : End) (m : ℕ) → clock_after y m first ≡ clock_if (same_end y x) n m
   clears : (y : End) (rs : List ℕ) → resets_after y rs first ≡ resets_if (same_end y x) cleared rs
@@ -135,7 +136,7 @@ record Marks (x : End) (turn : EndAction) (own next : traces.Side) (log longer :
   more : List Entry
   logged : longer ≡ log ++ first ∷ more
   quiet : flat_map firsts more ≡ []
-  right : (y : End) (all : List Acceptance) (now : ℕ) (rs : List ℕ) → IsRight y all now rs first
+  right : (y : End) (avoids : Bool) (all : List Acceptance) (now : ℕ) (rs : List ℕ) → IsRight y avoids all now rs first
   given_up : (y : End) → given_up_by y first ≡ []
   accepts : acceptances_by x first ≡ map (accepted_then (delivery.clock own)) (accepted_in turn own)
   accepts_none : acceptances_by (other x) first ≡ []
@@ -193,7 +194,7 @@ module _ (f : Mapping Carried (List ℕ)) (x : End) (own beside : traces.Side) (
       let b : BeginsWith x (Calls (table_call call)) own (call_entry x call s) = call_begins f x own s is call in
       still_marks (call_entry x call s) (news_of x (side_of x w) (after_call call s)) (ap moves t ∙ call_still call) (ap (λ (z : World). z.log) e ∙ calls_log x call w)
       (quiet_news (after_call call s))
-      (record { right = λ y all now rs. tt; takes = λ y. refl; ticks = λ y m. refl; clears = cleared_by (reset_in call (answer_to call s)) (call_resets f x own s is call ∙ ap (λ (z : EndAction). reset_by z own) (sym t)); given_up = λ y. refl })
+      (record { right = λ y avoids all now rs. tt; takes = λ y. refl; ticks = λ y m. refl; clears = cleared_by (reset_in call (answer_to call s)) (call_resets f x own s is call ∙ ap (λ (z : EndAction). reset_by z own) (sym t)); given_up = λ y. refl })
       (b.offers ∙ ap (λ (z : EndAction). accepted_in z own) (sym t)) b.no_offers
 
   time_marks : (now : ℕ) → turn ≡ Calls (table.Advance now) → u ≡ advance_time x now w → Marks x turn own next w.log u.log
@@ -203,7 +204,7 @@ module _ (f : Mapping Carried (List ℕ)) (x : End) (own beside : traces.Side) (
       let at : side_of x u ≡ take_emitted (side_of x w) after = ap (side_of x) e ∙ time_side x now w in
       marks_by x turn own next w.log u.log (time_entry x now s) (news_of x (side_of x w) after) (worlds.clock after) (ap (λ (z : World). z.log) e ∙ time_log x now w)
       (quiet_news after)
-      (record { right = λ y all m rs. tt; takes = λ y. refl; ticks = λ y m. refl; clears = cleared_by [] (sym (ap (λ (z : EndAction). reset_by z own) t)); given_up = λ y. refl })
+      (record { right = λ y avoids all m rs. tt; takes = λ y. refl; ticks = λ y m. refl; clears = cleared_by [] (sym (ap (λ (z : EndAction). reset_by z own) t)); given_up = λ y. refl })
       (sym none) refl
       (ap (map (accepted_then (worlds.clock after))) none ∙ sym (ap (map (accepted_then (delivery.clock own))) none))
       (ap (λ (z : Side). worlds.clock z.socket) (sym at) ∙ ap worlds.clock is_next)
@@ -211,15 +212,15 @@ module _ (f : Mapping Carried (List ℕ)) (x : End) (own beside : traces.Side) (
   give_marks : (packet : ℕ) → moves turn ≡ false → accepted_in turn own ≡ [] → reset_by turn own ≡ [] → Gives x packet w u → Marks x turn own next w.log u.log
   give_marks packet still none clear g =
       still_marks (Given x (worlds.clock s) packet) (news_of x (side_of x w) g.takes_bytes.after) still g.takes_bytes.logged (quiet_news g.takes_bytes.after)
-      (record { right = λ y all now rs. tt; takes = λ y. refl; ticks = λ y m. refl; clears = cleared_by [] (sym clear); given_up = λ y. refl }) (sym none) refl
+      (record { right = λ y avoids all now rs. tt; takes = λ y. refl; ticks = λ y m. refl; clears = cleared_by [] (sym clear); given_up = λ y. refl }) (sym none) refl
 
   foreign_marks : (bytes : List ℕ) → moves turn ≡ false → accepted_in turn own ≡ [] → reset_by turn own ≡ [] → MeetsForeignAt x bytes (side_of x w) (side_of x u) w.log u.log → Marks x turn own next w.log u.log
   foreign_marks bytes still none clear (given t judged) =
       still_marks (Foreign x (worlds.clock s) (Some bytes)) (news_of x (side_of x w) t.after) still t.logged (quiet_news t.after)
-      (record { right = λ y all now rs. tt; takes = λ y. refl; ticks = λ y m. refl; clears = cleared_by [] (sym clear); given_up = λ y. refl }) (sym none) refl
+      (record { right = λ y avoids all now rs. tt; takes = λ y. refl; ticks = λ y m. refl; clears = cleared_by [] (sym clear); given_up = λ y. refl }) (sym none) refl
   foreign_marks bytes still none clear (withheld judged stays logged) =
       still_marks (Foreign x (worlds.clock s) None) [] still logged refl
-      (record { right = λ y all now rs. tt; takes = λ y. refl; ticks = λ y m. refl; clears = cleared_by [] (sym clear); given_up = λ y. refl }) (sym none) refl
+      (record { right = λ y avoids all now rs. tt; takes = λ y. refl; ticks = λ y m. refl; clears = cleared_by [] (sym clear); given_up = λ y. refl }) (sym none) refl
 
 -- ---- what the actions are
 
@@ -284,18 +285,19 @@ ticks_at B B turn c log longer m = m.ticks (delivery.clock c.b)
 
 -- what is emitted at the action of either end is justified, with the streams that the log says
 emits_at : (x y : End) (turn : EndAction) (c : Pair) (log longer : List Entry) (m : Marks y turn (traces.side_of (is_a y) c) (traces.side_of (is_a y) (goes (is_a y) turn c)) log longer)
-    (all : List Acceptance) (now : ℕ) (rs : List ℕ) → AllByRecursion (IsJustifiedAt all (reset_at (is_a x) (is_a y) turn c) now) (records_at (is_a x) (is_a y) turn c)
-    → AllByRecursion (IsJustifiedAt all (resets_after x rs m.first) now) (records_at (is_a x) (is_a y) turn c)
-emits_at A A turn c log longer m all now rs h = subst (λ (r : List ℕ). AllByRecursion (IsJustifiedAt all r now) (records_at true true turn c)) (sym (m.clears rs)) h
-emits_at B A turn c log longer m all now rs h = tt
-emits_at A B turn c log longer m all now rs h = tt
-emits_at B B turn c log longer m all now rs h = subst (λ (r : List ℕ). AllByRecursion (IsJustifiedAt all r now) (records_at false false turn c)) (sym (m.clears rs)) h
+    (avoids : Bool) (all : List Acceptance) (now : ℕ) (rs : List ℕ) → AllByRecursion (IsJustifiedAt all avoids (reset_at (is_a x) (is_a y) turn c) now) (records_at (is_a x) (is_a y) turn c)
+    → AllByRecursion (IsJustifiedAt all avoids (resets_after x rs m.first) now) (records_at (is_a x) (is_a y) turn c)
+emits_at A A turn c log longer m avoids all now rs h = subst (λ (r : List ℕ). AllByRecursion (IsJustifiedAt all avoids r now) (records_at true true turn c)) (sym (m.clears rs)) h
+emits_at B A turn c log longer m avoids all now rs h = tt
+emits_at A B turn c log longer m avoids all now rs h = tt
+emits_at B B turn c log longer m avoids all now rs h = subst (λ (r : List ℕ). AllByRecursion (IsJustifiedAt all avoids r now) (records_at false false turn c)) (sym (m.clears rs)) h
 
 -- ---- along a run
 
 -- what is known of an end and of its log
-record Known (x : End) (log : List Entry) (end : traces.Side) : Type 0 where
-  each : Each x [] 0 [] log
+record Known (x : End) (avoids : Bool) (log : List Entry) (end : traces.Side) : Type 0 where
+  each : Each x avoids [] 0 [] log
+  option : delivery.avoids_stalls end ≡ avoids
   time : clock x log ≡ delivery.clock end
   rests : Rests (acceptances x log) end
 
@@ -303,10 +305,10 @@ clock_both : (x : End) (now : ℕ) (log more : List Entry) → clock_from x now 
 clock_both x now [] more = refl
 clock_both x now (e ∷ log) more = clock_both x (clock_after x now e) log more
 
-module _ (x y : End) (turn : EndAction) (c : Pair) (log longer : List Entry)
+module _ (x y : End) (avoids : Bool) (turn : EndAction) (c : Pair) (log longer : List Entry)
     (m : Marks y turn (traces.side_of (is_a y) c) (traces.side_of (is_a y) (goes (is_a y) turn c)) log longer)
     (records : given_up x (m.first ∷ m.more) ≡ records_at (is_a x) (is_a y) turn c) (none : restores turn ≡ false)
-    (few : length (acceptances x longer) < 2 ^ 32) (k : Known x log (traces.side_of (is_a x) c)) where
+    (few : length (acceptances x longer) < 2 ^ 32) (k : Known x avoids log (traces.side_of (is_a x) c)) where
   abbrev old : List Acceptance
   old = acceptances x log
 
@@ -333,30 +335,39 @@ module _ (x y : End) (turn : EndAction) (c : Pair) (log longer : List Entry)
   given_up_more : given_up x m.more ≡ records_at (is_a x) (is_a y) turn c
   given_up_more = sym (ap (λ (l : List GivenUp). l ++ given_up x m.more) (m.given_up x)) ∙ records
 
+  option_then : delivery.avoids_stalls then ≡ avoids
+  option_then = option_stands x y turn c ∙ k.option
+
+  justified_so : AllByRecursion (IsJustifiedAt (old ++ new) avoids (reset_at (is_a x) (is_a y) turn c) (delivery.clock then)) (records_at (is_a x) (is_a y) turn c)
+  justified_so =
+      subst (λ (b : Bool). AllByRecursion (IsJustifiedAt (old ++ new) b (reset_at (is_a x) (is_a y) turn c) (delivery.clock then)) (records_at (is_a x) (is_a y) turn c))
+      option_then actions.justified
+
   abbrev reset_now : List ℕ
   reset_now = resets_after x (resets x log) m.first
 
-  behind : Each x (old ++ acceptances_by x m.first) (clock_after x (clock x log) m.first) reset_now m.more
+  behind : Each x avoids (old ++ acceptances_by x m.first) (clock_after x (clock x log) m.first) reset_now m.more
   behind =
-      subst (λ (l : List Acceptance). Each x (old ++ l) (clock_after x (clock x log) m.first) reset_now m.more) (sym (accepts_at x y turn c log longer m))
-      (subst (λ (n : ℕ). Each x (old ++ new) n reset_now m.more) (sym ticked)
-      (each_quiet x (old ++ new) reset_now (delivery.clock then) m.more m.quiet
-      (subst (AllByRecursion (IsJustifiedAt (old ++ new) reset_now (delivery.clock then))) (sym given_up_more)
-      (emits_at x y turn c log longer m (old ++ new) (delivery.clock then) (resets x log) actions.justified))))
+      subst (λ (l : List Acceptance). Each x avoids (old ++ l) (clock_after x (clock x log) m.first) reset_now m.more) (sym (accepts_at x y turn c log longer m))
+      (subst (λ (n : ℕ). Each x avoids (old ++ new) n reset_now m.more) (sym ticked)
+      (each_quiet x avoids (old ++ new) reset_now (delivery.clock then) m.more m.quiet
+      (subst (AllByRecursion (IsJustifiedAt (old ++ new) avoids reset_now (delivery.clock then))) (sym given_up_more)
+      (emits_at x y turn c log longer m avoids (old ++ new) (delivery.clock then) (resets x log) justified_so))))
 
-  known_on : Known x longer then
+  known_on : Known x avoids longer then
   known_on = record {
-    each = subst (Each x [] 0 []) (sym m.logged) (each_both x [] 0 [] log (m.first ∷ m.more) k.each (m.right x old (clock x log) (resets x log), behind));
+    each = subst (Each x avoids [] 0 []) (sym m.logged) (each_both x avoids [] 0 [] log (m.first ∷ m.more) k.each (m.right x avoids old (clock x log) (resets x log), behind));
+    option = option_then;
     time =
         ap (clock x) m.logged
         ∙ (clock_both x 0 log (m.first ∷ m.more) ∙ (stand_still x (clock_after x (clock x log) m.first) m.more m.quiet ∙ ticked));
     rests = subst (λ (l : List Acceptance). Rests l then) (sym grown) actions.rests;
   }
 
-module _ (word_of_a word_of_b : List ℕ → ℕ) (x : End) where
+module _ (word_of_a word_of_b : List ℕ → ℕ) (x : End) (avoids : Bool) where
   along : (actions : List Action) (w v : World) (c : Pair) → All ActionFits actions → Runs actions w v → IsInBytes v → Both word_of_a word_of_b w c
-      → length (acceptances x v.log) < 2 ^ 32 → Known x w.log (traces.side_of (is_a x) c) → Each x [] 0 [] v.log
-  along [] w v c fit e small h few k = subst (λ (z : World). Each x [] 0 [] z.log) (sym e) k.each
+      → length (acceptances x v.log) < 2 ^ 32 → Known x avoids w.log (traces.side_of (is_a x) c) → Each x avoids [] 0 [] v.log
+  along [] w v c fit e small h few k = subst (λ (z : World). Each x avoids [] 0 [] z.log) (sym e) k.each
   along (action ∷ actions) w v c fit r small h few k =
       let u : World = r.0 in
       let later : Extends u v = runs_extends actions u v r.2 in
@@ -370,7 +381,7 @@ module _ (word_of_a word_of_b : List ℕ → ℕ) (x : End) where
       let few_yet : length (acceptances x u.log) < 2 ^ 32 =
       shorter (acceptances x u.log) (acceptances x later.more) (subst (λ (l : List Acceptance). length l < 2 ^ 32) both few) in
       along actions u v (goes (is_a (end_of action)) step.turn c) (All-tail ActionFits action actions fit) r.2 small step.both few
-      (known_on x (end_of action) step.turn c w.log u.log m (ap (given_up x) (sym more_is) ∙ step.records x)
+      (known_on x (end_of action) avoids step.turn c w.log u.log m (ap (given_up x) (sym more_is) ∙ step.records x)
       (action_restores word_of_a word_of_b action step.turn c step.is) few_yet k)
 
 -- ---- the laws
@@ -389,13 +400,13 @@ acceptances_offers x (e ∷ log) =
 as_many : (x : End) (log : List Entry) → length (accepted_messages x log) ≡ length (acceptances x log)
 as_many x log = sym (ap length (acceptances_offers x log)) ∙ length-map (acceptances x log) (λ (a : Acceptance). a.offer)
 
-known_first : (x : End) (a b : Options) (draws_a draws_b : Stream) → Known x [] (traces.side_of (is_a x) (start a b draws_a draws_b))
-known_first A a b draws_a draws_b = record { each = tt; time = refl; rests = at_first true a b draws_a draws_b }
-known_first B a b draws_a draws_b = record { each = tt; time = refl; rests = at_first false a b draws_a draws_b }
+known_first : (x : End) (a b : Options) (draws_a draws_b : Stream) → Known x (options_of x a b).avoid_stalls [] (traces.side_of (is_a x) (start a b draws_a draws_b))
+known_first A a b draws_a draws_b = record { each = tt; option = refl; time = refl; rests = at_first true a b draws_a draws_b }
+known_first B a b draws_a draws_b = record { each = tt; option = refl; time = refl; rests = at_first false a b draws_a draws_b }
 
 pub worlds_justified : WorldsAreJustified
 worlds_justified a b draws_a draws_b word_of_a word_of_b actions w fits_a fits_b fit runs small x few before behind g is =
-    at_each x [] 0 [] w.log before behind g
-    (along word_of_a word_of_b x actions (fresh_world a b draws_a draws_b word_of_a word_of_b) w (start a b draws_a draws_b) fit runs small
+    at_each x (options_of x a b).avoid_stalls [] 0 [] w.log before behind g
+    (along word_of_a word_of_b x (options_of x a b).avoid_stalls actions (fresh_world a b draws_a draws_b word_of_a word_of_b) w (start a b draws_a draws_b) fit runs small
     (fresh_both a b draws_a draws_b word_of_a word_of_b fits_a fits_b) (subst (λ (n : ℕ). n < 2 ^ 32) (as_many x w.log) few) (known_first x a b draws_a draws_b))
     is

@@ -28,6 +28,7 @@ pub mod DeliveredLemmas
 pub mod ClosingLemmas
 pub mod LastingLemmas
 pub mod ClockLemmas
+pub mod AvoidingLemmas
 pub mod JustifiedLemmas
 pub mod FewLemmas
 pub mod UsedQueueLemmas

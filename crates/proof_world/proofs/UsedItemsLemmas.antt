@@ -1,12 +1,13 @@
 -- How many numbers a sender has given: what comes of its items gives none, but that each message that is given up may take one more; and a packet
 -- gives one to each fragment that it takes of the queue.
 use Rattle.std.proofs.Common.{◌≡◌, ℕ, zero, suc, ◌+◌, ◌-◌, min, ◌≤◌, ◌<◌, ◌&&◌, ◌||◌, not, nat_lt, nat_le, Bool, true, false, cond, Option, Some, None, unwrap_or, option_map, is_some, List, [], ◌∷◌, ◌++◌, length, slice_get, refl, ap, ◌∙◌, arith}
+use Rattle.std.specs.Map.{keys_of}
 use Rattle.std.proofs.lemmas.List.{length-append, length-drop, length-map}
 use Rattle.std.proofs.lemmas.Bool.{and_parts, leb-true, ltb-true}
 use Rattle.sctp_chunk.specs.declared.sack.GapAckBlock.{GapAckBlock}
 use Rattle.sctp_packet.specs.Chunk.{FragmentTree}
 use Rattle.sctp_state.specs.declared.api.GivenUpCause.{GivenUpCause}
-use Rattle.sctp_state.specs.declared.api.GivenUpCause.TheVariants.{Lifetime, Retransmissions, Reset}
+use Rattle.sctp_state.specs.declared.api.GivenUpCause.TheVariants.{Lifetime, Retransmissions, Reset, Ended}
 use Rattle.sctp_state.specs.Events.{Emitted, emit_events, emit_given_up, expired_events}
 use Rattle.sctp_state.specs.ThresholdWatcher.{crosses}
 use Rattle.sctp_tx_outstanding.specs.Item.{Item, is_fast, should_be_retransmitted, mark_as_retransmitted, miss_fast}
@@ -18,6 +19,7 @@ use Rattle.sctp_tx_outstanding.specs.Sack.{is_valid, bound, highest_end, leaving
 use Rattle.sctp_tx_queue.specs.SendQueue.{Queued, Queue}
 use Rattle.sctp_tx_queue.specs.Produced as queued
 use Rattle.sctp_tx_queue.specs.Produced.{is_stale, emit_expired, emitted_made, turn, next_stream, idle, produce_within, produce}
+use Rattle.sctp_tx_queue.specs.Emptied.{emptied_one, emit_ended, emit_each_ended, empty}
 use Rattle.sctp_tx_queue.specs.Resets.{is_partly, emit_unsent}
 use Rattle.sctp_tx_queue.specs.Settings.{Changed, discard_from, discard, front_discarded, streams_discarded}
 use Rattle.sctp_tx.specs.Windows.{is_open}
@@ -56,6 +58,19 @@ module _ {P : Type 0} where
       go : (b : Bool) → ((u : Emitted P) → count u ≤ count (emit_unsent ms u)) → count t ≤ count (emit_unsent ms (cond b t said))
       go true ih = ih t
       go false ih = omega (arith, ih said, one_record m.number Reset t)
+
+  ended_grow : (ms : List Queued) (t : Emitted P) → count t ≤ count (emit_ended ms t)
+  ended_grow [] t = omega arith
+  ended_grow (m ∷ ms) t = omega (arith, one_record m.number Ended t, ended_grow ms (emit_events (expired_events m.lifecycle) (emit_given_up m.number Ended t)))
+
+  each_ended_grow : (ids : List ℕ) (q : Queue) (t : Emitted P) → count t ≤ count (emit_each_ended ids q t)
+  each_ended_grow [] q t = omega arith
+  each_ended_grow (id ∷ ids) q t =
+      let ms : List Queued = (queues.stream id q.streams).messages in
+      omega (arith, ended_grow ms t, each_ended_grow ids (emptied_one id q) (emit_ended ms t))
+
+  pub empty_grow : (q : Queue) (t : Emitted P) → count t ≤ count (empty q t).emitted
+  empty_grow q t = each_ended_grow (keys_of q.streams.entries) q t
 
   made_grow : (id : ℕ) (is_low is_total_low : Bool) (o : Option queued.Produced) (t : Emitted P) → count (emitted_made id is_low is_total_low o t) ≡ count t
   made_grow id is_low is_total_low None t = refl

@@ -17,6 +17,7 @@ use Rattle.sctp_tx_queue.specs.SendQueue.{stream as stream_of}
 use Rattle.sctp_tx_queue.specs.Produced as queued
 use Rattle.sctp_tx_queue.specs.Produced.{ends, move_past, produce}
 use Rattle.sctp_tx_queue.specs.Resets.{streams_to_request, request_resets, each_stepped, prepare_reset}
+use Rattle.sctp_tx_queue.specs.Emptied.{empty}
 use Rattle.sctp_tx_queue.specs.Restarted as queues
 use Rattle.sctp_tx_queue.specs.Settings as settings
 use Rattle.sctp_tx_queue.specs.Settings.{Changed}
@@ -30,12 +31,13 @@ use Rattle.spec_endpoint.specs.Opening.{agreed_by, queue_anew, queue_if, other_m
 use Rattle.spec_endpoint.specs.Packets.{room}
 use Rattle.spec_endpoint.specs.Sack.{clean_blocks}
 use Rattle.spec_endpoint.specs.Sending.{fast_most}
+use Rattle.spec_endpoint.specs.Shutdown.{ended, empty_if}
 use Rattle.spec_endpoint.specs.StreamReset.{on_outcome}
 use Rattle.spec_endpoint.specs.Laws.{Call, Restore}
-use Rattle.proof_endpoint.specs.Acts.{EndWithPacket, point_of, fragments_of, IsOffered, PacketAct, begins, adds_plain, emits, emits_error, counts, before_packets, after_packets, OpeningAct, connects, adds_init, answers_new, answers_waiting, answers_echoed, answers_again, echoes, adds_cookie, establishes, opens, restarts, opens_again, maintains, adds_cookie_ack, before_opening, after_opening, ClosingAct, closes, shuts, shuts_on, before_closing, after_closing, DataAct, takes_data, takes_idata, takes_forward, takes_iforward, before_data, after_data, SackAct, takes_sack, samples, counts_errors, before_sack, after_sack, SendingAct, asks, adds_ack, expires, adds_forward, forwards_later, asks_no_reset, asks_reset, adds_request, sends, sends_fast, before_sending, after_sending, TimeAct, advances, delay_ends, times_out, beats, times_init, times_cookie, times_request, wakes_request, before_time, after_time, CallAct, accepts, refuses, takes_message, sets_low_threshold, sets_priority, sets_max_message_size, before_call, after_call, ResetAct, prepares, defers, performs, processes, takes_response, adds_responses, before_reset, after_reset, HandoverAct, leaves, takes_up, before_handover, after_handover, InputAct, ends_packet, before_input, after_input, Preserves}
-use Rattle.proof_world.proofs.UsedQueueLemmas.{IsCost, of_messages, of_entries, of_queue, of_threshold, of_priority, of_each_stepped, of_prepared, of_reset, of_discards, taken, of_produced}
-use Rattle.proof_world.proofs.UsedStreamLemmas.{HasOrdered, keeps_ordered, InQueue, stands_priority, stands_threshold, stands_prepared, stands_each_stepped, stands_reset, stands_discards, stands_produced}
-use Rattle.proof_world.proofs.UsedItemsLemmas.{count, unsent_grow, produced_grow, discards_grow, Numbers, numbers_nack_all, numbers_expired, numbers_sack, numbers_fast, numbers_resent, numbers_timed}
+use Rattle.proof_endpoint.specs.Acts.{EndWithPacket, point_of, fragments_of, IsOffered, PacketAct, begins, adds_plain, emits, emits_error, counts, before_packets, after_packets, OpeningAct, connects, adds_init, answers_new, answers_waiting, answers_echoed, answers_again, echoes, adds_cookie, establishes, opens, restarts, opens_again, maintains, adds_cookie_ack, before_opening, after_opening, ClosingAct, closes, shuts, shuts_on, before_closing, after_closing, DataAct, takes_data, takes_idata, takes_forward, takes_iforward, before_data, after_data, SackAct, takes_sack, samples, counts_errors, before_sack, after_sack, SendingAct, asks, forces_ack, adds_ack, expires, adds_forward, forwards_later, asks_no_reset, asks_reset, adds_request, sends, sends_fast, before_sending, after_sending, TimeAct, advances, delay_ends, times_out, beats, times_init, times_cookie, times_request, times_items, wakes_request, before_time, after_time, CallAct, accepts, refuses, takes_message, sets_low_threshold, sets_priority, sets_max_message_size, before_call, after_call, ResetAct, prepares, defers, performs, processes, takes_response, adds_responses, before_reset, after_reset, HandoverAct, leaves, takes_up, before_handover, after_handover, InputAct, ends_packet, before_input, after_input, Preserves}
+use Rattle.proof_world.proofs.UsedQueueLemmas.{IsCost, of_messages, of_entries, of_queue, of_threshold, of_priority, of_each_stepped, of_prepared, of_reset, of_empty, of_discards, taken, of_produced}
+use Rattle.proof_world.proofs.UsedStreamLemmas.{HasOrdered, keeps_ordered, InQueue, stands_priority, stands_threshold, stands_prepared, stands_each_stepped, stands_reset, stands_empty, stands_discards, stands_produced}
+use Rattle.proof_world.proofs.UsedItemsLemmas.{count, unsent_grow, empty_grow, produced_grow, discards_grow, Numbers, numbers_nack_all, numbers_expired, numbers_sack, numbers_fast, numbers_resent, numbers_timed}
 
 -- ---- what a message costs: what is left of it, or all of it
 
@@ -228,6 +230,13 @@ module _ (all : ℕ) (most : ℕ → ℕ) where
         with_queue next point c.queue (each_stepped Refused streams c.queue) (count c.emitted) (count c.emitted) (omega arith) (of_each_stepped whole_cost Refused streams c.queue)
         (of_each_stepped left_cost Refused streams c.queue) (stands_each_stepped (λ id s. HasOrdered (most id) s) (keeps_ordered most) Refused streams c.queue) h
 
+    -- where stalls are avoided, what waits is given up as the association is over
+    over_uses : (b : Bool) (q : Queue) (t : Emitted P) → U origin origin q (count t) → U origin origin (empty_if b q t).queue (count (empty_if b q t).emitted)
+    over_uses true q t h =
+        with_queue origin origin q (empty q t).queue (count t) (count (empty q t).emitted) (empty_grow q t) (of_empty whole_cost q t) (of_empty left_cost q t)
+        (stands_empty (λ id s. HasOrdered (most id) s) (keeps_ordered most) q t) h
+    over_uses false q t h = h
+
     module _ (call : Call) (offers : (m : Message) (o : SendOptions) → IsOffered call m o → ⊥) (no_restore : (s : HandoverState) → call ≡ Restore s → ⊥) where
       uses_packets : (act : PacketAct P call) → Onward (before_packets act) (after_packets act)
       uses_packets (begins p m new summed to) h = h
@@ -250,7 +259,7 @@ module _ (all : ℕ) (most : ℕ → ℕ) where
       uses_opening (adds_cookie t1 cookie t m to) h = h
       uses_opening (establishes tag t1 cookie t m received) h = h
       uses_opening (opens tag k m echoed none own) h =
-          for_opened false (negotiate m.context.options k.peer_capabilities).message_interleaving (next_in m.state) (point_in m.state) m.context.queue (count m.context.emitted) h
+          for_opened m.context.options.avoid_stalls (negotiate m.context.options k.peer_capabilities).message_interleaving (next_in m.state) (point_in m.state) m.context.queue (count m.context.emitted) h
       uses_opening (restarts tag k phase t m echoed verdict) h =
           for_opened true (negotiate m.context.options k.peer_capabilities).message_interleaving (next_in (Open phase t)) (point_in (Open phase t)) m.context.queue (count m.context.emitted) h
       uses_opening (opens_again tag k phase t m echoed verdict) h =
@@ -259,7 +268,9 @@ module _ (all : ℕ) (most : ℕ → ℕ) where
       uses_opening (adds_cookie_ack tag back phase t m echoed late) h = h
 
       uses_closing : (act : ClosingAct P call) → Onward (before_closing act) (after_closing act)
-      uses_closing (closes e m there is) h = at_origin (next_in m.state) (point_in m.state) m.context.queue m.context.queue (count m.context.emitted) (omega arith) (λ k. k) h
+      uses_closing (closes e m there is) h =
+          over_uses m.context.options.avoid_stalls m.context.queue (ended e m.context).emitted
+          (at_origin (next_in m.state) (point_in m.state) m.context.queue m.context.queue (count m.context.emitted) (omega arith) (λ k. k) h)
       uses_closing (shuts phase t m is early) h = h
       uses_closing (shuts_on phase next t m late later) h = h
 
@@ -278,6 +289,7 @@ module _ (all : ℕ) (most : ℕ → ℕ) where
 
       uses_sending : (act : SendingAct P call) → Onward (before_sending act) (after_sending act)
       uses_sending (asks also_if_delayed phase t m) h = h
+      uses_sending (forces_ack phase t m) h = h
       uses_sending (adds_ack phase t m) h = h
       uses_sending (expires phase t m) h =
           numbered t.sender.outstanding.items _ m.context.queue (count m.context.emitted) _ (numbers_expired m.context.now t.sender.outstanding.items m.context.emitted) h
@@ -307,6 +319,7 @@ module _ (all : ℕ) (most : ℕ → ℕ) where
       uses_time (times_init tag first old new m) h = h
       uses_time (times_cookie old new cookie t m) h = h
       uses_time (times_request timer phase t m) h = h
+      uses_time (times_items timer phase t m) h = h
       uses_time (wakes_request phase t m) h = h
 
       uses_calls : (act : CallAct P call) → Onward (before_call act) (after_call act)

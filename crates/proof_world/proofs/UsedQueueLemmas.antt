@@ -14,6 +14,7 @@ use Rattle.sctp_tx_queue.specs.SendQueue.{Queued, Stream, Streams, Entries, Queu
 use Rattle.sctp_tx_queue.specs.Produced.{Produced, Turn, is_stale, fresh, without_stale, ends, move_past, moved_front, front_numbers, front_made, next_fragment, advance, pause_if_pending, streams_without_stale, turn, next_stream, idle, produce_within, produce}
 use Rattle.sctp_tx_queue.specs.Settings.{Changed, with_threshold, set_low_threshold, with_priority, set_priority, without_front, streams_discarded, front_discarded, discard_from, discard}
 use Rattle.sctp_tx_queue.specs.Resets.{is_partly, prepare_stream, prepare_reset, after_step, apply_reset_step, each_stepped}
+use Rattle.sctp_tx_queue.specs.Emptied.{emptied, emptied_one, each_emptied, empty}
 use Rattle.sctp_tx_queue.specs.Restarted.{whole, whole_front, restart, restarted_one, each_restarted, reset}
 use Rattle.sctp_tx.specs.Sending.{discard_all}
 
@@ -149,6 +150,16 @@ module _ (cost : Queued → ℕ) where
   of_prepared id q t =
       let s : Stream = stream id q.streams in
       omega (arith, put_opened id (prepare_stream s) q.streams, of_partly s.messages)
+
+  of_emptied : (id : ℕ) (q : Queue) → of_queue (emptied_one id q) ≤ of_queue q
+  of_emptied id q = omega (arith, put id (emptied (stream id q.streams)) q.streams)
+
+  of_each_emptied : (ids : List ℕ) (q : Queue) → of_queue (each_emptied ids q) ≤ of_queue q
+  of_each_emptied [] q = omega arith
+  of_each_emptied (id ∷ ids) q = omega (arith, of_emptied id q, of_each_emptied ids (emptied_one id q))
+
+  pub of_empty : {P : Type 0} (q : Queue) (t : Emitted P) → of_queue (empty q t).queue ≤ of_queue q
+  of_empty q t = of_each_emptied (keys_of q.streams.entries) q
 
   -- where a message that is sent from its beginning again costs no more
   module _ (again : (m : Queued) → cost (whole m) ≤ cost m) where

@@ -17,6 +17,7 @@ use Rattle.sctp_tx_queue.specs.declared.send_queue.stream.ResetStep.TheVariants.
 use Rattle.sctp_tx_queue.specs.SendQueue.{Queued, Stream, Streams, Entries, Queue, stream, with_stream, put_stream, blank, blank_stream, push, add}
 use Rattle.sctp_tx_queue.specs.Produced.{Turn, is_stale, fresh, without_stale, streams_without_stale, ends, move_past, moved_front, front_numbers, front_took, took, next_wrapping, advance, turn, next_stream, idle, produce_within, produce, pause_if_pending}
 use Rattle.sctp_tx_queue.specs.Settings.{Changed, with_threshold, with_priority, set_low_threshold, set_priority, without_front, streams_discarded, front_discarded, discard_from, discard}
+use Rattle.sctp_tx_queue.specs.Emptied.{emptied, emptied_one, each_emptied, empty}
 use Rattle.sctp_tx_queue.specs.Restarted.{whole_front, restart, restarted_one, each_restarted, reset}
 use Rattle.sctp_tx_queue.specs.Resets.{is_partly, prepare_stream, prepare_reset, after_step, apply_reset_step, each_stepped}
 use Rattle.sctp_tx.specs.Sending.{discard_all}
@@ -30,6 +31,7 @@ pub record IsKept (P : ℕ → Stream → Type 0) : Type 0 where
   pub prepared : (id : ℕ) (s : Stream) → P id s → P id (prepare_stream s)
   pub step : (id : ℕ) (step : ResetStep) (s : Stream) → P id s → P id (after_step step s)
   pub restart : (id : ℕ) (s : Stream) → P id s → P id (restart s)
+  pub emptied : (id : ℕ) (s : Stream) → P id s → P id (emptied s)
   pub fresh : (id now : ℕ) (s : Stream) → P id s → P id (without_stale now s)
   pub advance : (id size : ℕ) (s : Stream) → P id s → P id (advance size s)
   pub discarded : (id number : ℕ) (s : Stream) → P id s → P id (without_front number s.messages s)
@@ -128,6 +130,16 @@ module _ (P : ℕ → Stream → Type 0) (is : IsKept P) where
 
   pub stands_reset : (q : Queue) → InQueue q → InQueue (reset q)
   stands_reset q h = stands_each_restarted (keys_of q.streams.entries) q h
+
+  stands_emptied : (id : ℕ) (q : Queue) → InQueue q → InQueue (emptied_one id q)
+  stands_emptied id q h = put_stands id (emptied (stream id q.streams)) q.streams (is.emptied id (stream id q.streams) (stream_stands id q.streams h)) h
+
+  stands_each_emptied : (ids : List ℕ) (q : Queue) → InQueue q → InQueue (each_emptied ids q)
+  stands_each_emptied [] q h = h
+  stands_each_emptied (id ∷ ids) q h = stands_each_emptied ids (emptied_one id q) (stands_emptied id q h)
+
+  pub stands_empty : {T : Type 0} (q : Queue) (t : Emitted T) → InQueue q → InQueue (empty q t).queue
+  stands_empty q t h = stands_each_emptied (keys_of q.streams.entries) q h
 
   left_stands : {T : Type 0} (id : ℕ) (ss : Streams) (o : Option (Option ℕ)) (q : Queue) (t : Emitted T) → AllStand ss.entries → InQueue (discard_from id ss o q t).queue
   left_stands id ss None q t h = h
@@ -310,6 +322,7 @@ keeps_ordered most = record {
   prepared = λ id s h. prepared (most id) s h;
   step = λ id step s h. stepped (most id) step s h;
   restart = λ id s h. restarted (most id) s h;
+  emptied = λ id s h. record { waiting = omega arith; numbered = omega (arith, h.numbered) };
   fresh = λ id now s h. freshened (most id) now s h;
   advance = λ id size s h. advanced (most id) size s h;
   discarded = λ id number s h. discarded (most id) number s.messages s refl h;

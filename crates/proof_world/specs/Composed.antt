@@ -9,7 +9,7 @@ use Rattle.proof_world.specs.Reachable.{Origin, initial_world, IsReachable}
 use Rattle.proof_world.specs.Consistent.{NoEndingIsLogged, WorldKeepsRules, WorldEndsAreConsistent}
 use Rattle.proof_world.specs.Delivered.{AlongRun, accepted_messages, emitted_events, WorldDelivers, WorldIsInBounds}
 use Rattle.proof_world.specs.Few.{LogUsesFew}
-use Rattle.proof_world.specs.Justified.{AreJustified}
+use Rattle.proof_world.specs.Justified.{options_of, AreJustified}
 use Rattle.proof_world.specs.Readable.{PacketsReadBack}
 use Rattle.proof_world.specs.Ended.{lifecycle_ends_at, handed_to}
 
@@ -26,7 +26,7 @@ pub record Composes (o : Origin) (actions : List Action) (w : World) (runs : Run
   pub delivers_few : WorldKeepsRules w → LogUsesFew w.log → (x : End) → WorldDelivers x actions (initial_world o) w runs
   pub none_refused : WorldKeepsRules w → WorldIsInBounds actions (initial_world o) w runs → (x : End) (early late : List Entry) → w.log ≡ early ++ late → NoEndingIsLogged early
       → failed_in (emitted_events x early) ≡ false
-  pub justified : (x : End) → length (accepted_messages x w.log) < 2 ^ 32 → AreJustified x w.log
+  pub justified : (x : End) → length (accepted_messages x w.log) < 2 ^ 32 → AreJustified x (options_of x o.a o.b).avoid_stalls w.log
   pub short : AreShort o.a.mtu o.b.mtu w
   pub read_back : PacketsReadBack o actions w
   pub lifecycles : (x : End) (id : ℕ) → lifecycle_ends_at id x w.log ≤ handed_to id x w.log

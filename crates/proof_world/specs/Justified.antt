@@ -1,5 +1,6 @@
 -- Why an end of a world gave messages up, by the log alone: a record is justified where its message was accepted before it, and either
--- outlived its lifetime, or was sent again as often as it may be, or the event is a call that reset its stream.
+-- outlived its lifetime, or was sent again as often as it may be, or the event is a call that reset its stream; or it is of an end that
+-- avoids stalls, and says that an association is over.
 use Rattle.std.specs.Prelude.{◌≡◌, ℕ, ◌^◌, ◌<◌, Bool, true, false, List, [], ◌∷◌, ◌++◌, length, map, All}
 use Rattle.std.specs.List.{flat_map}
 use Rattle.rand_core.specs.Stream.{Stream}
@@ -7,7 +8,7 @@ use Rattle.sctp_state.specs.Options.{Options}
 use Rattle.sctp_state.specs.Events.{GivenUp}
 use Rattle.proof_endpoint.specs.Sound.{OptionsFit}
 use Rattle.proof_delivery.specs.Justified.{Acceptance, accepted_then, dated_record, IsJustified}
-use Rattle.spec_world.specs.Observations.{End, same_end, Entry, Called, Given, Foreign, Timed, GaveUp}
+use Rattle.spec_world.specs.Observations.{End, A, B, same_end, Entry, Called, Given, Foreign, Timed, GaveUp}
 use Rattle.spec_world.specs.World.{World, Action, Runs, fresh_world}
 use Rattle.proof_world.specs.Reachable.{ActionFits, IsInBytes}
 use Rattle.proof_world.specs.Delivered.{accepted_messages_by, accepted_messages, reset_in}
@@ -67,10 +68,15 @@ acceptances x log = flat_map (acceptances_by x) log
 
 -- ---- the laws
 
--- each record of this end, by what stands before it
-abbrev pub AreJustified : End → List Entry → Type 0
-AreJustified x log =
-    (before behind : List Entry) (g : GivenUp) → log ≡ before ++ GaveUp x g ∷ behind → IsJustified (acceptances x before) (dated_record (clock x before) (resets x before) g)
+-- what an end of two is made with
+abbrev pub options_of : End → (a b : Options) → Options
+options_of A a b = a
+options_of B a b = b
+
+-- each record of this end, which avoids stalls or doesn't, by what stands before it
+abbrev pub AreJustified : End → (avoids_stalls : Bool) → List Entry → Type 0
+AreJustified x avoids log =
+    (before behind : List Entry) (g : GivenUp) → log ≡ before ++ GaveUp x g ∷ behind → IsJustified (acceptances x before) (dated_record avoids (clock x before) (resets x before) g)
 
 -- In each run, where an end accepts fewer than 2^32 messages.
 abbrev pub WorldsAreJustified : Type 0
@@ -78,7 +84,7 @@ WorldsAreJustified =
     (a b : Options) (draws_a draws_b : Stream) (word_of_a word_of_b : List ℕ → ℕ) (actions : List Action) (w : World)
     → OptionsFit a → OptionsFit b → All ActionFits actions
     → Runs actions (fresh_world a b draws_a draws_b word_of_a word_of_b) w → IsInBytes w
-    → (x : End) → length (accepted_messages x w.log) < 2 ^ 32 → AreJustified x w.log
+    → (x : End) → length (accepted_messages x w.log) < 2 ^ 32 → AreJustified x (options_of x a b).avoid_stalls w.log
 
 -- acceptances are those of the offers, one by one
 abbrev pub AcceptancesAreOfAcceptedMessages : Type 0
