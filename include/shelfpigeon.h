@@ -129,7 +129,8 @@ enum {
     PIGEON_MESSAGE_INTERLEAVING = 2,           /* RFC 8260 */
     PIGEON_NO_CHECKSUM_VERIFICATION = 4,       /* for tests */
     PIGEON_HANDOVER_WITH_OUTSTANDING_DATA = 8,
-    PIGEON_HEARTBEAT_INTERVAL_INCLUDE_RTT = 16 /* NOT READ */
+    PIGEON_HEARTBEAT_INTERVAL_INCLUDE_RTT = 16, /* NOT READ */
+    PIGEON_AVOID_STALLS = 32                    /* what the RFCs ask, where the original stands still or loses; set by pigeon_options_for_webrtc */
 };
 
 /* What a socket is made with. Spans are in nanoseconds, sizes in bytes, windows in packets of the largest size. A field without bounds takes
@@ -147,7 +148,8 @@ typedef struct pigeon_options {
     uint32_t mtu;              /* 256 to 65,535: no packet that is emitted is larger */
     uint32_t max_message_size; /* of messages that are sent; it bounds none that the peer sends */
     /* How much of what is received is held. With nine tenths of it held each further fragment is dropped, so that a longer message may never be
-     * whole: take at least twice the longest that the peer may send. At 0 and 1 nothing is taken. */
+     * whole: take at least twice the longest that the peer may send. At 0 and 1 nothing is taken. With PIGEON_AVOID_STALLS the next fragment in
+     * order is taken all the same, while less than this and max_message_size together is held. */
     uint32_t max_receiver_window_buffer_size;
     uint32_t max_send_buffer_size;
     uint32_t per_stream_send_queue_limit;
@@ -169,12 +171,12 @@ typedef struct pigeon_options {
     uint32_t max_held_fragments;
     uint64_t rtt_max;
     uint64_t rto_initial;         /* at least a millisecond */
-    uint64_t rto_max;             /* at least rto_min; timers back off beyond it */
+    uint64_t rto_max;             /* at least rto_min; timers back off beyond it, but with PIGEON_AVOID_STALLS those of data and of resets */
     uint64_t rto_min;             /* at least a millisecond */
     uint64_t t1_init_timeout;     /* at least a millisecond */
     uint64_t t1_cookie_timeout;   /* at least a millisecond */
     uint64_t t2_shutdown_timeout; /* NOT READ: a shutdown waits for the retransmission timeout */
-    uint64_t max_timer_backoff_duration; /* the longest wait of the retransmission timer; with PIGEON_UNSET its waits double up to a day */
+    uint64_t max_timer_backoff_duration; /* the longest wait of the retransmission timer; with PIGEON_UNSET it doubles up to a day, or as above */
     uint64_t heartbeat_interval;         /* none are sent at 0 */
     uint64_t delayed_ack_max_timeout;    /* at least a millisecond */
     uint64_t min_rtt_variance;
@@ -191,9 +193,10 @@ typedef struct pigeon_options {
 uint32_t pigeon_default_options_sized(void *options, size_t size);
 static inline uint32_t pigeon_default_options(pigeon_options *options) { return pigeon_default_options_sized(options, options->size); }
 
-/* Writes the options of data channels (RFC 8831), which differ from the defaults in two: DTLS finds damage, where the peer says so too
- * (RFC 9653); and the window is twice the largest message of 262,144 bytes. The mtu of 1,191 leaves room for DTLS and UDP, there are 65,535
- * streams each way. With another largest message set max_message_size, and the window to twice what the peer may send. PIGEON_INVALID_SIZE. */
+/* Writes the options of data channels (RFC 8831), which differ from the defaults in three: DTLS finds damage, where the peer says so too
+ * (RFC 9653); the window is twice the largest message of 262,144 bytes; and PIGEON_AVOID_STALLS is set. The mtu of 1,191 leaves room for DTLS and
+ * UDP, there are 65,535 streams each way. With another largest message set max_message_size, and the window to twice what the peer may send.
+ * PIGEON_INVALID_SIZE. */
 uint32_t pigeon_options_for_webrtc_sized(void *options, size_t size);
 static inline uint32_t pigeon_options_for_webrtc(pigeon_options *options) { return pigeon_options_for_webrtc_sized(options, options->size); }
 
@@ -227,10 +230,12 @@ void pigeon_free(pigeon_socket *socket);
 /* Opens an association, where the socket is closed. Advance the time first. */
 uint32_t pigeon_connect(pigeon_socket *socket);
 /* No more messages are accepted, and the association ends once nothing is in flight (RFC 9260 section 9.2). What waits to be sent, or to be
- * sent again, isn't waited for and may be lost: wait until pigeon_is_at_rest says 1. A closed socket stays as it is. Advance the time first. */
+ * sent again, is waited for with PIGEON_AVOID_STALLS alone, and else may be lost: wait until pigeon_is_at_rest says 1. A closed socket stays as
+ * it is. Advance the time first. */
 uint32_t pigeon_shutdown(pigeon_socket *socket);
-/* Ends the association at once, with an ABORT to the peer (RFC 9260 section 9.1). The send queue stays, here and where the peer aborts: what it
- * holds goes to the peer of the next association, a partly sent message from its start. */
+/* Ends the association at once, with an ABORT to the peer (RFC 9260 section 9.1). Without PIGEON_AVOID_STALLS the send queue stays, here and
+ * where the peer aborts: what it holds goes to the peer of the next association, a partly sent message from its start, but from its middle at an
+ * end that answers the peer's COOKIE ECHO. With it each message is given up, as PIGEON_CAUSE_ENDED. */
 uint32_t pigeon_close(pigeon_socket *socket);
 /* Takes the bytes of a packet that came. What is no packet, or not one for this association, is emitted as an error. Advance the time first:
  * a round trip ends at the moment of the clock. */
@@ -323,8 +328,8 @@ uint32_t pigeon_handover(pigeon_socket *socket, size_t *needed, uint8_t *buffer,
 /* Takes up a record in a closed socket that was made with the same options, and sends what may be sent; PIGEON_ON_CONNECTED is emitted. Advance
  * the time first, to the present: what is outstanding is dated back from the clock's moment. The retransmission timer starts with the next
  * fragment that goes out, or with a SACK that leaves some in flight, and heartbeats with the next data: until then pigeon_poll_timeout may be
- * UINT64_MAX. Thresholds of streams are the default again, and what the socket had queued is gone. Of a socket that was closed there is
- * nothing to take up. PIGEON_NOT_CLOSED, PIGEON_INVALID_STATE, PIGEON_NO_ROOM: nothing changes. */
+ * UINT64_MAX. With PIGEON_AVOID_STALLS both start at once. Thresholds of streams are the default again, and what the socket had queued is gone. Of
+ * a socket that was closed there is nothing to take up. PIGEON_NOT_CLOSED, PIGEON_INVALID_STATE, PIGEON_NO_ROOM: nothing changes. */
 uint32_t pigeon_restore(pigeon_socket *socket, const uint8_t *bytes, size_t length);
 
 /* ---- Streams. Above 65,535 each answers PIGEON_INVALID_STREAM. */
@@ -394,7 +399,8 @@ typedef struct pigeon_message {
 } pigeon_message;
 
 /* Hands out the message that was ready first. PIGEON_SHORT_BUFFER: it stays, and `length` says what it needs. Messages go with their
- * association: once it has ended none is ready, so take them each turn. */
+ * association: once it has ended none is ready, so take them each turn. With PIGEON_AVOID_STALLS the peer may have to be told that there is room
+ * again: then pigeon_poll_timeout names this moment, so ask behind the last message. */
 uint32_t pigeon_next_message(pigeon_socket *socket, pigeon_message *message, uint8_t *buffer, size_t length);
 
 /* The same without a copy: the `length` bytes at `payload` are the socket's, and are lent until the next call with it. They are let go when
@@ -404,12 +410,12 @@ uint32_t pigeon_borrow_message(pigeon_socket *socket, pigeon_message *message, c
 /* How many messages are ready. */
 uint32_t pigeon_messages_ready_count(const pigeon_socket *socket, size_t *count);
 
-enum { PIGEON_CAUSE_LIFETIME = 0, PIGEON_CAUSE_RETRANSMISSIONS = 1, PIGEON_CAUSE_RESET = 2 };
+enum { PIGEON_CAUSE_LIFETIME = 0, PIGEON_CAUSE_RETRANSMISSIONS = 1, PIGEON_CAUSE_RESET = 2, PIGEON_CAUSE_ENDED = 3 };
 
 /* A message that was given up (RFC 3758 section 3.5). */
 typedef struct pigeon_given_up {
     uint32_t number;          /* its place in the order in which messages were accepted, from 0, modulo 2^32 */
-    uint32_t cause;           /* its lifetime passed, a fragment was sent again as often as allowed, or its stream was reset */
+    uint32_t cause;           /* its lifetime passed, a fragment was sent again as often as allowed, its stream was reset, or its association ended */
     uint32_t retransmissions; /* of PIGEON_CAUSE_RETRANSMISSIONS: how often */
 } pigeon_given_up;
 

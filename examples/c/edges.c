@@ -136,7 +136,7 @@ static void not_made(pigeon_options options) {
     is("short seed", pigeon_new_sized(&end, &options, sizeof options, seed_of(1), 31), PIGEON_INVALID_ARGUMENT);
     is("mtu", pigeon_new(&end, &other, seed_of(1)), PIGEON_INVALID_OPTIONS);
     other = options;
-    other.flags = 32;
+    other.flags = 64;
     is("flags", pigeon_new(&end, &other, seed_of(1)), PIGEON_INVALID_ARGUMENT);
     other = options;
     other.checksum = 2;
@@ -293,6 +293,32 @@ static void taken_up(pigeon_socket *a, pigeon_socket *b, const pigeon_options *o
     pigeon_free(&c);
 }
 
+/* With PIGEON_AVOID_STALLS a socket that takes up a record has a timer that runs, without it none. */
+static void avoids_stalls(pigeon_options options) {
+    static uint8_t record[65536];
+    for (uint32_t flag = 0; flag <= PIGEON_AVOID_STALLS; flag += PIGEON_AVOID_STALLS) {
+        pigeon_socket a = PIGEON_NO_HANDLE, b = PIGEON_NO_HANDLE, c = PIGEON_NO_HANDLE;
+        pigeon_options written = PIGEON_OPTIONS;
+        uint64_t nanos = 9;
+        size_t length = 0;
+        options.flags = (options.flags & ~(uint32_t)PIGEON_AVOID_STALLS) | flag;
+        is("new", pigeon_new(&a, &options, seed_of(1)), PIGEON_OK);
+        is("new", pigeon_new(&b, &options, seed_of(2)), PIGEON_OK);
+        is("new", pigeon_new(&c, &options, seed_of(3)), PIGEON_OK);
+        is("options", pigeon_get_options(&c, &written), PIGEON_OK);
+        is("the flag", written.flags & PIGEON_AVOID_STALLS, flag);
+        is("connect", pigeon_connect(&a), PIGEON_OK);
+        pass_packets(&a, &b);
+        is("record", pigeon_handover(&a, &length, record, sizeof record), PIGEON_OK);
+        is("restore", pigeon_restore(&c, record, length), PIGEON_OK);
+        is("timeout", pigeon_poll_timeout(&c, &nanos), PIGEON_OK);
+        is("a timer runs", nanos < UINT64_MAX, flag != 0);
+        pigeon_free(&a);
+        pigeon_free(&b);
+        pigeon_free(&c);
+    }
+}
+
 /* An event, and a message, that don't fit stay. */
 static void short_buffers(pigeon_socket *a, pigeon_socket *b) {
     pigeon_send_options plainly = PIGEON_SEND_OPTIONS;
@@ -401,6 +427,7 @@ static void asks(const pigeon_options *options) {
     is("webrtc", pigeon_options_for_webrtc(&webrtc), PIGEON_OK);
     is("as it says", webrtc.mtu == 1191 && webrtc.zero_checksum_method == PIGEON_ZERO_CHECKSUM_DTLS && webrtc.checksum == PIGEON_CHECKSUM_CRC32C
             && webrtc.max_receiver_window_buffer_size == 2 * webrtc.max_message_size && webrtc.announced_maximum_incoming_streams == 65535, 1);
+    is("avoids stalls, by default not", webrtc.flags & ~options->flags, PIGEON_AVOID_STALLS);
     is("new", pigeon_new(&a, options, seed_of(1)), PIGEON_OK);
     is("new", pigeon_new(&b, options, seed_of(2)), PIGEON_OK);
     is("time", pigeon_advance_time(&a, 1234), PIGEON_OK);
@@ -499,6 +526,7 @@ int main(void) {
     lends(&options);
     asks(&options);
     gives_up(&options);
+    avoids_stalls(options);
     short_buffers(&a, &b);
     batches(&a, &b);
     resets_and_counts(&a, &b);

@@ -68,13 +68,14 @@ class ZeroChecksum(enum.IntEnum):
 
 
 class OptionFlags(enum.IntFlag):
-    """`Options.flags`."""
+    """`Options.flags`. With `AVOID_STALLS`, which `Options.for_webrtc()` has, a socket does what the RFCs ask where dcsctp stands still or loses."""
 
     PARTIAL_RELIABILITY = 1
     MESSAGE_INTERLEAVING = 2
     NO_CHECKSUM_VERIFICATION = 4
     HANDOVER_WITH_OUTSTANDING_DATA = 8
     HEARTBEAT_INTERVAL_INCLUDE_RTT = 16
+    AVOID_STALLS = 32
 
 
 class State(enum.IntEnum):
@@ -126,6 +127,7 @@ class Cause(enum.IntEnum):
     LIFETIME = 0
     RETRANSMISSIONS = 1
     RESET = 2
+    ENDED = 3
 
 
 class Kind(enum.IntEnum):

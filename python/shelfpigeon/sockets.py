@@ -49,12 +49,12 @@ class Options(OptionsStruct):
 
     @classmethod
     def default(cls, **fields: int) -> Options:
-        """The options that a socket has where nothing else is said."""
+        """The options of dcsctp: `OptionFlags.AVOID_STALLS` isn't set."""
         return cls()._written(library().pigeon_default_options_sized, fields)
 
     @classmethod
     def for_webrtc(cls, **fields: int) -> Options:
-        """The options of data channels over DTLS."""
+        """The options of data channels over DTLS, with `OptionFlags.AVOID_STALLS`. Those of a socket where nothing else is said."""
         return cls()._written(library().pigeon_options_for_webrtc_sized, fields)
 
     def _written(self, function, fields: dict[str, int]) -> Options:

@@ -10,6 +10,7 @@ from shelfpigeon import (
     InvalidArgument,
     MessageTooLarge,
     NoChannel,
+    OptionFlags,
     Options,
     PigeonError,
     QueueFull,
@@ -87,6 +88,7 @@ def test_options():
     options = Options.for_webrtc(mtu=1200)
     assert (options.mtu, options.announced_maximum_incoming_streams, options.invalid_field()) == (1200, 65535, None)
     assert Options.default().max_message_size == 262144
+    assert OptionFlags(options.flags) & ~OptionFlags(Options.default().flags) == OptionFlags.AVOID_STALLS
     assert Options.for_webrtc(mtu=1).invalid_field() == "mtu"
     with pytest.raises(InvalidArgument, match="mtu"):
         Socket(Options.for_webrtc(mtu=1))
@@ -98,6 +100,19 @@ def test_options():
         Socket(seed=b"short")
     with Socket(options) as socket:
         assert socket.options.mtu == 1200
+
+
+@pytest.mark.parametrize("avoids", [False, True])
+def test_stalls_are_avoided_by_a_flag(avoids):
+    options = Options.default(flags=OptionFlags.PARTIAL_RELIABILITY | (OptionFlags.AVOID_STALLS if avoids else 0))
+    with Socket(options) as a, Socket(options) as b, Socket(options) as c:
+        assert (OptionFlags.AVOID_STALLS in OptionFlags(c.options.flags)) is avoids
+        world = World(a, b)
+        a.connect()
+        world.settle()
+        c.advance_time(world.now)
+        c.restore(a.handover())
+        assert (c.poll_timeout() is not None) is avoids
 
 
 def test_the_same_seed_makes_the_same_packets():

@@ -23,7 +23,7 @@ impl EndSetup {
     }
 
     /// `words FIRST STRIDE`, `mtu BYTES`, `window BYTES`, `holds FRAGMENTS`, `burst PACKETS`, `interleaves`, `is-reliable`,
-    /// `hands-over-data`. Answers whether it is one of these.
+    /// `hands-over-data`, `avoids-stalls`. Answers whether it is one of these.
     fn sets(&mut self, verb: &str, rest: &[&str]) -> bool {
         match verb {
             "words" => {
@@ -39,6 +39,7 @@ impl EndSetup {
             "interleaves" => self.options.enable_message_interleaving = true,
             "is-reliable" => self.options.enable_partial_reliability = false,
             "hands-over-data" => self.options.enable_handover_with_outstanding_data = true,
+            "avoids-stalls" => self.options.avoid_stalls = true,
             _ => return false,
         }
         true

@@ -46,6 +46,7 @@ fn given_up_text(alloc: Global, given_up: &GivenUp) -> Result<String, AllocError
             format!(in alloc; "given up {number}: {limit} retransmissions")
         }
         GivenUpCause::Reset => format!(in alloc; "given up {number}: reset"),
+        GivenUpCause::Ended => format!(in alloc; "given up {number}: its association ended"),
     }
 }
 

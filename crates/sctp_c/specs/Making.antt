@@ -24,4 +24,4 @@ Made options checksum rng (Some e) = IsFresh options checksum rng e
 
 -- flags and a checksum that there are
 abbrev pub NamesKnown : OptionsRecord → Type 0
-NamesKnown o = (o.flags < 32) × (o.checksum < 2)
+NamesKnown o = (o.flags < 64) × (o.checksum < 2)

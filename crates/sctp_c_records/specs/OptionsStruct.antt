@@ -153,15 +153,15 @@ flag_value false value = 0
 
 abbrev pub flags_value : Options → ℕ
 flags_value o = flag_value o.enable_partial_reliability 1 + flag_value o.enable_message_interleaving 2 + flag_value o.disable_checksum_verification 4
-    + flag_value o.enable_handover_with_outstanding_data 8 + flag_value o.heartbeat_interval_include_rtt 16
+    + flag_value o.enable_handover_with_outstanding_data 8 + flag_value o.heartbeat_interval_include_rtt 16 + flag_value o.avoid_stalls 32
 
--- ---- data channels (RFC 8831): DTLS finds damage (RFC 9653), and the window is twice the largest message
+-- ---- data channels (RFC 8831): DTLS finds damage (RFC 9653), the window is twice the largest message, and stalls are avoided
 
 abbrev pub webrtc_options : Options
-webrtc_options = record defaults { max_receiver_window_buffer_size = 2 * 262144; zero_checksum_method = 1 }
+webrtc_options = record defaults { max_receiver_window_buffer_size = 2 * 262144; zero_checksum_method = 1; avoid_stalls = true }
 
 abbrev pub webrtc_record : OptionsRecord
-webrtc_record = record default_record { max_receiver_window_buffer_size = 2 * 262144; zero_checksum_method = 1 }
+webrtc_record = record default_record { max_receiver_window_buffer_size = 2 * 262144; zero_checksum_method = 1; flags = 49 }
 
 -- ---- what is wrong
 
@@ -177,4 +177,4 @@ invalid_place r =
     if nat_lt 1 r.checksum then 18 else if nat_lt r.mtu 256 || nat_lt 65535 r.mtu then 20
     else if nat_lt r.cwnd_mtus_initial 1 || nat_lt 65535 r.cwnd_mtus_initial then 48 else if nat_lt r.cwnd_mtus_min 1 || nat_lt 65535 r.cwnd_mtus_min then 52
     else if nat_lt r.avoid_fragmentation_cwnd_mtus 1 || nat_lt 65535 r.avoid_fragmentation_cwnd_mtus then 56
-    else if nat_lt 65535 r.immediate_sack_under_cwnd_mtus then 60 else if nat_lt 31 r.flags then 80 else invalid_time r
+    else if nat_lt 65535 r.immediate_sack_under_cwnd_mtus then 60 else if nat_lt 63 r.flags then 80 else invalid_time r

@@ -65,6 +65,7 @@ given_options r = record {
   zero_checksum_method = r.zero_checksum_method;
   disable_checksum_verification = has_flag r.flags 4;
   enable_handover_with_outstanding_data = has_flag r.flags 8;
+  avoid_stalls = has_flag r.flags 32;
 }
 
 abbrev pub checksum_by : (is_zero : Bool) → PacketChecksum

@@ -24,6 +24,7 @@ impl GivenUpRecord {
             GivenUpCause::Lifetime => (0, 0),
             GivenUpCause::Retransmissions(count) => (1, count),
             GivenUpCause::Reset => (2, 0),
+            GivenUpCause::Ended => (3, 0),
         };
         GivenUpRecord {
             number: given_up.number.0,

@@ -137,9 +137,9 @@ impl OptionsRecord {
 
     /// Whether flags and checksum are ones that there are.
     pub fn names_known_ones(&self) -> bool
-        ensures { IsTrue result ↔ (self.now.flags < 32) × (self.now.checksum < 2) }
+        ensures { IsTrue result ↔ (self.now.flags < 64) × (self.now.checksum < 2) }
     {
-        self.flags < 32 && self.checksum < 2
+        self.flags < 64 && self.checksum < 2
     }
 
     /// The checksum of packets.
@@ -197,6 +197,7 @@ impl OptionsRecord {
             ),
             disable_checksum_verification: has_flag(self.flags, 4),
             enable_handover_with_outstanding_data: has_flag(self.flags, 8),
+            avoid_stalls: has_flag(self.flags, 32),
         }
     }
 }

@@ -65,6 +65,7 @@ fn flags_of(options: &Options) -> u32
         + flag(options.disable_checksum_verification, 4)
         + flag(options.enable_handover_with_outstanding_data, 8)
         + flag(options.heartbeat_interval_include_rtt, 16)
+        + flag(options.avoid_stalls, 32)
 }
 
 /// A number of 32 bits is below 2^32.
@@ -157,7 +158,7 @@ impl OptionsRecord {
         put_u64(bytes, 168, self.min_rtt_variance);
     }
 
-    /// The options of data channels (RFC 8831), over DTLS (RFC 9653).
+    /// The options of data channels (RFC 8831), over DTLS (RFC 9653), with stalls avoided.
     pub fn for_webrtc() -> OptionsRecord
         ensures record { result ≡ webrtc_record }
         ensures options { given_options result ≡ webrtc_options }
@@ -166,14 +167,15 @@ impl OptionsRecord {
         let mut record = OptionsRecord::defaults();
         record.max_receiver_window_buffer_size = 524_288;
         record.zero_checksum_method = 1;
+        record.flags = 49;
         record
     }
 
     /// The place of the first field that is out of its bounds, 0 where none is.
     pub fn invalid_place(&self) -> u32
         ensures place { result ≡ invalid_place self.now }
-        ensures none { result ≡ 0 → IsValid (given_options self.now) × ((self.now.flags < 32) × (self.now.checksum < 2)) }
-        ensures some { 0 < result → IsValid (given_options self.now) × ((self.now.flags < 32) × (self.now.checksum < 2)) → ⊥ }
+        ensures none { result ≡ 0 → IsValid (given_options self.now) × ((self.now.flags < 64) × (self.now.checksum < 2)) }
+        ensures some { 0 < result → IsValid (given_options self.now) × ((self.now.flags < 64) × (self.now.checksum < 2)) → ⊥ }
     {
         is_number(self.max_receiver_window_buffer_size);
         is_number(self.max_send_buffer_size);
@@ -197,7 +199,7 @@ impl OptionsRecord {
         if 65_535 < self.immediate_sack_under_cwnd_mtus {
             return 60;
         }
-        if 31 < self.flags {
+        if 63 < self.flags {
             return 80;
         }
         self.invalid_time()

@@ -91,6 +91,7 @@ abbrev pub cause_words : GivenUpCause → List ℕ
 cause_words causes.Lifetime = codes "lifetime"
 cause_words (causes.Retransmissions count) = codes "retransmissions " ++ decimal count
 cause_words causes.Reset = codes "reset"
+cause_words causes.Ended = codes "ended"
 
 -- ---- lines
 

@@ -138,6 +138,7 @@ fn given_up_text(alloc: Global, end: End, given_up: GivenUp) -> Result<String, A
             format!(in alloc; "{end} given-up {number} retransmissions {count}\n")
         }
         GivenUpCause::Reset => format!(in alloc; "{end} given-up {number} reset\n"),
+        GivenUpCause::Ended => format!(in alloc; "{end} given-up {number} ended\n"),
     }
 }
 

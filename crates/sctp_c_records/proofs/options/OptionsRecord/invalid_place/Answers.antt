@@ -8,7 +8,7 @@ returns-clause-none c = λ e. (
     times = c.invalid_time.ensures.none e;
     windows = record { initial_least = omega (arith, c.if-self-lt1.false); initial_most = omega (arith, c.if-self-gt65535-2.false); min_least = omega (arith, c.if-self-lt1-2.false); min_most = omega (arith, c.if-self-gt65535-3.false); avoid_least = omega (arith, c.if-self-lt1-3.false); avoid_most = omega (arith, c.if-self-gt65535-4.false); immediate_most = omega (arith, c.if-self-gt65535-5.false) };
   },
-  (omega (arith, c.if-self-gt31.false), omega (arith, c.if-self-gt1.false)),
+  (omega (arith, c.if-self-gt63.false), omega (arith, c.if-self-gt1.false)),
 )
 
 pub returns-clause-some : goal.returns-clause-some

@@ -6,7 +6,7 @@ use Rattle.sctp_c_records.proofs.options.OptionsRecord.of.Goals as goal
 pub returns-clause-options : goal.returns-clause-options
 returns-clause-options c =
     let o = options_of c.args.options.now in
-    let flags = has_flags o.enable_partial_reliability o.enable_message_interleaving o.disable_checksum_verification o.enable_handover_with_outstanding_data o.heartbeat_interval_include_rtt in
+    let flags = has_flags o.enable_partial_reliability o.enable_message_interleaving o.disable_checksum_verification o.enable_handover_with_outstanding_data o.heartbeat_interval_include_rtt o.avoid_stalls in
     rw (
       c.size_number.ensures,
       c.size_number-2.ensures,
@@ -38,4 +38,5 @@ returns-clause-options c =
       flags.third,
       flags.fourth,
       flags.fifth,
+      flags.sixth,
     ) (search rules)
