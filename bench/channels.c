@@ -1,12 +1,12 @@
 /* SPDX-License-Identifier: Apache-2.0 */
 /* channels HOW COUNT SIZE EACH: COUNT messages of SIZE bytes from one socket to another, EACH a turn, by the socket's own calls where HOW is
- * `socket`, and on a data channel where it is `channel`. Both lend what they hand out. */
+ * `socket`, and on a data channel where it is `channel`; `stalls` is as `socket`, without PIGEON_AVOID_STALLS. All lend what they hand out. */
 #include "shelfpigeon.h"
 #include <stdio.h>
 #include <stdlib.h>
 #include <string.h>
 
-static int by_channel;
+static int by_channel, stalls;
 static long messages;
 
 static void must(const char *what, uint32_t answer) {
@@ -53,6 +53,8 @@ static void make(pigeon_socket *end, uint8_t number) {
     pigeon_options options = PIGEON_OPTIONS;
     pigeon_channels_options channels = PIGEON_CHANNELS_OPTIONS;
     must("options", pigeon_options_for_webrtc(&options));
+    if (stalls)
+        options.flags &= ~(uint32_t)PIGEON_AVOID_STALLS;
     seed[0] = number;
     must("new", pigeon_new(end, &options, seed));
     channels.role = number;
@@ -70,6 +72,7 @@ int main(int count, char **words) {
     if (count != 5)
         return 2;
     by_channel = strcmp(words[1], "channel") == 0;
+    stalls = strcmp(words[1], "stalls") == 0;
     long all = atol(words[2]), size = atol(words[3]), each = atol(words[4]);
     uint8_t *payload = calloc(1, (size_t)size);
     make(&a, PIGEON_ROLE_CLIENT);
