@@ -17,7 +17,7 @@ use Rattle.sctp_rx.specs.Sack.{block, is_near, blocks_of, tsns, sack, clear_dupl
 use Rattle.sctp_rx.specs.ReassemblyQueue.{Reassembly, Waiting, Added, Forwarded, watermark, queued_bytes, number_of, came, is_kept_back, point_waits, keep_back, add_now, forward_now, add_or_keep_back, forward_or_wait, apply, apply_each, waiting_in, wait_with, resetting}
 use Rattle.sctp_rx.specs.ReassemblyStreams.{is_far, entries_in}
 use Rattle.sctp_rx.specs.ReassemblyQueue as reassembly
-use Rattle.sctp_tracker.proofs.SeenOneFormLemmas.{IsInRuns_add, IsInRuns_up_to}
+use Rattle.sctp_rx.proofs.SeenOneFormLemmas.{IsInRuns_add, IsInRuns_up_to}
 use Rattle.proof_endpoint.specs.Sound.{FitsTracker}
 use Rattle.proof_endpoint.proofs.ReceivedLemmas.{each_take}
 use Rattle.proof_endpoint.proofs.SoundItemsLemmas.{word_small}

@@ -1,15 +1,14 @@
 -- The machine values of a handle, and what it owns by its two cases. Assumes `Logic`.
-use Rattle.std.proofs.Common.{◌≡◌, ℕ, List, [], ◌∷◌, ◌++◌, refl, sym, ap, subst, lit<}
-use mathlib.Core.Bool.{true}
+use Rattle.std.proofs.Common.{◌≡◌, ℕ, List, [], ◌∷◌, ◌++◌, refl, subst, lit<}
 use seplogic.Ra.Ura.{Ura}
 use mir.Syntax.{Ty}
 use mir.Raw.{raw as bare}
-use mir.Val.{Val, vptr, vstruct, of_list, has_ty}
-use base.Logic.{ent, sep, guard, guard_i, via, never, fst∗, snd∗}
+use mir.Val.{Val, vstruct, of_list, has_ty}
+use base.Logic.{ent, guard, guard_i, via, never, fst∗, snd∗}
 use base.Fml.{Fml}
 use types.Logic.{Logic, sem}
-use types.Kit.{Item, Goal, Soaks, Seq, Step, step, ‵, ◌$◌, move, drop, fsplit, fjoin, fpick, fpack, feq_i, feq_l}
-use contract.Monad.{fact, fact_use}
+use types.Kit.{Item, Goal, Seq, Step, step, ‵, ◌$◌, move, drop, fsplit, fjoin, fpick, fpack, feq_i, feq_l}
+use contract.Monad.{fact_use}
 use denote.RattleType.{RattleType, Valss}
 use denote.Memory.{lone}
 use denote.RawPtr.{Ptr, RawPtr, block_ptr, null_ptr, ptr_val, in_a_block, Testable}
@@ -31,7 +30,7 @@ use Rattle.std.proofs.GlobalToken.{dealloc_token-Testable}
 use Rattle.sctp_c.specs.contracts.endpoint.Endpoint.{the_row as R}
 use Rattle.sctp_c.specs.Handle.{held_at}
 use Rattle.sctp_c.specs.contracts.handle.Handle as handle
-use Rattle.sctp_handle.proofs.Values.{both}
+use Rattle.sctp_c.proofs.LooseValues.{both}
 
 abbrev pub Z : RattleType
 Z = heap.the_row

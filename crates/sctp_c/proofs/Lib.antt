@@ -1,2 +1,3 @@
 pub mod Handles
+pub mod LooseValues
 mod PutBackLemmas

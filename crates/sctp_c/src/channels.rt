@@ -13,7 +13,8 @@ use crate::handle::Handle;
 use crate::stream::stream_of;
 use sctp_c_channels as channels;
 use sctp_c_channels::{
-    CHANNEL_SIZE, ChannelRecord, GivenChannel, START_SIZE, STATISTICS_SIZE, StartRecord,
+    CHANNEL_SIZE, ChannelRecord, GivenChannel, GivenMessage, START_SIZE, STATISTICS_SIZE,
+    StartRecord,
 };
 use sctp_c_records::EVENT_SIZE;
 use sctp_c_records::answers::{INVALID_ARGUMENT, INVALID_SIZE, INVALID_STREAM, NO_SOCKET};
@@ -136,11 +137,10 @@ pub extern "C" fn pigeon_channel_send(
     let Some(kind) = channels::kind_of(kind) else {
         return INVALID_ARGUMENT;
     };
+    let message = GivenMessage { kind, payload };
     match socket.as_mut() {
         None => NO_SOCKET,
-        Some(end) => {
-            channels::send(alloc, &mut end.socket, &mut end.channels, id, kind, payload)
-        }
+        Some(end) => { channels::send(alloc, &mut end.socket, &mut end.channels, id, &message) }
     }
 }
 
@@ -175,7 +175,6 @@ pub extern "C" fn pigeon_channels_handle_input(socket: &mut Handle, bytes: &[u8]
 /// Hands out the event that comes next, of the socket or of its channels, and lends its bytes until the next call.
 #[unsafe(no_mangle)]
 pub extern "C" fn pigeon_channels_borrow_event_sized(
-    alloc: Global,
     socket: &mut Handle,
     head: &mut [u8],
     bytes: &mut *const u8,
@@ -194,7 +193,6 @@ pub extern "C" fn pigeon_channels_borrow_event_sized(
         None => NO_SOCKET,
         Some(end) => {
             let number = channels::borrow_event(
-                alloc,
                 &mut end.socket,
                 &mut end.channels,
                 &mut end.event,

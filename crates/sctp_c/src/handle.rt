@@ -4,7 +4,7 @@ ghost use Rattle.std.specs.Prelude.{◌≡◌, Option, Some, None, option_map};
 ghost use Rattle.sctp_c.specs.declared.endpoint.Endpoint.{Endpoint as EndpointValue};
 
 use crate::endpoint::Endpoint;
-use sctp_handle::Loose;
+use crate::loose::Loose;
 use std::alloc::Global;
 use std::marker::Model;
 

@@ -10,6 +10,7 @@ mod endpoint;
 mod events;
 mod handle;
 mod handover;
+mod loose;
 mod making;
 mod messages;
 mod settings;

@@ -1,7 +1,7 @@
 -- Where messages were refused, the batch's number says so.
 use Rattle.std.proofs.Common.{◌≡◌, ◌<◌, ℕ, List, [], ◌∷◌, length, refl, arith}
 use Rattle.sctp_state.specs.declared.api.errors.SendError.{SendError}
-use Rattle.sctp_c_events.specs.Answers.{batch_number}
+use Rattle.sctp_c_calls.specs.Answers.{batch_number}
 
 some : (rs xs : List (ℕ × SendError)) → rs ≡ xs → 0 < length rs → 18 ≡ batch_number xs
 some rs (x ∷ xs) e many = refl

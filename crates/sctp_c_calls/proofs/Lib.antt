@@ -1,3 +1,4 @@
 pub mod BatchLemmas
+pub mod OutcomeLemmas
 pub mod HandoverLemmas
 pub mod ReadyLemmas

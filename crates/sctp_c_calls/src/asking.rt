@@ -2,7 +2,7 @@
 
 ghost use Rattle.std.specs.Prelude.{◌≡◌, ◌==◌, ◌-◌, ◌^◌, ◌<◌, ◌≤◌, ◌↔◌, true, [], ◌∷◌, length, None, min, option_map};
 ghost use Rattle.sctp_association.specs.Socket.{endpoint};
-ghost use Rattle.sctp_c_events.specs.Answers.{IsAmong, OnAnswer, state_number};
+ghost use Rattle.sctp_c_calls.specs.Answers.{IsAmong, OnAnswer, state_number};
 ghost use Rattle.sctp_c_calls.specs.Asking.{ShowsMetrics, ShowsOptions, shown_metrics};
 ghost use Rattle.sctp_c_records.specs.Metrics.{one_if};
 ghost use Rattle.sctp_calls.specs.Metrics.{metrics_in};

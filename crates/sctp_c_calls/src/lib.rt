@@ -3,8 +3,11 @@
 
 mod asking;
 mod batch;
+mod calls;
+mod events;
 mod handover;
 mod messages;
+mod outcome;
 mod settings;
 
 pub use asking::{
@@ -13,11 +16,10 @@ pub use asking::{
     write_options,
 };
 pub use batch::{have_streams, send_many};
+pub use calls::{advance_time, close, connect, handle_input, shutdown};
+pub use events::{borrow_event, poll_event};
 pub use handover::{hand_over, restore};
 pub use messages::{borrow_message, next_given_up, next_message, send};
-pub use sctp_c_events::{
-    advance_time, borrow_event, close, connect, handle_input, poll_event, shutdown,
-};
 pub use settings::{
     reset_stream, reset_streams, set_buffered_amount_low_threshold, set_max_message_size,
     set_stream_priority,

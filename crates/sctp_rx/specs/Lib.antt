@@ -1,9 +1,9 @@
-pub use Rattle.sctp_tracker.specs.Seen
-pub use Rattle.sctp_tracker.specs.SeenSteps
-pub use Rattle.sctp_tracker.specs.DataTracker
-pub use Rattle.sctp_tracker.specs.Sack
-pub use Rattle.sctp_tracker.specs.Reported
-pub use Rattle.sctp_tracker.specs.TrackerHandover
+pub mod Seen
+pub mod SeenSteps
+pub mod DataTracker
+pub mod Sack
+pub mod Reported
+pub mod TrackerHandover
 pub use Rattle.sctp_fragments.specs.Runs
 pub use Rattle.sctp_fragments.specs.ReassemblyKey
 pub use Rattle.sctp_fragments.specs.KeyLaws

@@ -1,7 +1,11 @@
-//! What comes from the peer: which TSNs were seen, and when they are acknowledged; and messages put together of their
-//! fragments.
+//! What comes from the peer: which TSNs were seen, and when they are acknowledged (RFC 9260 section 6.2, RFC 3758); and messages
+//! put together of their fragments.
 #![tactic(auto)]
 
+pub mod data_tracker;
+pub mod set_laws;
+
+pub use data_tracker::DataTracker;
 pub use sctp_fragments::{interval, reassembly_key};
 pub use sctp_reassembly::{
     Entry, InterleavedKey, Interval, IntervalList, OrderedStream, ReadyMessages, ReassemblyKey,
@@ -14,4 +18,4 @@ pub use sctp_reassembly::{
     resets_leave_queues_settled, restored_queues_are_settled, settled_laws, touch,
     unordered_fragments_make_ready,
 };
-pub use sctp_tracker::{DataTracker, a_set_has_one_form, data_tracker, set_laws};
+pub use set_laws::a_set_has_one_form;

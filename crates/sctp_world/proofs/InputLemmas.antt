@@ -5,7 +5,7 @@ use Rattle.std.specs.Io.KnownBytes.{Appends, Consumes, IsAtEnd}
 use Rattle.std.proofs.KnownBytes.{Appends-nil, Appends-trans, Consumes-nil, Consumes-trans}
 use Rattle.std.proofs.lemmas.List.{append-nil, length-append}
 use Rattle.std.proofs.lemmas.List.Splits.{slice_split_none}
-use Rattle.sctp_commands.specs.Command.{lines_of, IsNoCommand}
+use Rattle.sctp_world.specs.Command.{lines_of, IsNoCommand}
 use Rattle.sctp_world.specs.Script.{RunsLine, RunsLines, RunsFront, StopsAt, refusal_text}
 use Rattle.sctp_world.specs.Lines.{IsOneLine, HasRun, HasRunSome, HasStopped}
 use Rattle.spec_world.specs.World.{World}

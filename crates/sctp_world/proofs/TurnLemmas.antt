@@ -6,7 +6,7 @@ use Rattle.std.proofs.KnownBytes.{Appends-nil, Appends-trans}
 use Rattle.std.proofs.lemmas.List.{append-nil, length-append}
 use Rattle.std.proofs.lemmas.List.Elements.{All-append}
 use Rattle.std.proofs.lemmas.List.Splits.{slice_split_at}
-use Rattle.sctp_commands.specs.Command.{lines_of, IsNoCommand}
+use Rattle.sctp_world.specs.Command.{lines_of, IsNoCommand}
 use Rattle.sctp_world.specs.Script.{RunsLine, RunsLines, refusal_text}
 use Rattle.sctp_world.specs.Lines.{IsOneLine, HasRun, HasStopped}
 use Rattle.spec_world.specs.World.{World}

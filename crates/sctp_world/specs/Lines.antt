@@ -1,7 +1,7 @@
 -- Lines of an input that comes in pieces, and what was written while they were run.
 use Rattle.std.specs.Prelude.{◌≡◌, ℕ, ◌+◌, false, ◌==◌, List, ◌∷◌, ◌++◌, length, All, Option}
 use Rattle.std.specs.Io.KnownBytes.{Appends}
-use Rattle.sctp_commands.specs.Command.{lines_of, IsNoCommand}
+use Rattle.sctp_world.specs.Command.{lines_of, IsNoCommand}
 use Rattle.sctp_world.specs.Script.{RunsLines, refusal_text}
 use Rattle.spec_world.specs.World.{World}
 

@@ -4,10 +4,11 @@
 //! drive one, a line each; one more, `probe`, reads a packet and answers with its message and the packet that acknowledges it.
 #![tactic(auto)]
 
+mod command;
 mod printing;
 mod script;
 
+pub use command::{Command, parse_command};
 pub use script::{ScriptFault, run_script};
-pub use sctp_commands::{Command, parse_command};
 pub use sctp_network::{Answer, Call, End, Entry, Event, World, WorldError, run, run_pair, step};
 pub use sctp_probe::{ByteSum, Probe, ProbeError, one_answer, probe};

@@ -1,5 +1,5 @@
 use Rattle.std.proofs.Common.{◌≡◌, length, drop}
-use Rattle.sctp_c_events.specs.Answers.{mark_refused}
+use Rattle.sctp_c_calls.specs.Answers.{mark_refused}
 use Rattle.sctp_c_calls.proofs.batch.note.Given as goal
 
 abbrev pub invariant-loop-refused : goal.invariant-loop-refused

@@ -3,7 +3,7 @@ use Rattle.sctp_association.specs.Socket.{endpoint}
 use Rattle.spec_endpoint.specs.Association.{in_context}
 use Rattle.spec_endpoint.specs.Calls as calls
 use Rattle.spec_endpoint.specs.Input.{in_endpoint_state}
-use Rattle.sctp_c_events.proofs.OutcomeLemmas.{among, ends, done}
+use Rattle.sctp_c_calls.proofs.OutcomeLemmas.{among, ends, done}
 use Rattle.sctp_c_calls.proofs.settings.set_buffered_amount_low_threshold.Goals as goal
 
 pub returns-clause-answers : goal.returns-clause-answers

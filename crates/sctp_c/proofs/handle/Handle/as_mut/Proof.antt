@@ -1,5 +1,5 @@
 -- `as_mut` tests the pointer, and lends the socket where it isn't null; the handle follows it. Assumes `Logic`.
-use Rattle.std.proofs.Common.{◌≡◌, ℕ, List, [], ◌∷◌, ◌++◌, refl, sym, ap, ◌∙◌, lit<, MutBor}
+use Rattle.std.proofs.Common.{◌≡◌, ℕ, List, [], ◌∷◌, refl, sym, ap, lit<, MutBor}
 use seplogic.Ra.Ura.{Ura}
 use base.Fraction.{full_share}
 use mir.Syntax.{named}
@@ -8,7 +8,7 @@ use mir.Val.{Val, vptr, vcons, vnil}
 use base.Logic.{ent, sep}
 use base.Fml.{GName, Fml, fsep, flft, fres, ftrue}
 use types.Logic.{Logic, sem}
-use types.Kit.{‵, raw, ◌⊛◌, some, later, given, at_ret, ◌$◌, ◌∵◌, !, qed, done, by, move, keep, drop, use0, use1, split, split3, join, group, frame, pick, await, rewrite, learn, suffices, fsplit, fsplit3, fjoin, fjoin3, fpack, feq_i}
+use types.Kit.{‵, ◌⊛◌, some, later, given, at_ret, ◌$◌, ◌∵◌, !, qed, done, move, keep, drop, use0, use1, split, split3, join, group, frame, pick, await, rewrite, learn, suffices, fsplit, fsplit3, fjoin, fpack, feq_i}
 use types.Part.{whole, sub, look_in, agg}
 use types.Run.{stop, fld, addr, load, lit, of_opd, bin, no_more, and_then, first, blocks, branches, skips, exec, returns, returns_within, enter}
 use types.ByLocal.{alloc_all, pass_all, free_all, look_at, get, through, sets, sets_last, is, env}
@@ -32,8 +32,8 @@ use Rattle.std.specs.contracts.impls.GlobalAllocator.TheImpl.{ghosts}
 use Rattle.std.proofs.raw_atomic.Walks.{proved}
 use Rattle.sctp_c.specs.contracts.endpoint.Endpoint.{the_row as R}
 use Rattle.sctp_c.specs.Lending.{with_held}
-use Rattle.sctp_handle.proofs.Values.{both}
-use Rattle.sctp_c.proofs.Handles.{Z, Held, holds, owns_box, tested, either_held, handle_out, handle_in}
+use Rattle.sctp_c.proofs.LooseValues.{both}
+use Rattle.sctp_c.proofs.Handles.{Z, Held, owns_box, tested, either_held, handle_out, handle_in}
 use Rattle.sctp_c.specs.contracts.handle.Handle.as_mut as f
 use Rattle.sctp_c.proofs.handle.Handle.as_mut.Statement.{statement}
 use Rattle.sctp_c.proofs.handle.Handle.as_mut.Code as code

@@ -4,14 +4,14 @@ use mir.Val.{Val, vptr, vcons, vnil}
 use base.Logic.{SProp, ent, emp, id⊢}
 use base.Fml.{ftrue}
 use prog.Wp.{WpFn}
-use types.Kit.{‵, raw, ◌⊛◌, given, at_ret, ◌$◌, ◌∵◌, !, qed, by, move, keep, drop, split, join, fsplit, fjoin, suffices, use0, use1, learn, rewrite}
+use types.Kit.{‵, raw, ◌⊛◌, given, at_ret, ◌$◌, ◌∵◌, !, qed, by, move, keep, split, fsplit, fjoin, suffices, use0, use1, learn}
 use types.Run.{stop, fld, lit, of_opd, bin, no_more, and_then, first, branches, exec, returns, enter}
 use types.ByLocal.{alloc_all, pass_all, free_all, look_at, get, get_in, sets, sets_last, env}
 use types.Part.{agg, sub, whole}
 use types.Match.{live}
 use contract.Monad.{fact, fact_i}
 use contract.Running.{tables}
-use denote.Exit.{yes, no}
+use denote.Exit.{yes}
 use denote.RattleType.{RattleType, owns}
 use denote.Signature.{types_at, type_at, plain}
 use denote.RawPtr.{Ptr, block_ptr, null_ptr, ptr_val, tests_null, Testable}
@@ -29,7 +29,7 @@ use Rattle.std.specs.contracts.impls.GlobalAllocator.TheImpl.{ghosts}
 use Rattle.std_alloc.proofs.ResultValues.{and_tt}
 use Rattle.std.proofs.raw_atomic.Walks.{proved_at, leaves}
 use Rattle.sctp_c.specs.contracts.endpoint.Endpoint.{the_row as R}
-use Rattle.sctp_handle.proofs.Values.{both, Loose, loose_good, loose_in}
+use Rattle.sctp_c.proofs.LooseValues.{both, Loose, loose_good, loose_in}
 use Rattle.sctp_c.proofs.Handles.{Z, Held, owns_box, tested, either_held, handle_out, null_good}
 use Rattle.sctp_c.specs.contracts.handle.Handle.into_loose.{ended, clauses}
 use Rattle.sctp_c.specs.contracts.handle.Handle.into_loose.Key.{name as #self}

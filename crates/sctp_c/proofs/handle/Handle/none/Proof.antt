@@ -4,14 +4,14 @@ use mir.Val.{Val}
 use base.Logic.{SProp, ent, emp, id⊢}
 use base.Fml.{ftrue}
 use prog.Wp.{WpFn}
-use types.Kit.{‵, raw, ◌⊛◌, ◌$◌, ◌∵◌, !, qed, by, move, keep, drop, split, join, fsplit, fjoin, suffices, use0, feq_i}
+use types.Kit.{‵, raw, ◌⊛◌, ◌$◌, ◌∵◌, !, qed, by, move, keep, split, fsplit, fjoin, suffices, use0, feq_i}
 use types.Run.{lit, no_more, and_then, returns, enter}
 use types.ByLocal.{alloc_all, pass_all, free_all, look_at, get, sets}
 use types.Part.{agg}
 use contract.Monad.{fact, fact_i}
 use contract.Running.{tables}
-use denote.Exit.{yes, no}
-use denote.RattleType.{RattleType, owns}
+use denote.Exit.{yes}
+use denote.RattleType.{owns}
 use denote.Signature.{types_at, plain}
 use denote.RawPtr.{Ptr, null_ptr, ptr_val}
 use denote.Steps.{nothing}
@@ -19,10 +19,9 @@ use denote.Triple.Walked.{Stays, stay_dropped, walk_of, Goes-dropped}
 use Rattle.core.specs.declared.option.Option.{Option}
 use Rattle.core.specs.declared.option.Option.TheVariants.{None}
 use Rattle.core.proofs.alloc.Calls.{handle_tells}
-use Rattle.std_alloc.proofs.ResultValues.{and_tt}
 use Rattle.sctp_c.specs.contracts.endpoint.Endpoint.{the_row as R}
 use Rattle.std.proofs.raw_atomic.Walks.{proved_at, leaves}
-use Rattle.sctp_handle.proofs.Values.{both}
+use Rattle.sctp_c.proofs.LooseValues.{both}
 use Rattle.sctp_c.proofs.Handles.{Z, al, handle_in, null_good}
 use Rattle.sctp_c.specs.contracts.handle.Handle.none.{ended, clauses}
 use Rattle.sctp_c.specs.contracts.handle.Handle.none.Key.{name as #self}

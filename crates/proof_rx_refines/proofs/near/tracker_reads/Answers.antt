@@ -1,5 +1,0 @@
-use Rattle.proof_rx_refines.proofs.NearTsnLemmas.{tracker_reads}
-use Rattle.proof_rx_refines.proofs.near.tracker_reads.Goals as goal
-
-pub returns : goal.returns
-returns c = record { read = tracker_reads }

@@ -1,8 +1,0 @@
-use Rattle.proof_rx_refines.proofs.NearRunLemmas as run
-use Rattle.proof_rx_refines.proofs.runs.written_data.Goals as goal
-
-pub returns-clause-windows : goal.returns-clause-windows
-returns-clause-windows c = run.windows
-
-pub returns-clause-few : goal.returns-clause-few
-returns-clause-few c = run.few

@@ -1,5 +1,0 @@
-use Rattle.proof_tx_refines.proofs.RestLemmas.{rest_row}
-use Rattle.proof_tx_refines.proofs.rest_is_rest.Goals as goal
-
-pub returns : goal.returns
-returns c = λ message lifecycle is_interleaved x q s k sh empty none. rest_row message lifecycle is_interleaved x q s.outstanding.items k sh empty none

@@ -1,3 +1,0 @@
-pub mod NumberLemmas
-pub mod OptionLemmas
-pub mod WordLemmas

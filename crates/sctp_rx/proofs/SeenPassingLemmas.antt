@@ -1,0 +1,80 @@
+-- Moving a front up, over the runs that it reaches.
+use Rattle.std.proofs.Common.{◌≡◌, ℕ, ◌+◌, ◌<◌, ◌≤◌, Bool, eqb, leb, ◌||◌, ◌&&◌, List, [], ◌∷◌, length, get_or, drop, max, sym, ap, ◌∙◌, subst, arith, drop-cons}
+use Rattle.std.proofs.lemmas.Bool.Decides.{nat_tests}
+use Rattle.sctp_rx.specs.Seen.{Run, in_runs, AreRuns, last_above}
+use Rattle.sctp_rx.specs.SeenSteps.{Passes}
+use Rattle.sctp_rx.proofs.SeenRunsLemmas.{le_last_above}
+
+pub AreRuns_from : (p q : ℕ) (rs : List Run) → q ≤ p → AreRuns p rs → AreRuns q rs
+AreRuns_from p q [] h r = tt
+AreRuns_from p q (b ∷ rs) h r = (omega arith, r.1, r.2)
+
+pub AreRuns_from_none : (c : ℕ) (rs : List Run) → AreRuns c rs → AreRuns 0 rs
+AreRuns_from_none c rs r = AreRuns_from c 0 rs (omega arith) r
+
+-- the end of the last run, wherever the runs are seen from
+pub last_above_max : (c : ℕ) (rs : List Run) → AreRuns c rs → last_above c rs ≡ max c (last_above 0 rs)
+last_above_max c [] r = omega arith
+last_above_max c (b ∷ rs) r = omega (arith, le_last_above b.last rs r.2)
+
+pub within_last : (n c : ℕ) (rs : List Run) → AreRuns c rs → n ≤ c → last_above c rs ≡ max n (last_above c rs)
+within_last n c rs r h = omega (arith, le_last_above c rs r)
+
+-- the first run, and the others
+pub at_front : (rs : List Run) (b : Run) → 0 < length rs → b ≡ get_or rs 0 b → rs ≡ b ∷ drop 1 rs
+at_front rs b h read = drop-cons rs 0 b h ∙ ap (λ x. x ∷ drop 1 rs) (sym read)
+
+-- one run is passed
+pub record PassesOne (p q : ℕ) (b : Run) (old new : List Run) : Type 0 where
+  pub numbers : (m : ℕ) → (leb m q || in_runs new m) ≡ (leb m p || in_runs old m)
+  pub runs : AreRuns 0 new
+  pub last : max q (last_above 0 new) ≡ max p (last_above 0 old)
+  pub here : b.last ≤ last_above 0 old
+
+either_way : (p n f l : ℕ) (v : Bool) → f ≤ p + 1 → f ≤ l → (leb n (max p l) || v) ≡ (leb n p || ((leb f n && leb n l) || v))
+either_way p n f l v h k = grind (arith, nat_tests)
+
+passes_one_of : (p : ℕ) (b : Run) (rs : List Run) → AreRuns 0 (b ∷ rs) → b.first ≤ p + 1 → PassesOne p (max p b.last) b (b ∷ rs) rs
+passes_one_of p b rs r joins = record {
+  numbers = λ m. either_way p m b.first b.last (in_runs rs m) joins r.1;
+  runs = AreRuns_from_none b.last rs r.2;
+  last = omega (arith, last_above_max b.last rs r.2);
+  here = le_last_above b.last rs r.2;
+}
+
+pub passes_one : (p q : ℕ) (b : Run) (old new : List Run) → AreRuns 0 old → old ≡ b ∷ new → q ≡ max p b.last → b.first ≤ p + 1 → PassesOne p q b old new
+passes_one p q b old new r split reach joins =
+    let runs = subst (λ (z : List Run). AreRuns 0 z) split r in
+    rw (reach, split) (passes_one_of p b new runs joins)
+
+-- none is left that it reaches
+pub apart : (p : ℕ) (b : Run) (old new : List Run) → AreRuns 0 old → old ≡ b ∷ new → p + 1 < b.first → AreRuns p old
+apart p b old new r split far =
+    let runs = subst (λ (z : List Run). AreRuns 0 z) split r in
+    let made : AreRuns p (b ∷ new) = (far, runs.1, runs.2) in
+    subst (λ (z : List Run). AreRuns p z) (sym split) made
+
+up_to_both : (p c n : ℕ) (v : Bool) → c < p → (leb n p || v) ≡ (leb n p || (leb n c || v))
+up_to_both p c n v h = grind (arith, nat_tests)
+
+one_more : (p c n : ℕ) (v : Bool) → p ≡ c + 1 → (leb n p || v) ≡ (eqb n p || (leb n c || v))
+one_more p c n v h = grind (arith, nat_tests)
+
+-- every number up to p, where p is past the front
+pub passed_over : (p c q : ℕ) (old new : List Run) → Passes p old q new → c < p → (n : ℕ) → (leb n q || in_runs new n) ≡ (leb n p || (leb n c || in_runs old n))
+passed_over p c q old new w h n = w.numbers n ∙ up_to_both p c n (in_runs old n) h
+
+-- the number after the front
+pub passed_next : (p c q : ℕ) (old new : List Run) → Passes p old q new → p ≡ c + 1 → (n : ℕ) → (leb n q || in_runs new n) ≡ (eqb n p || (leb n c || in_runs old n))
+passed_next p c q old new w h n = w.numbers n ∙ one_more p c n (in_runs old n) h
+
+-- the greatest number
+pub last_above_passed : (p c q : ℕ) (old new : List Run) → AreRuns c old → Passes p old q new → c < p → last_above q new ≡ max p (last_above c old)
+last_above_passed p c q old new r w h = omega (arith, last_above_max c old r, last_above_max q new w.runs, w.last)
+
+-- where the front is past n already
+pub below_front : (c n : ℕ) (rs : List Run) → n ≤ c → (m : ℕ) → (leb m c || in_runs rs m) ≡ (leb m n || (leb m c || in_runs rs m))
+below_front c n rs h m = reached (in_runs rs m)
+  where
+    reached : (v : Bool) → (leb m c || v) ≡ (leb m n || (leb m c || v))
+    reached v = grind (arith, nat_tests)

@@ -1,7 +1,0 @@
-use Rattle.std.proofs.Common.{take, ◌≡◌}
-use Rattle.sctp_tracker.specs.SeenSteps.{runs_of}
-use Rattle.sctp_tracker.specs.Sack.{blocks_of}
-use Rattle.sctp_tracker.proofs.data_tracker.seen.blocks_of.Given as goal
-
-abbrev pub invariant-loop-i : goal.invariant-loop-i
-invariant-loop-i l = l.blocks.items ≡ blocks_of l.front (runs_of (take l.i l.runs))
