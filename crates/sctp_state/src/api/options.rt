@@ -179,13 +179,7 @@ impl Options {
             return self.max_timer_backoff_duration;
         }
         match self.max_timer_backoff_duration {
-            Some(longest) => {
-                if longest.as_nanos() < self.rto_max.as_nanos() {
-                    Some(longest)
-                } else {
-                    Some(self.rto_max)
-                }
-            }
+            Some(longest) => Some(longest.min(self.rto_max)),
             None => Some(self.rto_max),
         }
     }
