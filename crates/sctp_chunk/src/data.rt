@@ -212,16 +212,25 @@ impl<'a> DataView<'a> {
     pub fn to_data(self, alloc: Global) -> Result<Data, AllocError>
         ensures { IfOk result (λ d. fragment_tree d ≡ viewed_fragment self.entry) }
     {
-        Ok(Data {
+        let payload = Vec::from_slice(alloc, self.payload)?;
+        Ok(self.with_payload(payload))
+    }
+
+    /// The fragment with this copy of its payload.
+    pub fn with_payload(self, payload: Vec<u8>) -> Data
+        requires { payload.items ≡ self.payload.now }
+        ensures { fragment_tree result ≡ viewed_fragment self.entry }
+    {
+        Data {
             stream_key: self.stream_key,
             ssn: self.ssn,
             mid: self.mid,
             fsn: self.fsn,
             ppid: self.ppid,
-            payload: Vec::from_slice(alloc, self.payload)?,
+            payload,
             is_beginning: self.is_beginning,
             is_end: self.is_end,
-        })
+        }
     }
 }
 

@@ -9,6 +9,7 @@ mod fragment_chunk;
 mod raw;
 mod runs;
 mod sack;
+mod spare_buffers;
 
 pub use data::{Data, DataChunk, DataView, IDataChunk};
 pub use forward_tsn::{ForwardTsnChunk, IForwardTsnChunk, SkippedStream};
@@ -16,3 +17,4 @@ pub use fragment_chunk::FragmentChunk;
 pub use raw::{RawChunk, write_chunk_header};
 pub use runs::are_runs;
 pub use sack::{GapAckBlock, SackChunk};
+pub use spare_buffers::SpareBuffers;

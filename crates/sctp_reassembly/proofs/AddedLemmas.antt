@@ -23,6 +23,10 @@ pub below_last : (r : List Held) (d : Held) (n : ℕ) (b : Bool) → 0 < length 
 below_last [] d n b some last on is = absurd (omega arith)
 below_last (h ∷ hs) d n b some last on is = rw (← last h hs refl) (emitted_less b (rank_of d) n on is)
 
+pub leads_first : (r : List Held) (d : Held) (n : ℕ) (b : Bool) → 0 < length r → ((h : Held) (hs : List Held) → r ≡ h ∷ hs → d ≡ h) → b ≡ true → b ≡ nat_lt n (rank_of d) → LeadsTo rank_of n (r ∷ [])
+leads_first [] d n b some first on is = absurd (omega arith)
+leads_first (h ∷ hs) d n b some first on is = rw (← first h hs refl) (emitted_less b n (rank_of d) on is)
+
 below_all : (n : ℕ) (b : Option Held) (rs : List (List Held)) → AreRuns rank_of goes_on b rs → IsBelow rank_of n b → IsBelow rank_of n (end_of None rs) → IsBelow rank_of n (end_of b rs)
 below_all n b [] r h k = h
 below_all n b ([] ∷ rs) r h k = absurd r

@@ -1,13 +1,15 @@
 -- How many fragments the calls of an interval list leave.
-use Rattle.std.proofs.Common.{◌≡◌, ℕ, suc, ◌+◌, ◌≤◌, Bool, true, false, cond, not, List, [], ◌∷◌, ◌++◌, None, length, refl, ap, sym, ◌∙◌, arith, length-append}
+use Rattle.std.proofs.Common.{◌≡◌, ℕ, suc, ◌+◌, ◌≤◌, Bool, true, false, cond, not, Option, List, [], ◌∷◌, ◌++◌, None, length, refl, ap, sym, subst, ◌∙◌, arith, length-append}
 use Rattle.std.specs.Prelude.{nat_lt}
 use Rattle.std.proofs.lemmas.List.{length-map}
 use Rattle.sctp_fragments.specs.declared.interval.Entry.{Entry}
 use Rattle.sctp_fragments.specs.declared.interval.Interval.{Interval}
-use Rattle.sctp_fragments.specs.Interval.{run_of, first_below, without_first}
+use Rattle.sctp_fragments.specs.Interval.{held_of, run_of, lists_of, first_below, without_first, AreIndexed}
 use Rattle.sctp_fragments.specs.Runs.{flat, is_held, put_in, with_item, from_rank, AreRuns}
 use Rattle.sctp_fragments.specs.Entries.{items_of}
-use Rattle.sctp_fragments.specs.Held.{Held, rank_of, goes_on, IsTaken}
+use Rattle.sctp_fragments.specs.Held.{Held, rank_of, goes_on, bytes_of, IsTaken}
+use Rattle.sctp_reassembly.specs.Places.{all_of, AreNamed, IsLed}
+use Rattle.sctp_reassembly.specs.Listed.{IsListed}
 
 pub put_length : (x : Held) (hs : List Held) → length (put_in rank_of x hs) ≡ suc (length hs)
 put_length x [] = refl
@@ -58,3 +60,17 @@ from_rank_length n (h ∷ hs) = go (nat_lt (rank_of h) n) (from_rank_length n hs
     go : (b : Bool) → length (from_rank rank_of n hs) ≤ length hs → length (cond b (from_rank rank_of n hs) (h ∷ from_rank rank_of n hs)) ≤ suc (length hs)
     go true ih = omega (arith, ih)
     go false ih = omega (arith, ih)
+
+-- where nothing went out and nothing came, a list is kept as it was
+pub still_listed : {K : Type 0} (is_key : K → Type 0) (number index : K → ℕ) (first now_first : Option (Interval K)) (later now_later : List (K × Interval K)) (bytes fragments : ℕ) → IsListed is_key number index first later bytes fragments
+    → lists_of (held_of number index) (all_of now_first now_later) ≡ lists_of (held_of number index) (all_of first later) → AreNamed is_key number index now_later → IsLed now_first now_later → IsListed is_key number index now_first now_later bytes fragments
+still_listed is_key number index first now_first later now_later bytes fragments listed same named led = record {
+  kept = record {
+    runs = subst (AreRuns rank_of goes_on None) (sym same) listed.kept.runs;
+    named = named;
+    led = led;
+    counted = listed.kept.counted ∙ ap (λ (t : List (List Held)). bytes_of (flat t)) (sym same);
+    small = subst (λ (t : List (List Held)). AreIndexed (flat t)) (sym same) listed.kept.small;
+  };
+  counted = listed.counted ∙ ap (λ (t : List (List Held)). length (flat t)) (sym same);
+}

@@ -2,6 +2,7 @@
 use Rattle.std.proofs.Common.{◌≡◌, ℕ, ◌<◌, ◌≤◌, ◌==◌, Bool, true, false, not, Option, Some, None, List, [], ◌∷◌, ◌++◌, refl, ap, sym, subst, ◌∙◌, arith, append-nil}
 use Rattle.std.specs.Prelude.{nat_lt, ◌&&◌, ◌||◌, option_map, IfSome, IfNone}
 use Rattle.std.specs.Borrow.{Bor}
+use Rattle.std.specs.Option.{option_to_list}
 use Rattle.sctp_reassembly.proofs.PutLemmas.{runs_alone}
 use Rattle.std.proofs.Common.{Ordering}
 use Rattle.std.specs.Map.{lookup}
@@ -205,6 +206,21 @@ module _ {K : Type 0} (is_key : K → Type 0) (number index : K → ℕ) where
   pub none_at_all : (n : ℕ) (first : Option (Interval K)) (later : List (K × Interval K)) → first ≡ None → IsLed first later → is_held rank_of n (entries_of (held_of number index) (all_of first later)) ≡ false
   none_at_all n (Some i) later none led = absurd (cc)
   none_at_all n None later none led = ap (λ (l : List (K × Interval K)). is_held rank_of n (entries_of (held_of number index) (all_of None l))) led
+
+  -- nothing is held where there is no first one
+  pub none_empty : {P : Type 0} (n : ℕ) (first : Option (Interval K)) (later : List (K × Interval K)) → first ≡ None → IsLed first later → (front back : List (List Held)) (r : List Held) → lists_of (held_of number index) (all_of first later) ≡ front ++ r ∷ back → is_held rank_of n r ≡ true → P
+  none_empty n first later none led front back r at here = absurd (both (sym (none_at_all n first later none led) ∙ (ap (λ (t : List (List Held)). is_held rank_of n (flat t)) at ∙ held_among n front back r here)))
+
+  -- the first one went out
+  pub first_gone : (first now_first : Option (Interval K)) (later now_later : List (K × Interval K)) (r : Option (Interval K)) (i : Interval K) → first ≡ Some i → r ≡ Some i → all_of (Some i) later ≡ option_to_list r ++ all_of now_first now_later
+      → IfSome r (λ j. IsOut (lists_of (held_of number index) (all_of first later)) (run_of (held_of number index) j) (lists_of (held_of number index) (all_of now_first now_later)))
+  first_gone first now_first later now_later None i is same others = tt
+  first_gone first now_first later now_later (Some j) i is same others = record {
+    front = [];
+    back = lists_of (held_of number index) (all_of now_first now_later);
+    is = ap (λ (o : Option (Interval K)). lists_of (held_of number index) (all_of o later)) is ∙ ap (lists_of (held_of number index)) others;
+    left = refl;
+  }
 
   -- what the map has under the key
   pub among_got : (cmp : K → K → Ordering) (by_rank : (x y : K) → is_key x → is_key y → cmp x y ≡ nat_cmp (rank_at number index x) (rank_at number index y)) (n : ℕ) (first : List Held) (es : List (K × Interval K)) (k : K) (p : is_key k) (j : Holds is_key number index n k es) (i : Interval K)

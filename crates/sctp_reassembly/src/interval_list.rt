@@ -215,6 +215,7 @@ impl<K: ReassemblyKey> IntervalList<K> {
             self.fragments -= 1;
         }
     }
+
     /// Keeps the fragments from the key on, and drops those before it.
     pub fn retain(&mut self, key: K)
         ensures value { self.new ≡ from_rank rank_of (rank_at K.number K.index key) self.old }

@@ -12,7 +12,7 @@ ghost use Rattle.sctp_reassembly.specs.InterruptedStreams.{deliver_in_part, orde
 use crate::interval_list::IntervalList;
 use crate::ready_messages::ReadyMessages;
 use sctp_chunk::Data;
-use sctp_fragments::{ReassemblyKey, message_of};
+use sctp_fragments::ReassemblyKey;
 use std::alloc::{AllocError, Global};
 use std::marker::Model;
 
@@ -61,8 +61,7 @@ fn deliver<K: ReassemblyKey>(
     let _last = *last;
     while let Some(interval) = list.pop_front_if_complete_and(*last as u128 + 1) {
         let number = interval.first().key.number();
-        let message = message_of(alloc, interval)?;
-        ready.push(message)?;
+        ready.push_complete(alloc, interval)?;
         *last = number;
     }
     Ok(())

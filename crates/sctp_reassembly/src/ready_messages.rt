@@ -1,19 +1,24 @@
 //! Messages that are ready, until they are taken.
 
-ghost use Rattle.std.specs.Prelude.{◌≡◌, ◌+◌, ◌<◌, ◌^◌, ◌++◌, ◌∷◌, [], length, option_map, OnOk, OnErr, IfSome, IfNone, IsSome, ◌↔◌, slice_index_or};
+ghost use Rattle.std.specs.Prelude.{◌≡◌, ◌+◌, ◌<◌, ◌≤◌, ◌^◌, ◌++◌, ◌∷◌, [], length, option_map, OnOk, OnErr, IfOk, IfSome, IfNone, IsSome, ◌↔◌, slice_index_or};
 ghost use Rattle.std.specs.Option.{option_to_list};
 ghost use Rattle.sctp_serial.specs.Messages.{message_of};
+ghost use Rattle.sctp_fragments.specs.Held.{bytes_of, message_of_run};
+ghost use Rattle.sctp_fragments.specs.Interval.{held_of, run_of};
 
+use sctp_chunk::SpareBuffers;
+use sctp_fragments::{Interval, ReassemblyKey, message_of};
 use sctp_serial::Message;
 use std::alloc::{AllocError, Global};
 use std::collections::VecDeque;
 use std::marker::Model;
 
-/// Messages in the order in which they became ready, and how many bytes they have.
+/// Messages in the order in which they became ready, and how many bytes they have. Buffers that their fragments left are kept.
 #[derive(Drop)]
 pub struct ReadyMessages {
     messages: VecDeque<Message>,
     bytes: usize,
+    spares: SpareBuffers,
 }
 
 impl Model for ReadyMessages {
@@ -38,6 +43,7 @@ impl ReadyMessages {
         ReadyMessages {
             messages: VecDeque::new(alloc),
             bytes: 0,
+            spares: SpareBuffers::new(alloc),
         }
     }
 
@@ -67,6 +73,38 @@ impl ReadyMessages {
         self.messages.push_back(message)?;
         self.bytes += bytes;
         Ok(())
+    }
+
+    /// Adds the message of a complete interval behind the others. Without memory nothing changes.
+    #[tactic(auto, using(crate::proofs::ExtendsLemmas::extends_none))]
+    pub fn push_complete<K: ReassemblyKey>(
+        &mut self,
+        alloc: Global,
+        interval: Interval<K>,
+    ) -> Result<(), AllocError>
+        requires { ready_bytes self.old + bytes_of (run_of (held_of K.number K.index) interval) < 2 ^ 64 }
+        ensures ok { OnOk result (self.new ≡ self.old ++ message_of_run (run_of (held_of K.number K.index) interval) ∷ []) }
+        ensures err { OnErr result (self.new ≡ self.old) }
+        ensures kept { Extends self.old self.new }
+        ensures bytes { ready_bytes self.new ≤ ready_bytes self.old + bytes_of (run_of (held_of K.number K.index) interval) }
+    {
+        let message = message_of(alloc, &mut self.spares, interval)?;
+        self.push(message)
+    }
+
+    /// A copy of the bytes, in a buffer that was kept where one serves.
+    pub fn copy(&mut self, alloc: Global, bytes: &[u8]) -> Result<Vec<u8>, AllocError>
+        ensures value { IfOk result (λ copy. copy.items ≡ bytes.now) }
+        ensures others { self.new ≡ self.old }
+    {
+        self.spares.copy(alloc, bytes)
+    }
+
+    /// No buffer is kept any longer.
+    pub fn let_buffers_go(&mut self, alloc: Global)
+        ensures { self.new ≡ self.old }
+    {
+        self.spares = SpareBuffers::new(alloc);
     }
 
     /// The one at the place, where there are so many.

@@ -1,10 +1,10 @@
 //! Messages put together of their fragments, and taken one after the other.
 
-ghost use Rattle.std.specs.Prelude.{◌≡◌, ℕ, [], ◌+◌, ◌-◌, ◌<◌, ◌≤◌, ◌^◌, ◌++◌, nat_le, max, true, false, is_some, length, map, option_map, OnOk, OnErr, IsSome, IfSome, IfNone, ◌↔◌, slice_index_or, Some, unwrap_or};
+ghost use Rattle.std.specs.Prelude.{◌≡◌, ℕ, [], ◌+◌, ◌-◌, ◌<◌, ◌≤◌, ◌^◌, ◌++◌, nat_le, max, true, false, is_some, length, map, option_map, OnOk, OnErr, IsSome, IfOk, IfSome, IfNone, ◌↔◌, slice_index_or, Some, unwrap_or};
 ghost use Rattle.std.specs.List.{sum_by};
 ghost use Rattle.std.specs.Option.{option_to_list};
 ghost use Rattle.sctp_serial.specs.Messages.{message_of};
-ghost use Rattle.sctp_chunk.specs.Views.{fragment_tree};
+ghost use Rattle.sctp_chunk.specs.Views.{fragment_tree, viewed_fragment};
 ghost use Rattle.sctp_state.specs.Handover.{handover_state_of, receive_of};
 ghost use Rattle.sctp_state.specs.Validity.{is_valid_reception};
 ghost use Rattle.sctp_reassembly.specs.Delivery.{Extends};
@@ -18,7 +18,7 @@ use crate::ready_messages::ReadyMessages;
 use crate::reassembly_streams::ReassemblyStreams;
 use crate::sorted_skips::entries_in;
 use deferred::{Deferred, none_waits};
-use sctp_chunk::{Data, SkippedStream};
+use sctp_chunk::{Data, DataView, SkippedStream};
 use sctp_serial::{Message, SerialNumber, StreamId, Tsn};
 use sctp_state::{HandoverReadiness, SocketHandoverState};
 use std::alloc::{AllocError, Global};
@@ -164,6 +164,26 @@ impl ReassemblyQueue {
         ensures others { self.new ≡ record self.old { ready = self.new.ready } }
     {
         self.ready.pop()
+    }
+
+    /// The fragment with a copy of its payload. That of a part of a message goes into a buffer that an earlier one left, where one
+    /// serves.
+    pub fn copy_of(&mut self, fragment: DataView<'_>) -> Result<Data, AllocError>
+        ensures value { IfOk result (λ d. fragment_tree d ≡ viewed_fragment fragment.entry) }
+        ensures others { self.new ≡ self.old }
+    {
+        if fragment.is_beginning && fragment.is_end {
+            return fragment.to_data(self.alloc);
+        }
+        let payload = self.ready.copy(self.alloc, fragment.payload)?;
+        Ok(fragment.with_payload(payload))
+    }
+
+    /// No buffer is kept any longer for payloads to come.
+    pub fn let_buffers_go(&mut self)
+        ensures { self.new ≡ self.old }
+    {
+        self.ready.let_buffers_go(self.alloc);
     }
 
     /// What the TSN stands for.

@@ -15,7 +15,7 @@ use crate::interval_list::IntervalList;
 use crate::ordered_stream::FIRST;
 use crate::ready_messages::ReadyMessages;
 use sctp_chunk::Data;
-use sctp_fragments::{ReassemblyKey, message_of};
+use sctp_fragments::ReassemblyKey;
 use std::alloc::{AllocError, Global};
 use std::marker::Model;
 
@@ -65,8 +65,7 @@ fn take_in<K: ReassemblyKey>(
     let Some(interval) = list.pop_if_complete(key) else {
         return Ok(());
     };
-    let message = message_of(alloc, interval)?;
-    ready.push(message)
+    ready.push_complete(alloc, interval)
 }
 
 impl<K: ReassemblyKey> UnorderedFragments<K> {
@@ -134,6 +133,7 @@ impl<K: ReassemblyKey> UnorderedFragments<K> {
     {
         self.list.retain(first);
     }
+
     /// Adds a fragment, unless a forward point passed its message; a message that it completes becomes ready.
     #[tactic(auto, using(crate::proofs::ExtendsLemmas::extends_none))]
     pub fn add(

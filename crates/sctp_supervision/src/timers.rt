@@ -65,6 +65,9 @@ fn tick_tcb<C: Checksum>(
     let has_expired = tick_ack(context, tcb);
     let has_expired = tick_t3(context, tcb, has_expired)?;
     let is_beat = tick_heartbeat_interval(context, tcb)?;
+    if is_beat {
+        tcb.reassembly_queue.let_buffers_go();
+    }
     let is_unanswered = tick_heartbeat_timeout(context);
     tick_requests(context, tcb, is_unanswered || is_beat || has_expired)
 }
@@ -135,7 +138,11 @@ fn sends_owed<C: Checksum>(context: &Context<C>) -> bool
 fn owed_moment<C: Checksum>(context: &Context<C>, tcb: &TransmissionControlBlock) -> SocketTime
     ensures { result ≡ table.owed_moment (tcb_of tcb.now) (context_of C.word_of context.now) }
 {
-    moment_if(sends_owed(context), first_owed(context, tcb))
+    if sends_owed(context) {
+        first_owed(context, tcb)
+    } else {
+        SocketTime::infinite_future()
+    }
 }
 
 /// A timer has expired, or something is owed by now.

@@ -36,15 +36,15 @@ loop-interval-preserved g c =
     let step = deliver_step (c.loop-interval.last + 1) c.loop-interval.list c.pop_front_if_complete_and.new.self run (sym c.in-Some.ensures.taken) c.in-Some.ensures.value c.in-Some.ensures.intervals in
     record {
       stream = ap (λ n. (deliver n c.pop_front_if_complete_and.new.self).stream) up ∙ (sym (ap (λ d. d.stream) step) ∙ c.loop-interval.invariant.stream);
-      messages = ap (λ n. c.push.new.self ++ (deliver n c.pop_front_if_complete_and.new.self).messages) up
-          ∙ one_earlier c.loop-interval.ready c.push.new.self (message_of c.in_ok-message.message) (message_of_run run) (deliver (suc (c.loop-interval.last + 1)) c.pop_front_if_complete_and.new.self) _ c.in_ok-push.ensures.ok c.in_ok-message.ensures.value
+      messages = ap (λ n. c.push_complete.new.self ++ (deliver n c.pop_front_if_complete_and.new.self).messages) up
+          ∙ one_earlier c.loop-interval.ready c.push_complete.new.self (message_of_run run) (message_of_run run) (deliver (suc (c.loop-interval.last + 1)) c.pop_front_if_complete_and.new.self) _ c.in_ok-push_complete.ensures.ok refl
           (ap (λ d. c.loop-interval.ready ++ d.messages) (sym step) ∙ c.loop-interval.invariant.messages);
       onward = omega (arith, up, c.loop-interval.invariant.onward);
       fits = search rules;
-      part = turns_step (c.loop-interval.last + 1) (c.number-number.result + 1) c.loop-interval.list run c.pop_front_if_complete_and.new.self c.loop-interval.ready c.push.new.self (message_of c.in_ok-message.message) (c.args.last.now + 1) c.args.list.now c.args.ready.now
-          (sym c.in-Some.ensures.taken) c.in-Some.ensures.value up c.in_ok-push.ensures.ok c.in_ok-message.ensures.value c.loop-interval.invariant.part;
-      kept = extends_both _ _ _ c.loop-interval.invariant.kept c.push.ensures.kept;
-      bytes = omega (arith, c.in-Some.ensures.bytes, c.in_ok-message.ensures.bytes, ready_pushed c.loop-interval.ready c.push.new.self (message_of c.in_ok-message.message) c.in_ok-push.ensures.ok, c.loop-interval.invariant.bytes);
+      part = turns_step (c.loop-interval.last + 1) (c.number-number.result + 1) c.loop-interval.list run c.pop_front_if_complete_and.new.self c.loop-interval.ready c.push_complete.new.self (message_of_run run) (c.args.last.now + 1) c.args.list.now c.args.ready.now
+          (sym c.in-Some.ensures.taken) c.in-Some.ensures.value up c.in_ok-push_complete.ensures.ok refl c.loop-interval.invariant.part;
+      kept = extends_both _ _ _ c.loop-interval.invariant.kept c.push_complete.ensures.kept;
+      bytes = omega (arith, c.in-Some.ensures.bytes, c.push_complete.ensures.bytes, c.loop-interval.invariant.bytes);
       fragments = omega (arith, c.in-Some.ensures.fragments, c.loop-interval.invariant.fragments);
     }
 
@@ -72,10 +72,6 @@ returns-clause-settled g c =
     let same = c.in_default.ensures.value ∙ left_unfound (is_in_turn (c.loop-interval.last + 1)) c.loop-interval.list none in
     subst (λ hs. NoneInTurn (c.loop-interval.last + 1) (intervals_of hs)) (sym same) (find_none (is_in_turn (c.loop-interval.last + 1)) (intervals_of c.loop-interval.list) none)
 
-pub returns-in_err-message-clause-err : goal.returns-in_err-message-clause-err
-returns-in_err-message-clause-err g c =
-    on_err c.from_residual.result (turns_end (c.loop-interval.last + 1) c.loop-interval.list c.pop_front_if_complete_and.new.self c.loop-interval.ready c.loop-interval.ready (c.args.last.now + 1) c.args.list.now c.args.ready.now c.in-Some.ensures.value refl c.loop-interval.invariant.part)
-
-pub returns-in_err-push-clause-err : goal.returns-in_err-push-clause-err
-returns-in_err-push-clause-err g c =
-    on_err c.from_residual-in_err-push.result (turns_end (c.loop-interval.last + 1) c.loop-interval.list c.pop_front_if_complete_and.new.self c.loop-interval.ready c.push.new.self (c.args.last.now + 1) c.args.list.now c.args.ready.now c.in-Some.ensures.value c.in_err-push.ensures.err c.loop-interval.invariant.part)
+pub returns-in_err-push_complete-clause-err : goal.returns-in_err-push_complete-clause-err
+returns-in_err-push_complete-clause-err g c =
+    on_err c.from_residual.result (turns_end (c.loop-interval.last + 1) c.loop-interval.list c.pop_front_if_complete_and.new.self c.loop-interval.ready c.push_complete.new.self (c.args.last.now + 1) c.args.list.now c.args.ready.now c.in-Some.ensures.value c.in_err-push_complete.ensures.err c.loop-interval.invariant.part)

@@ -3,7 +3,7 @@ use Rattle.sctp_fragments.specs.Runs.{flat, is_held, AreRuns}
 use Rattle.sctp_fragments.specs.Held.{rank_of, goes_on}
 use Rattle.sctp_fragments.specs.Interval.{held_of, run_of, lists_of}
 use Rattle.sctp_reassembly.specs.Places.{all_of, runs_at}
-use Rattle.sctp_reassembly.proofs.AddedLemmas.{first_added, held_first, below_last}
+use Rattle.sctp_reassembly.proofs.AddedLemmas.{first_added, held_first, below_last, leads_first}
 use Rattle.sctp_fragments.proofs.PlaceLemmas.{some_run}
 use Rattle.sctp_reassembly.proofs.places.add_to.Goals as goal
 
@@ -23,3 +23,8 @@ pub add_behind-requires-clause-behind : goal.add_behind-requires-clause-behind
 add_behind-requires-clause-behind g c =
     let f = held_of g.K.ReassemblyKey.number g.K.ReassemblyKey.index in
     below_last (run_of f c.in-Some.interval) (f c.last.result.now) (rank_of (f c.args.entry)) c.is_before-2.result (some_run f c.in-Some.interval) c.last.ensures c.if-not-is_before.false c.is_before-2.ensures
+
+pub put_ahead-requires-clause-ahead : goal.put_ahead-requires-clause-ahead
+put_ahead-requires-clause-ahead g c =
+    let f = held_of g.K.ReassemblyKey.number g.K.ReassemblyKey.index in
+    leads_first (run_of f c.in-Some.interval) (f c.first.result.now) (rank_of (f c.args.entry)) c.is_before.result (some_run f c.in-Some.interval) c.first.ensures c.if-is_before.true c.is_before.ensures

@@ -1,4 +1,4 @@
-use Rattle.std.proofs.Common.{◌≡◌, ◌∷◌, List, true, false, sym, subst, rules}
+use Rattle.std.proofs.Common.{◌≡◌, ◌∷◌, List, sym, subst, rules}
 use Rattle.sctp_fragments.specs.Runs.{last_of, IsBelow}
 use Rattle.sctp_fragments.specs.Held.{Held, rank_of}
 use Rattle.sctp_fragments.specs.ReassemblyKey.{rank_at}
@@ -14,8 +14,7 @@ returns-then-is_before-clause-none g c ps qs s =
     let e = held_of g.K.ReassemblyKey.number g.K.ReassemblyKey.index c.last.result.now in
     let t = c.in-Some.ensures.some ps qs s in
     let last : (h : Held) (hs : List Held) → run_of (held_of g.K.ReassemblyKey.number g.K.ReassemblyKey.index) c.in-Some.interval.now ≡ h ∷ hs → e ≡ last_of h hs = search rules in
-    let on : c.is_before.result ≡ true = search rules in
-    subst (IsBelow rank_of n) (sym (ends_at g.K.ReassemblyKey.is_key g.K.ReassemblyKey.number g.K.ReassemblyKey.index ps t.0 c.in-Some.place c.in-Some.interval.now e t.1 last)) (emitted_less c.is_before.result (rank_of e) n on c.is_before.ensures)
+    subst (IsBelow rank_of n) (sym (ends_at g.K.ReassemblyKey.is_key g.K.ReassemblyKey.number g.K.ReassemblyKey.index ps t.0 c.in-Some.place c.in-Some.interval.now e t.1 last)) (emitted_less c.is_before.result (rank_of e) n c.if-is_before.true c.is_before.ensures)
 
 pub returns-clause-some : goal.returns-clause-some
 returns-clause-some g c ps qs s =
@@ -23,6 +22,5 @@ returns-clause-some g c ps qs s =
     let e = held_of g.K.ReassemblyKey.number g.K.ReassemblyKey.index c.last.result.now in
     let t = c.in-Some.ensures.some ps qs s in
     let last : (h : Held) (hs : List Held) → run_of (held_of g.K.ReassemblyKey.number g.K.ReassemblyKey.index) c.in-Some.interval.now ≡ h ∷ hs → e ≡ last_of h hs = search rules in
-    let off : c.is_before.result ≡ false = search rules in
     let at = last_read ps t.0 (c.in-Some.place, c.in-Some.interval.now) t.1 in
-    (held_before g.K.ReassemblyKey.is_key g.K.ReassemblyKey.number g.K.ReassemblyKey.index n ps e c.is_before.result (ends_at g.K.ReassemblyKey.is_key g.K.ReassemblyKey.number g.K.ReassemblyKey.index ps t.0 c.in-Some.place c.in-Some.interval.now e t.1 last) c.is_before.ensures off, search (rules, at))
+    (held_before g.K.ReassemblyKey.is_key g.K.ReassemblyKey.number g.K.ReassemblyKey.index n ps e c.is_before.result (ends_at g.K.ReassemblyKey.is_key g.K.ReassemblyKey.number g.K.ReassemblyKey.index ps t.0 c.in-Some.place c.in-Some.interval.now e t.1 last) c.is_before.ensures c.if-is_before.false, search (rules, at))

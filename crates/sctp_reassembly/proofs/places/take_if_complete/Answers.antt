@@ -2,7 +2,7 @@ use Rattle.std.proofs.Common.{None, ap, sym, subst, ◌∙◌}
 use Rattle.sctp_fragments.specs.ReassemblyKey.{rank_at}
 use Rattle.sctp_fragments.specs.Held.{is_complete}
 use Rattle.sctp_reassembly.specs.Places.{runs_at, AreNamed}
-use Rattle.sctp_reassembly.proofs.HolderLemmas.{some_then, none_then, some_or_none, named_without, later_runs, runs_here, first_only, none_here, later_only, later_out}
+use Rattle.sctp_reassembly.proofs.HolderLemmas.{some_then, none_then, some_or_none, named_without, later_runs, runs_here, first_only, none_here, later_only, later_out, none_empty, first_gone}
 use Rattle.sctp_reassembly.proofs.places.take_if_complete.Goals as goal
 
 pub returns-then-not-is_complete-clause-incomplete : goal.returns-then-not-is_complete-clause-incomplete
@@ -37,3 +37,24 @@ returns-clause-named g c =
     (some_then c.take_complete.result (λ d told. let t = told j.front j.back j.interval j.is j.low in
     subst (AreNamed g.K.ReassemblyKey.is_key g.K.ReassemblyKey.number g.K.ReassemblyKey.index) (sym t.1) (named_without g.K.ReassemblyKey.is_key g.K.ReassemblyKey.number g.K.ReassemblyKey.index j.front j.back c.in-Some-place_with.place j.interval (subst (AreNamed g.K.ReassemblyKey.is_key g.K.ReassemblyKey.number g.K.ReassemblyKey.index) j.is c.requires.named))) c.take_complete.ensures.taken)
     (none_then c.take_complete.result (λ same. subst (AreNamed g.K.ReassemblyKey.is_key g.K.ReassemblyKey.number g.K.ReassemblyKey.index) (sym same) c.requires.named) c.take_complete.ensures.none)
+
+pub returns-in_default-clause-incomplete : goal.returns-in_default-clause-incomplete
+returns-in_default-clause-incomplete g c front back r at here =
+    none_empty g.K.ReassemblyKey.is_key g.K.ReassemblyKey.number g.K.ReassemblyKey.index (rank_at g.K.ReassemblyKey.number g.K.ReassemblyKey.index c.args.key) c.args.first.now c.args.later.now.entries c.in_default.is c.requires.led front back r at here
+
+pub returns-then-has_key-clause-taken : goal.returns-then-has_key-clause-taken
+returns-then-has_key-clause-taken g c = first_gone g.K.ReassemblyKey.is_key g.K.ReassemblyKey.number g.K.ReassemblyKey.index c.args.first.now c.take_first.new.first c.args.later.now.entries c.take_first.new.later.entries c.take_first.result c.in-Some.interval c.in-Some.is c.take_first.ensures.result c.take_first.ensures.others
+
+pub returns-then-has_key-clause-complete : goal.returns-then-has_key-clause-complete
+returns-then-has_key-clause-complete g c = rw c.take_first.ensures.result (sym c.is_complete.ensures ∙ c.if-not-is_complete.false)
+
+pub returns-then-has_key-clause-held : goal.returns-then-has_key-clause-held
+returns-then-has_key-clause-held g c =
+    let n = rank_at g.K.ReassemblyKey.number g.K.ReassemblyKey.index c.args.key in
+    rw c.take_first.ensures.result (sym (c.has_key.ensures None (runs_at g.K.ReassemblyKey.number g.K.ReassemblyKey.index c.args.later.now.entries) (runs_here g.K.ReassemblyKey.is_key g.K.ReassemblyKey.number g.K.ReassemblyKey.index n c.args.first.now c.args.later.now.entries c.in-Some.interval c.in-Some.is c.requires.runs)) ∙ c.if-has_key.true)
+
+pub returns-then-has_key-clause-none : goal.returns-then-has_key-clause-none
+returns-then-has_key-clause-none g c = rw c.take_first.ensures.result tt
+
+pub returns-then-has_key-clause-incomplete : goal.returns-then-has_key-clause-incomplete
+returns-then-has_key-clause-incomplete g c = rw c.take_first.ensures.result tt

@@ -42,11 +42,6 @@ returns-in_default-clause-settled g c =
     let none = none_incomplete c.args.list.now c.add.new.self (as_held (g.K.ReassemblyKey.number c.args.key) (g.K.ReassemblyKey.index c.args.key) c.args.fragment) c.requires.settled placed c.in_default.ensures.incomplete in
     subst (λ t. NoneComplete (intervals_of t)) (sym c.in_default.ensures.none) none
 
-pub returns-in_err-message-clause-settled : goal.returns-in_err-message-clause-settled
-returns-in_err-message-clause-settled g c =
-    let placed = c.in_ok-add.ensures.place (search rules) in
-    none_taken c.args.list.now c.add.new.self (as_held (g.K.ReassemblyKey.number c.args.key) (g.K.ReassemblyKey.index c.args.key) c.args.fragment) c.requires.settled placed (run_of (held_of g.K.ReassemblyKey.number g.K.ReassemblyKey.index) c.in-Some.interval) c.pop_if_complete.new.self c.in-Some.ensures.held c.in-Some.ensures.taken
-
 pub returns-clause-settled : goal.returns-clause-settled
 returns-clause-settled g c =
     let placed = c.in_ok-add.ensures.place (search rules) in
@@ -56,40 +51,25 @@ pub returns-clause-held : goal.returns-clause-held
 returns-clause-held g c =
     let placed = c.in_ok-add.ensures.place (search rules) in
     let left = left_taken c.args.list.now c.add.new.self (as_held (g.K.ReassemblyKey.number c.args.key) (g.K.ReassemblyKey.index c.args.key) c.args.fragment) c.requires.settled placed (run_of (held_of g.K.ReassemblyKey.number g.K.ReassemblyKey.index) c.in-Some.interval) c.pop_if_complete.new.self c.in-Some.ensures.held c.in-Some.ensures.taken in
-    on_ok_weaker c.push.result (λ e. left ∙ ap (left_by is_complete) c.in_ok-add.ensures.value) c.push.ensures.ok
+    on_ok_weaker c.push_complete.result (λ e. left ∙ ap (left_by is_complete) c.in_ok-add.ensures.value) c.push_complete.ensures.ok
 
 pub returns-clause-ready : goal.returns-clause-ready
 returns-clause-ready g c =
     let placed = c.in_ok-add.ensures.place (search rules) in
     let one = found_taken c.args.list.now c.add.new.self (as_held (g.K.ReassemblyKey.number c.args.key) (g.K.ReassemblyKey.index c.args.key) c.args.fragment) c.requires.settled placed (run_of (held_of g.K.ReassemblyKey.number g.K.ReassemblyKey.index) c.in-Some.interval) c.pop_if_complete.new.self c.in-Some.ensures.held c.in-Some.ensures.taken in
-    on_ok_weaker c.push.result (λ e. e ∙ (ap (λ m. c.args.ready.now ++ m ∷ []) c.in_ok-message.ensures.value ∙ ap (λ ms. c.args.ready.now ++ ms) (sym one ∙ ap first_complete c.in_ok-add.ensures.value))) c.push.ensures.ok
-
-pub returns-in_err-message-clause-bytes : goal.returns-in_err-message-clause-bytes
-returns-in_err-message-clause-bytes g c = omega (arith, c.in_ok-add.ensures.bytes, c.in-Some.ensures.bytes)
-
-pub returns-in_err-message-clause-fragments : goal.returns-in_err-message-clause-fragments
-returns-in_err-message-clause-fragments g c = omega (arith, c.in_ok-add.ensures.fragments, c.in-Some.ensures.fragments)
+    on_ok_weaker c.push_complete.result (λ e. e ∙ ap (λ ms. c.args.ready.now ++ ms) (sym one ∙ ap first_complete c.in_ok-add.ensures.value)) c.push_complete.ensures.ok
 
 pub returns-clause-fragments : goal.returns-clause-fragments
 returns-clause-fragments g c = omega (arith, c.in_ok-add.ensures.fragments, c.in-Some.ensures.fragments)
 
-pub push-requires : goal.push-requires
-push-requires g c = omega (arith, c.requires.room, c.in_ok-add.ensures.bytes, c.in-Some.ensures.bytes, c.in_ok-message.ensures.bytes)
+pub push_complete-requires : goal.push_complete-requires
+push_complete-requires g c = omega (arith, c.requires.room, c.in_ok-add.ensures.bytes, c.in-Some.ensures.bytes)
 
 pub returns-clause-bytes : goal.returns-clause-bytes
-returns-clause-bytes g c =
-    let ready : ready_bytes c.push.new.self ≤ ready_bytes c.args.ready.now + length c.in_ok-message.message.payload.items =
-    either c.push.result c.push.ensures.ok c.push.ensures.err (λ e. omega (arith, ready_pushed c.args.ready.now c.push.new.self (message_of c.in_ok-message.message) e)) (λ e. omega (arith, ap ready_bytes e)) in
-    omega (arith, ready, c.in_ok-add.ensures.bytes, c.in-Some.ensures.bytes, c.in_ok-message.ensures.bytes)
-
-pub returns-in_err-message-clause-err : goal.returns-in_err-message-clause-err
-returns-in_err-message-clause-err g c =
-    let placed = c.in_ok-add.ensures.place (search rules) in
-    let left = left_taken c.args.list.now c.add.new.self (as_held (g.K.ReassemblyKey.number c.args.key) (g.K.ReassemblyKey.index c.args.key) c.args.fragment) c.requires.settled placed (run_of (held_of g.K.ReassemblyKey.number g.K.ReassemblyKey.index) c.in-Some.interval) c.pop_if_complete.new.self c.in-Some.ensures.held c.in-Some.ensures.taken in
-    on_err c.from_residual-in_err-message.result (inr (left ∙ ap (left_by is_complete) c.in_ok-add.ensures.value))
+returns-clause-bytes g c = omega (arith, c.push_complete.ensures.bytes, c.in_ok-add.ensures.bytes, c.in-Some.ensures.bytes)
 
 pub returns-clause-err : goal.returns-clause-err
 returns-clause-err g c =
     let placed = c.in_ok-add.ensures.place (search rules) in
     let left = left_taken c.args.list.now c.add.new.self (as_held (g.K.ReassemblyKey.number c.args.key) (g.K.ReassemblyKey.index c.args.key) c.args.fragment) c.requires.settled placed (run_of (held_of g.K.ReassemblyKey.number g.K.ReassemblyKey.index) c.in-Some.interval) c.pop_if_complete.new.self c.in-Some.ensures.held c.in-Some.ensures.taken in
-    on_err c.push.result (inr (left ∙ ap (left_by is_complete) c.in_ok-add.ensures.value))
+    on_err c.push_complete.result (inr (left ∙ ap (left_by is_complete) c.in_ok-add.ensures.value))

@@ -1,5 +1,6 @@
-use Rattle.std.proofs.Common.{◌≡◌, ◌+◌, false, ap, sym, ◌∙◌, rules}
+use Rattle.std.proofs.Common.{◌≡◌, ◌+◌, false, ap, sym, ◌∙◌, arith, length, rules}
 use Rattle.std.specs.Prelude.{nat_lt}
+use Rattle.sctp_fragments.specs.Held.{bytes_of}
 use Rattle.sctp_fragments.specs.Interval.{as_held}
 use Rattle.sctp_reassembly.specs.Delivery.{OrderedStream, ordered_arrival}
 use Rattle.sctp_reassembly.proofs.DeliverLemmas.{arrives_settled, nothing_more}
@@ -30,3 +31,21 @@ pub returns-in_err-deliver-clause-err : goal.returns-in_err-deliver-clause-err
 returns-in_err-deliver-clause-err g c =
     let x = as_held (g.K.ReassemblyKey.number c.args.key) (g.K.ReassemblyKey.index c.args.key) c.args.fragment in
     on_err c.from_residual-in_err-deliver.result (arrived_in_part x c.args.self.now _ _ c.add_in.new.list c.args.ready.now c.deliver.new.ready c.self.view_is c.in_ok-is_turn.ensures.value c.in_err-deliver.ensures.err)
+
+pub returns-in_err-deliver-clause-bytes : goal.returns-in_err-deliver-clause-bytes
+returns-in_err-deliver-clause-bytes g c = omega (arith, c.in_ok-is_turn.ensures.bytes, c.deliver.ensures.bytes, ap (λ (s : OrderedStream). bytes_of s.held) c.self.view_is)
+
+pub returns-in_err-deliver-clause-fragments : goal.returns-in_err-deliver-clause-fragments
+returns-in_err-deliver-clause-fragments g c = omega (arith, c.in_ok-is_turn.ensures.fragments, c.deliver.ensures.fragments, ap (λ (s : OrderedStream). length s.held) c.self.view_is)
+
+pub returns-clause-bytes : goal.returns-clause-bytes
+returns-clause-bytes g c = omega (arith, c.in_ok-is_turn.ensures.bytes, c.deliver.ensures.bytes, ap (λ (s : OrderedStream). bytes_of s.held) c.self.view_is)
+
+pub returns-clause-fragments : goal.returns-clause-fragments
+returns-clause-fragments g c = omega (arith, c.in_ok-is_turn.ensures.fragments, c.deliver.ensures.fragments, ap (λ (s : OrderedStream). length s.held) c.self.view_is)
+
+pub returns-then-self-clause-bytes : goal.returns-then-self-clause-bytes
+returns-then-self-clause-bytes g c = omega (arith, c.in_ok-is_turn.ensures.bytes, ap (λ (s : OrderedStream). bytes_of s.held) c.self.view_is)
+
+pub returns-then-self-clause-fragments : goal.returns-then-self-clause-fragments
+returns-then-self-clause-fragments g c = omega (arith, c.in_ok-is_turn.ensures.fragments, ap (λ (s : OrderedStream). length s.held) c.self.view_is)
