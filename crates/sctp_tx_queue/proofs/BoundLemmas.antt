@@ -16,12 +16,15 @@ use Rattle.sctp_state.specs.declared.api.handover.HandoverOutgoingStream.{Handov
 use Rattle.sctp_tx_queue.specs.declared.send_queue.message.MessageNumbers.{MessageNumbers}
 use Rattle.sctp_tx_queue.specs.declared.send_queue.stream.ResetStep.{ResetStep}
 use Rattle.sctp_tx_queue.specs.declared.send_queue.stream.ResetStep.TheVariants.{Requested, Performed, Refused}
+use Rattle.sctp_tx_queue.specs.declared.send_queue.stream.StreamChange.{StreamChange}
+use Rattle.sctp_tx_queue.specs.declared.send_queue.stream.StreamChange.TheVariants.{Stale, Threshold, Priority, Discard, Prepare, Step, Restart, Empty}
 use Rattle.sctp_tx_queue.specs.SendQueue.{Queued, Stream, Entries, remaining_bytes, amount_of, total_of, blank_stream, push, has_nothing}
 use Rattle.sctp_tx_queue.specs.Produced.{is_stale, fresh, moved_front, move_past, ends, pause_if_pending}
 use Rattle.sctp_tx_queue.specs.Settings.{without_front}
 use Rattle.sctp_tx_queue.specs.Resets.{is_partly, after_step}
 use Rattle.sctp_tx_queue.specs.Restored.{entries_from}
-use Rattle.sctp_tx_queue.specs.Restarted.{whole_front, whole, restart}
+use Rattle.sctp_tx_queue.specs.Restarted.{whole_front, whole}
+use Rattle.sctp_tx_queue.specs.Change.{changed}
 use Rattle.sctp_tx_queue.specs.Bounded.{is_small, are_small, message_count, AreFew}
 use Rattle.sctp_tx_queue.proofs.StreamsLemmas.{total_written, amount_at_most}
 
@@ -268,10 +271,20 @@ few_first id es after w s m sorted is_after is_w none small room h =
     subst (λ (x : Entries). AreFew x) (sym is_after)
     (few_inserted id es w sorted (ap (list_all is_small) messages ∙ ap (λ b. b && true) small) (omega (arith, ap length messages, count_at_most es h, room)) h)
 
--- ---- a new association
+-- ---- a change of one stream
 
-pub restarted_fits : (id : ℕ) (es : Entries) (v : Stream) → Some v ≡ lookup (is_at (nat_cmp id)) es → AreFew es → total_of (set_value (is_at (nat_cmp id)) es (restart v)) < 2 ^ 64
-restarted_fits id es v at h = total_fits (set_value (is_at (nat_cmp id)) es (restart v)) (few_kept id es v (restart v) at (keeps_whole v.messages) h)
+pub keeps_changed : (change : StreamChange) (s : Stream) → Keeps s.messages (changed change s).messages
+keeps_changed (Stale now) s = keeps_fresh now s.messages
+keeps_changed (Threshold bytes) s = keeps_same s.messages
+keeps_changed (Priority priority) s = keeps_same s.messages
+keeps_changed (Discard message_id) s = keeps_without message_id.0 s.messages s refl
+keeps_changed Prepare s = keeps_partly s.messages
+keeps_changed (Step step) s = keeps_step step s
+keeps_changed Restart s = keeps_whole s.messages
+keeps_changed Empty s = keeps_none s.messages
 
-pub restarted_amount : (id : ℕ) (es : Entries) (v : Stream) → Some v ≡ lookup (is_at (nat_cmp id)) es → AreFew es → amount_of (restart v) < 2 ^ 64
-restarted_amount id es v at h = omega (arith, total_written id es v (restart v) at, amount_at_most id es v at, restarted_fits id es v at h)
+pub changed_fits : (id : ℕ) (change : StreamChange) (es : Entries) (v : Stream) → Some v ≡ lookup (is_at (nat_cmp id)) es → AreFew es → total_of (set_value (is_at (nat_cmp id)) es (changed change v)) < 2 ^ 64
+changed_fits id change es v at h = total_fits (set_value (is_at (nat_cmp id)) es (changed change v)) (few_kept id es v (changed change v) at (keeps_changed change v) h)
+
+pub changed_amount : (id : ℕ) (change : StreamChange) (es : Entries) (v : Stream) → Some v ≡ lookup (is_at (nat_cmp id)) es → AreFew es → amount_of (changed change v) < 2 ^ 64
+changed_amount id change es v at h = omega (arith, total_written id es v (changed change v) at, amount_at_most id es v at, changed_fits id change es v at h)

@@ -21,10 +21,6 @@ total_written id es v w at = sum_by-set_value amount_of (is_at (nat_cmp id)) es 
 pub amount_at_most : (id : ℕ) (es : Entries) (v : Stream) → Some v ≡ lookup (is_at (nat_cmp id)) es → amount_of v ≤ total_of es
 amount_at_most id es v at = omega (arith, total_written id es v (blank_stream 0 0) at)
 
--- a write of a stream with as many bytes
-pub total_kept : (id : ℕ) (es : Entries) (v w : Stream) → Some v ≡ lookup (is_at (nat_cmp id)) es → amount_of w ≡ amount_of v → total_of (set_value (is_at (nat_cmp id)) es w) ≡ total_of es
-total_kept id es v w at same = omega (arith, total_written id es v w at, same)
-
 pub total_opened : (id priority threshold : ℕ) (es : Entries) → IsStrictlySortedBy nat_cmp (keys_of es) → None ≡ lookup (is_at (nat_cmp id)) es → total_of (insert_entry nat_cmp es id (blank_stream priority threshold)) ≡ total_of es
 total_opened id priority threshold es sorted none =
     let sums = sum_by-insert_entry amount_of nat_cmp_total es id (blank_stream priority threshold) sorted in

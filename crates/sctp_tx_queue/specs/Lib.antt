@@ -1,6 +1,7 @@
 pub mod Again
 pub mod Begun
 pub mod Bounded
+pub mod Change
 pub mod Handover
 pub mod InOrder
 pub mod Emptied

@@ -25,6 +25,7 @@ ghost use Rattle.sctp_tx_queue.specs.Views.{produced_of, queued_of};
 
 mod emitting;
 pub mod message;
+pub mod messages;
 mod restoring;
 mod sending;
 pub mod stream;
@@ -33,15 +34,17 @@ pub mod streams;
 use crate::data_to_send::DataToSend;
 use emitting::{emit_expired, emit_if};
 use message::QueuedMessage;
+use sctp_chunk::SpareBuffers;
 use sctp_serial::{LifecycleId, Message, OutgoingMessageId, SocketTime, StreamId};
 use sctp_state::{
     Events, HandoverReadiness, Options, SendOptions, SocketEvent, SocketHandoverState,
 };
 use sctp_stream_scheduler::StreamScheduler;
+use sending::StreamTurn;
 use std::alloc::{AllocError, Global};
 use std::marker::Model;
-use stream::ResetStep;
-use streams::Streams;
+use stream::{ResetStep, StreamChange};
+use streams::{Demand, Streams};
 
 /// The messages of all streams that wait or are partly sent, and which of them goes next.
 #[derive(Drop)]
@@ -68,11 +71,10 @@ fn leave_line(
     scheduler: &mut StreamScheduler,
     events: &mut Events,
     id: StreamId,
-    bytes: usize,
-    priority: u16,
+    demand: Demand,
     lifecycle_id: Option<LifecycleId>,
 ) -> Result<(), AllocError>
-    ensures ok { OnOk result (scheduler.new ≡ set_bytes_remaining id.0 bytes priority scheduler.old) }
+    ensures ok { OnOk result (scheduler.new ≡ set_bytes_remaining id.0 demand.bytes demand.priority scheduler.old) }
     ensures emitted { OnOk result (events.new ≡ emit_events (expired_events lifecycle_id) events.old) }
     ensures err { OnErr result (scheduler.new ≡ scheduler.old) }
     ensures silent { OnErr result (events.new ≡ events.old) }
@@ -82,7 +84,10 @@ fn leave_line(
         events.roll_back(mark);
         return Err(AllocError);
     }
-    if scheduler.set_bytes_remaining(id, bytes, priority).is_err() {
+    if scheduler
+        .set_bytes_remaining(id, demand.bytes, demand.priority)
+        .is_err()
+    {
         events.roll_back(mark);
         return Err(AllocError);
     }
@@ -201,28 +206,27 @@ impl SendQueue {
             events.roll_back(mark);
             return Err(AllocError);
         }
-        self.streams.drop_stale(id, now);
+        self.streams.change(id, StreamChange::Stale(now));
         Ok(())
     }
 
     /// The next fragment of a stream. Without memory nothing changes.
     fn send_front(
         &mut self,
-        id: StreamId,
-        size: usize,
-        spares: &mut Vec<Vec<u8>>,
+        turn: StreamTurn,
+        spares: &mut SpareBuffers,
         events: &mut Events,
     ) -> Result<Option<DataToSend>, AllocError>
-        ensures queue { OnOk result (self.new ≡ (turn_from id.0 size self.old.streams self.old events.old).queue) }
-        ensures emitted { OnOk result (events.new ≡ (turn_from id.0 size self.old.streams self.old events.old).emitted) }
-        ensures made { IfOk result (λ found. option_map produced_of found ≡ (turn_from id.0 size self.old.streams self.old events.old).made) }
+        ensures queue { OnOk result (self.new ≡ (turn_from turn.id.0 turn.size self.old.streams self.old events.old).queue) }
+        ensures emitted { OnOk result (events.new ≡ (turn_from turn.id.0 turn.size self.old.streams self.old events.old).emitted) }
+        ensures made { IfOk result (λ found. option_map produced_of found ≡ (turn_from turn.id.0 turn.size self.old.streams self.old events.old).made) }
         ensures err { OnErr result (Same self.old events.old self.new events.new) }
     {
         let is_interleaved = self.scheduler.is_interleaved();
         let made = self
             .streams
-            .send_front(self.alloc, spares, id, size, &mut self.scheduler, events)?;
-        self.begun = begun_by(id, is_interleaved, &made);
+            .send_front(turn, spares, &mut self.scheduler, events)?;
+        self.begun = begun_by(turn.id, is_interleaved, &made);
         Ok(made)
     }
 
@@ -230,18 +234,17 @@ impl SendQueue {
     fn turn(
         &mut self,
         now: SocketTime,
-        id: StreamId,
-        size: usize,
-        spares: &mut Vec<Vec<u8>>,
+        next: StreamTurn,
+        spares: &mut SpareBuffers,
         events: &mut Events,
     ) -> Result<Option<DataToSend>, AllocError>
-        ensures queue { OnOk result (self.new ≡ (turn now id.0 size self.old events.old).queue) }
-        ensures emitted { OnOk result (events.new ≡ (turn now id.0 size self.old events.old).emitted) }
-        ensures made { IfOk result (λ found. option_map produced_of found ≡ (turn now id.0 size self.old events.old).made) }
-        ensures err { OnErr result (Stopped now id.0 self.old events.old self.new events.new) }
+        ensures queue { OnOk result (self.new ≡ (turn now next.id.0 next.size self.old events.old).queue) }
+        ensures emitted { OnOk result (events.new ≡ (turn now next.id.0 next.size self.old events.old).emitted) }
+        ensures made { IfOk result (λ found. option_map produced_of found ≡ (turn now next.id.0 next.size self.old events.old).made) }
+        ensures err { OnErr result (Stopped now next.id.0 self.old events.old self.new events.new) }
     {
-        self.drop_stale(now, id, events)?;
-        self.send_front(id, size, spares, events)
+        self.drop_stale(now, next.id, events)?;
+        self.send_front(next, spares, events)
     }
 
     /// Asks streams until one gives a fragment, or none is left.
@@ -249,7 +252,7 @@ impl SendQueue {
         &mut self,
         now: SocketTime,
         size: usize,
-        spares: &mut Vec<Vec<u8>>,
+        spares: &mut SpareBuffers,
         events: &mut Events,
     ) -> Result<Option<DataToSend>, AllocError>
         requires { 0 < size }
@@ -263,7 +266,9 @@ impl SendQueue {
             let Some(id) = self.next_stream() else {
                 return Ok(None);
             };
-            let made = self.turn(now, id, size, spares, events)?;
+            let alloc = self.alloc;
+            let next = StreamTurn { alloc, id, size };
+            let made = self.turn(now, next, spares, events)?;
             if let Some(made) = made {
                 return Ok(Some(made));
             }
@@ -291,7 +296,7 @@ impl SendQueue {
         ensures goes_on { IfOk result (λ found. GoesOn self.old (option_map produced_of found)) }
         ensures err { OnErr result (Interrupted now max_payload self.old events.old self.new events.new) }
     {
-        let mut spares = Vec::new(self.alloc);
+        let mut spares = SpareBuffers::new(self.alloc);
         self.produce_in(now, max_payload, &mut spares, events)
     }
 
@@ -300,7 +305,7 @@ impl SendQueue {
         &mut self,
         now: SocketTime,
         max_payload: usize,
-        spares: &mut Vec<Vec<u8>>,
+        spares: &mut SpareBuffers,
         events: &mut Events,
     ) -> Result<Option<DataToSend>, AllocError>
         requires { 0 < max_payload }
@@ -359,7 +364,7 @@ impl SendQueue {
             events.roll_back(mark);
             return Err(AllocError);
         }
-        self.streams.set_low_threshold(id, bytes);
+        self.streams.change(id, StreamChange::Threshold(bytes));
         Ok(())
     }
 
@@ -376,7 +381,7 @@ impl SendQueue {
         ensures err { OnErr result (self.new ≡ self.old) }
     {
         self.streams.open(self.alloc, id)?;
-        self.streams.set_priority(id, priority);
+        self.streams.change(id, StreamChange::Priority(priority));
         Ok(())
     }
 
@@ -407,21 +412,16 @@ impl SendQueue {
         ensures err { OnErr result (Same self.old events.old self.new events.new) }
     {
         let Some(discarded) = self.streams.front_discarded(id, message_id) else {
-            self.streams.discard(id, message_id);
+            self.streams.change(id, StreamChange::Discard(message_id));
             return Ok(());
         };
-        let bytes = self.streams.sendable_without(id, message_id);
-        let priority = self.streams.priority_without(id, message_id);
+        let demand = Demand {
+            bytes: self.streams.sendable_without(id, message_id),
+            priority: self.streams.priority_without(id, message_id),
+        };
         let lifecycle_id = discarded.lifecycle_id;
-        leave_line(
-            &mut self.scheduler,
-            events,
-            id,
-            bytes,
-            priority,
-            lifecycle_id,
-        )?;
-        self.streams.discard(id, message_id);
+        leave_line(&mut self.scheduler, events, id, demand, lifecycle_id)?;
+        self.streams.change(id, StreamChange::Discard(message_id));
         self.begun = begun_without(id, self.begun);
         Ok(())
     }
@@ -442,7 +442,7 @@ impl SendQueue {
         let bytes = self.streams.sendable_prepared(id);
         match self.emit_and_open(id, bytes, events) {
             Ok(()) => {
-                self.streams.prepare_reset(id);
+                self.streams.change(id, StreamChange::Prepare);
                 Ok(())
             }
             Err(_) => {
@@ -539,7 +539,7 @@ impl SendQueue {
         let bytes = self.streams.sendable_restarted(id);
         let priority = self.streams.priority_restarted(id);
         self.scheduler.set_bytes_remaining(id, bytes, priority)?;
-        self.streams.restart(id);
+        self.streams.change(id, StreamChange::Restart);
         self.begun = begun_without(id, self.begun);
         Ok(())
     }
@@ -575,7 +575,7 @@ impl SendQueue {
         ensures { self.new ≡ emptied_one id.0 self.old }
     {
         self.scheduler.leave(id);
-        self.streams.empty(id);
+        self.streams.change(id, StreamChange::Empty);
     }
 
     /// Whether a stream can be reset, and is in no request.
@@ -624,7 +624,7 @@ impl SendQueue {
         let bytes = self.streams.sendable_stepped(id, step);
         let priority = self.streams.priority_stepped(id, step);
         self.scheduler.set_bytes_remaining(id, bytes, priority)?;
-        self.streams.take_step(id, step);
+        self.streams.change(id, StreamChange::Step(step));
         Ok(())
     }
 
@@ -643,7 +643,8 @@ impl SendQueue {
         ensures { self.new ≡ apply_reset_step Requested id.0 self.old }
     {
         self.scheduler.leave(id);
-        self.streams.take_step(id, ResetStep::Requested);
+        self.streams
+            .change(id, StreamChange::Step(ResetStep::Requested));
     }
 
     fn request(&mut self, ids: &[StreamId])

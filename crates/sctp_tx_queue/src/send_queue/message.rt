@@ -16,7 +16,8 @@ ghost use Rattle.sctp_tx_queue.specs.Restarted.{whole};
 ghost use Rattle.sctp_tx_queue.specs.Views.{produced_of, queued_of};
 
 use crate::data_to_send::DataToSend;
-use sctp_chunk::Data;
+use crate::send_queue::sending::StreamTurn;
+use sctp_chunk::{Data, SpareBuffers};
 use sctp_serial::{
     Fsn, LifecycleId, Message, Mid, OutgoingMessageId, PpId, SerialNumber, SocketTime, Ssn,
     StreamId, StreamKey,
@@ -39,17 +40,17 @@ pub struct MessageNumbers {
 /// A message of the send queue.
 #[derive(Drop)]
 pub struct QueuedMessage {
-    message_id: OutgoingMessageId,
-    ppid: PpId,
     payload: Vec<u8>,
-    is_unordered: bool,
-    expires_at: Option<SocketTime>,
-    max_retransmissions: u16,
-    lifecycle_id: Option<LifecycleId>,
     // how much of the payload was sent
     offset: usize,
+    expires_at: Option<SocketTime>,
     numbers: Option<MessageNumbers>,
+    lifecycle_id: Option<LifecycleId>,
+    message_id: OutgoingMessageId,
+    ppid: PpId,
     next_fsn: Fsn,
+    max_retransmissions: u16,
+    is_unordered: bool,
 }
 
 impl Model for QueuedMessage {
@@ -119,27 +120,6 @@ fn numbers_from(mid: Option<u32>, ssn: Option<u16>) -> Option<MessageNumbers>
         }),
         None => None,
     }
-}
-
-/// A copy of the bytes, in the last of these buffers where it is neither too small nor over twice as large. One that is too
-/// small is let go.
-fn copied(alloc: Global, spares: &mut Vec<Vec<u8>>, bytes: &[u8]) -> Result<Vec<u8>, AllocError>
-    ensures { IfOk result (λ copy. copy.items ≡ bytes.now) }
-{
-    let Some(mut copy) = spares.pop() else {
-        return Vec::from_slice(alloc, bytes);
-    };
-    let capacity = copy.capacity();
-    if bytes.len() < capacity / 2 {
-        let _is_kept = spares.push(copy).is_ok();
-        return Vec::from_slice(alloc, bytes);
-    }
-    if capacity < bytes.len() {
-        return Vec::from_slice(alloc, bytes);
-    }
-    copy.clear();
-    copy.extend_from_slice(bytes)?;
-    Ok(copy)
 }
 
 impl QueuedMessage {
@@ -287,14 +267,14 @@ impl QueuedMessage {
     fn next_payload(
         &self,
         alloc: Global,
-        spares: &mut Vec<Vec<u8>>,
+        spares: &mut SpareBuffers,
         size: usize,
     ) -> Result<Vec<u8>, AllocError>
         ensures { IfOk result (λ bytes. bytes.items ≡ take size (drop self.now.offset self.now.payload)) }
     {
         let left = self.payload.len() - self.offset;
         let end = self.offset + left.min(size);
-        copied(alloc, spares, &self.payload[self.offset..end])
+        spares.copy(alloc, &self.payload[self.offset..end])
     }
 
     /// The lifecycle ends with the last fragment alone.
@@ -308,47 +288,44 @@ impl QueuedMessage {
         }
     }
 
-    /// The next fragment, of at most `size` bytes, under these numbers, with this payload.
+    /// The next fragment under these numbers, with this payload.
     fn fragment_with(
         &self,
-        id: StreamId,
+        turn: StreamTurn,
         numbers: MessageNumbers,
-        size: usize,
         payload: Vec<u8>,
     ) -> DataToSend
-        ensures { produced_of result ≡ with_payload payload.items (made_of id.0 size numbers self.now) }
+        ensures { produced_of result ≡ with_payload payload.items (made_of turn.id.0 turn.size numbers self.now) }
     {
         DataToSend {
             message_id: self.message_id,
             data: Data {
-                stream_key: stream_key(self.is_unordered, id),
+                stream_key: stream_key(self.is_unordered, turn.id),
                 ssn: Ssn::wrapped(Ssn(0), numbers.ssn),
                 mid: Mid::wrapped(Mid(0), numbers.mid),
                 fsn: self.next_fsn,
                 ppid: self.ppid,
                 payload,
                 is_beginning: self.offset == 0,
-                is_end: self.left() <= size,
+                is_end: self.left() <= turn.size,
             },
             max_retransmissions: self.max_retransmissions,
             expires_at: self.expires_at,
-            lifecycle_id: self.lifecycle_ended(size),
+            lifecycle_id: self.lifecycle_ended(turn.size),
         }
     }
 
-    /// The next fragment, of at most `size` bytes, under these numbers.
+    /// The next fragment under these numbers.
     pub(crate) fn fragment(
         &self,
-        alloc: Global,
-        spares: &mut Vec<Vec<u8>>,
-        id: StreamId,
+        turn: StreamTurn,
+        spares: &mut SpareBuffers,
         numbers: MessageNumbers,
-        size: usize,
     ) -> Result<DataToSend, AllocError>
-        ensures { IfOk result (λ made. produced_of made ≡ made_of id.0 size numbers self.now) }
+        ensures { IfOk result (λ made. produced_of made ≡ made_of turn.id.0 turn.size numbers self.now) }
     {
-        let payload = self.next_payload(alloc, spares, size)?;
-        Ok(self.fragment_with(id, numbers, size, payload))
+        let payload = self.next_payload(turn.alloc, spares, turn.size)?;
+        Ok(self.fragment_with(turn, numbers, payload))
     }
 
     /// Whether a fragment of this size is all of it.
@@ -359,17 +336,11 @@ impl QueuedMessage {
     }
 
     /// The fragment that is all of it, with its payload and not a copy.
-    pub(crate) fn into_fragment(
-        self,
-        alloc: Global,
-        id: StreamId,
-        numbers: MessageNumbers,
-        size: usize,
-    ) -> DataToSend
-        requires { IsTrue (is_whole size self) }
-        ensures { produced_of result ≡ made_of id.0 size numbers self }
+    pub(crate) fn into_fragment(self, turn: StreamTurn, numbers: MessageNumbers) -> DataToSend
+        requires { IsTrue (is_whole turn.size self) }
+        ensures { produced_of result ≡ made_of turn.id.0 turn.size numbers self }
     {
-        let mut made = self.fragment_with(id, numbers, size, Vec::new(alloc));
+        let mut made = self.fragment_with(turn, numbers, Vec::new(turn.alloc));
         made.data.payload = self.payload;
         made
     }

@@ -13,10 +13,26 @@ ghost use Rattle.sctp_tx_queue.specs.Views.{produced_of};
 use crate::data_to_send::DataToSend;
 use crate::send_queue::emitting::{Lows, emit_production};
 use crate::send_queue::stream::Stream;
+use sctp_chunk::SpareBuffers;
 use sctp_serial::{LifecycleId, StreamId};
 use sctp_state::Events;
 use sctp_stream_scheduler::StreamScheduler;
 use std::alloc::{AllocError, Global};
+
+/// The turn of a stream: its next fragment has at most `size` bytes.
+#[derive(Clone, Copy)]
+pub(crate) struct StreamTurn {
+    pub alloc: Global,
+    pub id: StreamId,
+    pub size: usize,
+}
+
+/// A turn, and whether the amount of all streams is low after it.
+#[derive(Clone, Copy)]
+pub(crate) struct CountedTurn {
+    pub turn: StreamTurn,
+    pub is_total_low: bool,
+}
 
 /// What a stream has to send after a fragment, and which amounts are low then.
 #[derive(Clone, Copy)]
@@ -82,47 +98,43 @@ fn go_in_line(
 
 /// The next fragment of a stream is a whole message, which leaves with its payload.
 fn send_whole(
-    alloc: Global,
-    id: StreamId,
-    size: usize,
-    is_total_low: bool,
+    counted: CountedTurn,
     stream: &mut Stream,
     scheduler: &mut StreamScheduler,
     events: &mut Events,
 ) -> Result<Option<DataToSend>, AllocError>
-    requires { IsTrue (is_front_whole size stream.old.messages) }
-    ensures sent { IfOk result (λ found. Sent id.0 size is_total_low (option_map produced_of found) stream.old scheduler.old events.old stream.new scheduler.new events.new) }
+    requires { IsTrue (is_front_whole counted.turn.size stream.old.messages) }
+    ensures sent { IfOk result (λ found. Sent counted.turn.id.0 counted.turn.size counted.is_total_low (option_map produced_of found) stream.old scheduler.old events.old stream.new scheduler.new events.new) }
     ensures err { OnErr result (Unsent stream.old scheduler.old events.old stream.new scheduler.new events.new) }
 {
-    let next = next_after(stream, size, is_total_low);
-    go_in_line(scheduler, events, id, next, stream.front_lifecycle())?;
-    Ok(stream.take_whole(alloc, id, size))
+    let turn = counted.turn;
+    let next = next_after(stream, turn.size, counted.is_total_low);
+    go_in_line(scheduler, events, turn.id, next, stream.front_lifecycle())?;
+    Ok(stream.take_whole(turn))
 }
 
 /// The next fragment of a stream is a part of a message, whose payload is copied, or there is none.
 fn send_part(
-    alloc: Global,
-    spares: &mut Vec<Vec<u8>>,
-    id: StreamId,
-    size: usize,
-    is_total_low: bool,
+    counted: CountedTurn,
+    spares: &mut SpareBuffers,
     stream: &mut Stream,
     scheduler: &mut StreamScheduler,
     events: &mut Events,
 ) -> Result<Option<DataToSend>, AllocError>
-    ensures sent { IfOk result (λ found. Sent id.0 size is_total_low (option_map produced_of found) stream.old scheduler.old events.old stream.new scheduler.new events.new) }
+    ensures sent { IfOk result (λ found. Sent counted.turn.id.0 counted.turn.size counted.is_total_low (option_map produced_of found) stream.old scheduler.old events.old stream.new scheduler.new events.new) }
     ensures err { OnErr result (Unsent stream.old scheduler.old events.old stream.new scheduler.new events.new) }
 {
-    match stream.fragment(alloc, spares, id, size)? {
+    let turn = counted.turn;
+    match stream.fragment(turn, spares)? {
         Some(made) => {
-            let next = next_after(stream, size, is_total_low);
-            go_in_line(scheduler, events, id, next, made.lifecycle_id)?;
-            stream.advance(size);
+            let next = next_after(stream, turn.size, counted.is_total_low);
+            go_in_line(scheduler, events, turn.id, next, made.lifecycle_id)?;
+            stream.advance(turn.size);
             Ok(Some(made))
         }
         None => {
-            scheduler.leave(id);
-            stream.advance(size);
+            scheduler.leave(turn.id);
+            stream.advance(turn.size);
             Ok(None)
         }
     }
@@ -131,30 +143,18 @@ fn send_part(
 /// A stream sends its next fragment, with its events, and goes in line for the one after it; one that has none leaves.
 /// Without memory nothing changes.
 pub(crate) fn send_from(
-    alloc: Global,
-    spares: &mut Vec<Vec<u8>>,
-    id: StreamId,
-    size: usize,
-    is_total_low: bool,
+    counted: CountedTurn,
+    spares: &mut SpareBuffers,
     stream: &mut Stream,
     scheduler: &mut StreamScheduler,
     events: &mut Events,
 ) -> Result<Option<DataToSend>, AllocError>
-    ensures sent { IfOk result (λ found. Sent id.0 size is_total_low (option_map produced_of found) stream.old scheduler.old events.old stream.new scheduler.new events.new) }
+    ensures sent { IfOk result (λ found. Sent counted.turn.id.0 counted.turn.size counted.is_total_low (option_map produced_of found) stream.old scheduler.old events.old stream.new scheduler.new events.new) }
     ensures err { OnErr result (Unsent stream.old scheduler.old events.old stream.new scheduler.new events.new) }
 {
-    if stream.is_next_whole(size) {
-        send_whole(alloc, id, size, is_total_low, stream, scheduler, events)
+    if stream.is_next_whole(counted.turn.size) {
+        send_whole(counted, stream, scheduler, events)
     } else {
-        send_part(
-            alloc,
-            spares,
-            id,
-            size,
-            is_total_low,
-            stream,
-            scheduler,
-            events,
-        )
+        send_part(counted, spares, stream, scheduler, events)
     }
 }

@@ -10,15 +10,16 @@ ghost use Rattle.sctp_state.specs.Events.{Grown};
 ghost use Rattle.sctp_state.specs.Options.{options_of};
 ghost use Rattle.sctp_state.specs.ThresholdWatcher.{crosses};
 ghost use Rattle.sctp_tx_queue.specs.SendQueue.{amount_of, total_of, watched_amount, no_streams, stream, with_stream, put_stream, push, sendable, has_nothing};
-ghost use Rattle.sctp_tx_queue.specs.Produced.{is_front_stale, emit_expired, streams_without_stale, streams_after, next_fragment, emitted_of, in_line};
-ghost use Rattle.sctp_tx_queue.specs.Settings.{with_threshold, with_priority, streams_discarded, front_discarded};
+ghost use Rattle.sctp_tx_queue.specs.Produced.{is_front_stale, emit_expired, streams_after, next_fragment, emitted_of, in_line};
+ghost use Rattle.sctp_tx_queue.specs.Settings.{with_threshold, streams_discarded, front_discarded};
 ghost use Rattle.sctp_tx_queue.specs.Resets.{is_ready, after_step, ready, prepare_stream, emit_unsent};
 ghost use Rattle.sctp_state.specs.Handover.{stream_message_of};
 ghost use Rattle.sctp_tx_queue.specs.Handover.{outgoing_streams, queued_messages};
 ghost use Rattle.sctp_tx_queue.specs.Readiness.{has_reset_pending};
 ghost use Rattle.sctp_tx_queue.specs.Bounded.{one};
+ghost use Rattle.sctp_tx_queue.specs.Change.{changed};
 ghost use Rattle.sctp_tx_queue.specs.Restarted.{restart};
-ghost use Rattle.sctp_tx_queue.specs.Emptied.{emptied, emit_all_ended};
+ghost use Rattle.sctp_tx_queue.specs.Emptied.{emit_all_ended};
 ghost use Rattle.sctp_state.specs.Validity.{are_valid_messages, queued_bytes, outgoing_ids, rises_from};
 ghost use Rattle.sctp_state.specs.Handover.{transmission_of};
 ghost use Rattle.sctp_tx_queue.specs.Restored.{entries_from, streams_from};
@@ -26,8 +27,10 @@ ghost use Rattle.sctp_tx_queue.specs.Views.{produced_of};
 
 use crate::data_to_send::DataToSend;
 use crate::send_queue::message::QueuedMessage;
-use crate::send_queue::sending::send_from;
-use crate::send_queue::stream::{Discarded, ResetStep, Stream};
+use crate::send_queue::messages::SpareRooms;
+use crate::send_queue::sending::{CountedTurn, StreamTurn, send_from};
+use crate::send_queue::stream::{Discarded, ResetStep, Stream, StreamChange};
+use sctp_chunk::SpareBuffers;
 use sctp_serial::{OutgoingMessageId, SocketTime, StreamId};
 use sctp_state::api::handover::{
     HandoverOutgoingStream, HandoverStreamMessage, HandoverTransmission,
@@ -47,6 +50,7 @@ pub struct Streams {
     ready_count: usize,
     default_threshold: usize,
     default_priority: u16,
+    spare_rooms: SpareRooms,
 }
 
 impl Model for Streams {
@@ -78,6 +82,7 @@ impl Streams {
             ready_count: 0,
             default_threshold: options.default_stream_buffered_amount_low_threshold,
             default_priority: options.default_stream_priority,
+            spare_rooms: SpareRooms::new(alloc),
         }
     }
 
@@ -114,6 +119,7 @@ impl Streams {
             ready_count: 0,
             default_threshold: self.default_threshold,
             default_priority: self.default_priority,
+            spare_rooms: SpareRooms::new(alloc),
         })
     }
 
@@ -167,7 +173,7 @@ impl Streams {
         if self.streams.contains_key(&id.0) {
             return Ok(());
         }
-        let stream = Stream::new(alloc, self.default_priority, self.default_threshold);
+        let stream = Stream::new(self.default_priority, self.default_threshold);
         self.streams.insert(id.0, stream)?;
         Ok(())
     }
@@ -187,7 +193,7 @@ impl Streams {
             return self.push_first(alloc, id, message);
         };
         let bytes = message.left();
-        stream.push(message)?;
+        stream.push(alloc, &mut self.spare_rooms, message)?;
         self.total.increase(bytes);
         Ok(())
     }
@@ -205,8 +211,8 @@ impl Streams {
         ensures err { OnErr result (self.new ≡ self.old) }
     {
         let bytes = message.left();
-        let mut stream = Stream::new(alloc, self.default_priority, self.default_threshold);
-        stream.push(message)?;
+        let mut stream = Stream::new(self.default_priority, self.default_threshold);
+        stream.push(alloc, &mut self.spare_rooms, message)?;
         self.streams.insert(id.0, stream)?;
         self.total.increase(bytes);
         Ok(())
@@ -255,59 +261,55 @@ impl Streams {
         }
     }
 
-    /// Drops these messages.
-    pub(crate) fn drop_stale(&mut self, id: StreamId, now: SocketTime)
-        ensures { self.new ≡ streams_without_stale now id.0 self.old }
-    {
-        let Some(stream) = self.streams.get_mut(&id.0) else {
-            return;
-        };
-        let before = stream.amount();
-        stream.drop_stale(now);
-        self.total.decrease(before - stream.amount());
-    }
-
     /// A stream sends its next fragment, of at most `size` bytes, with its events: the stream goes in line for the one after
     /// it; one that has none leaves. Without memory nothing changes.
     pub(crate) fn send_front(
         &mut self,
-        alloc: Global,
-        spares: &mut Vec<Vec<u8>>,
-        id: StreamId,
-        size: usize,
+        turn: StreamTurn,
+        spares: &mut SpareBuffers,
         scheduler: &mut StreamScheduler,
         events: &mut Events,
     ) -> Result<Option<DataToSend>, AllocError>
-        ensures streams { OnOk result (self.new ≡ streams_after id.0 size self.old) }
-        ensures line { OnOk result (scheduler.new ≡ in_line id.0 (sendable (stream id.0 (streams_after id.0 size self.old))) (stream id.0 (streams_after id.0 size self.old)).priority (next_fragment id.0 size (stream id.0 self.old)) scheduler.old) }
-        ensures emitted { OnOk result (events.new ≡ emitted_of id.0 size self.old events.old) }
-        ensures made { IfOk result (λ found. option_map produced_of found ≡ next_fragment id.0 size (stream id.0 self.old)) }
+        ensures streams { OnOk result (self.new ≡ streams_after turn.id.0 turn.size self.old) }
+        ensures line { OnOk result (scheduler.new ≡ in_line turn.id.0 (sendable (stream turn.id.0 (streams_after turn.id.0 turn.size self.old))) (stream turn.id.0 (streams_after turn.id.0 turn.size self.old)).priority (next_fragment turn.id.0 turn.size (stream turn.id.0 self.old)) scheduler.old) }
+        ensures emitted { OnOk result (events.new ≡ emitted_of turn.id.0 turn.size self.old events.old) }
+        ensures made { IfOk result (λ found. option_map produced_of found ≡ next_fragment turn.id.0 turn.size (stream turn.id.0 self.old)) }
         ensures err { OnErr result (self.new ≡ self.old) }
         ensures kept { OnErr result (scheduler.new ≡ scheduler.old) }
         ensures silent { OnErr result (events.new ≡ events.old) }
     {
         // (read for its bound: no more streams are ready)
         let _count = self.streams.len();
-        let Some(stream) = self.streams.get_mut(&id.0) else {
-            scheduler.leave(id);
+        let Some(stream) = self.streams.get_mut(&turn.id.0) else {
+            scheduler.leave(turn.id);
             return Ok(None);
         };
         let before = stream.amount();
         let was_ready = stream.is_ready();
-        let is_total_low = self.total.is_crossed_by(stream.fragment_size(size));
-        let made = send_from(
-            alloc,
-            spares,
-            id,
-            size,
-            is_total_low,
-            stream,
-            scheduler,
-            events,
-        )?;
+        let is_total_low = self.total.is_crossed_by(stream.fragment_size(turn.size));
+        let counted = CountedTurn { turn, is_total_low };
+        let made = send_from(counted, spares, stream, scheduler, events)?;
+        stream.leave_room_to(&mut self.spare_rooms);
         self.total.decrease(before - stream.amount());
         self.ready_count = ready_count_after(self.ready_count, was_ready, stream.is_ready());
         Ok(made)
+    }
+
+    /// Changes a stream, where it is there.
+    pub(crate) fn change(&mut self, id: StreamId, change: StreamChange)
+        ensures { self.new ≡ put_stream id.0 (changed change (stream id.0 self.old)) self.old }
+    {
+        // (read for its bound: no more streams are ready)
+        let _count = self.streams.len();
+        let Some(stream) = self.streams.get_mut(&id.0) else {
+            return;
+        };
+        let before = stream.amount();
+        let was_ready = stream.is_ready();
+        stream.change(change);
+        self.total.decrease(before);
+        self.total.increase(stream.amount());
+        self.ready_count = ready_count_after(self.ready_count, was_ready, stream.is_ready());
     }
 
     pub(crate) fn low_threshold(&self, id: StreamId) -> usize
@@ -327,25 +329,6 @@ impl Streams {
             Some(stream) => stream.is_low_at(bytes),
             None => false,
         }
-    }
-
-    /// Sets a stream's threshold.
-    pub(crate) fn set_low_threshold(&mut self, id: StreamId, bytes: usize)
-        ensures { self.new ≡ put_stream id.0 (with_threshold bytes (stream id.0 self.old)) self.old }
-    {
-        let Some(stream) = self.streams.get_mut(&id.0) else {
-            return;
-        };
-        stream.set_low_threshold(bytes);
-    }
-
-    pub(crate) fn set_priority(&mut self, id: StreamId, priority: u16)
-        ensures { self.new ≡ put_stream id.0 (with_priority priority (stream id.0 self.old)) self.old }
-    {
-        let Some(stream) = self.streams.get_mut(&id.0) else {
-            return;
-        };
-        stream.set_priority(priority);
     }
 
     /// The lifecycle id of the message at the front of a stream, if it is this one.
@@ -379,22 +362,6 @@ impl Streams {
         }
     }
 
-    /// Drops the message at the front of a stream, if it is this one.
-    pub(crate) fn discard(&mut self, id: StreamId, message_id: OutgoingMessageId)
-        ensures { self.new ≡ streams_discarded id.0 message_id.0 self.old }
-    {
-        // (read for its bound: no more streams are ready)
-        let _count = self.streams.len();
-        let Some(stream) = self.streams.get_mut(&id.0) else {
-            return;
-        };
-        let before = stream.amount();
-        let was_ready = stream.is_ready();
-        stream.discard(message_id);
-        self.total.decrease(before - stream.amount());
-        self.ready_count = ready_count_after(self.ready_count, was_ready, stream.is_ready());
-    }
-
     /// Emits of the messages of a stream of which nothing is sent that they are given up.
     pub(crate) fn emit_waiting(&self, id: StreamId, events: &mut Events) -> Result<(), AllocError>
         ensures ok { OnOk result (events.new ≡ emit_unsent (stream id.0 self.now).messages events.old) }
@@ -417,22 +384,6 @@ impl Streams {
         }
     }
 
-    /// Drops the messages of a stream of which nothing is sent.
-    pub(crate) fn prepare_reset(&mut self, id: StreamId)
-        ensures { self.new ≡ put_stream id.0 (prepare_stream (stream id.0 self.old)) self.old }
-    {
-        // (read for its bound: no more streams are ready)
-        let _count = self.streams.len();
-        let Some(stream) = self.streams.get_mut(&id.0) else {
-            return;
-        };
-        let before = stream.amount();
-        let was_ready = stream.is_ready();
-        stream.prepare_reset();
-        self.total.decrease(before - stream.amount());
-        self.ready_count = ready_count_after(self.ready_count, was_ready, stream.is_ready());
-    }
-
     /// The bytes that a stream has to send after a step of its reset.
     pub(crate) fn sendable_stepped(&self, id: StreamId, step: ResetStep) -> usize
         ensures { result ≡ sendable (stream id.0 (put_stream id.0 (after_step step (stream id.0 self.now)) self.now)) }
@@ -448,20 +399,6 @@ impl Streams {
         ensures { result ≡ (stream id.0 (put_stream id.0 (after_step _step (stream id.0 self.now)) self.now)).priority }
     {
         self.priority(id)
-    }
-
-    /// Takes a step of a stream's reset.
-    pub(crate) fn take_step(&mut self, id: StreamId, step: ResetStep)
-        ensures { self.new ≡ put_stream id.0 (after_step step (stream id.0 self.old)) self.old }
-    {
-        // (read for its bound: no more streams are ready)
-        let _count = self.streams.len();
-        let Some(stream) = self.streams.get_mut(&id.0) else {
-            return;
-        };
-        let was_ready = stream.is_ready();
-        stream.take_step(step);
-        self.ready_count = ready_count_after(self.ready_count, was_ready, stream.is_ready());
     }
 
     /// The bytes that a stream has to send once a new association begins.
@@ -481,22 +418,6 @@ impl Streams {
         self.priority(id)
     }
 
-    /// A new association begins for a stream.
-    pub(crate) fn restart(&mut self, id: StreamId)
-        ensures { self.new ≡ put_stream id.0 (restart (stream id.0 self.old)) self.old }
-    {
-        // (read for its bound: no more streams are ready)
-        let _count = self.streams.len();
-        let Some(stream) = self.streams.get_mut(&id.0) else {
-            return;
-        };
-        let before = stream.amount();
-        let was_ready = stream.is_ready();
-        stream.restart();
-        self.total.increase(stream.amount() - before);
-        self.ready_count = ready_count_after(self.ready_count, was_ready, stream.is_ready());
-    }
-
     /// Emits of all messages that they are given up, as their association ended.
     pub(crate) fn emit_ended(&self, events: &mut Events) -> Result<(), AllocError>
         ensures ok { OnOk result (events.new ≡ emit_all_ended (values_of self.now.entries) events.old) }
@@ -506,17 +427,6 @@ impl Streams {
         // (read for its clause: the ids ascend)
         let _count = self.streams.len();
         emit_each_ended(&self.streams, events)
-    }
-
-    /// Drops all messages of a stream.
-    pub(crate) fn empty(&mut self, id: StreamId)
-        ensures { self.new ≡ put_stream id.0 (emptied (stream id.0 self.old)) self.old }
-    {
-        let Some(stream) = self.streams.get_mut(&id.0) else {
-            return;
-        };
-        self.total.decrease(stream.amount());
-        stream.empty();
     }
 
     /// The streams in the record of a socket that is handed over.
@@ -657,7 +567,7 @@ fn restored_streams(
 {
     let mut streams = BTreeMap::new(alloc);
     for stream in records {
-        let restored = Stream::restored(alloc, low_threshold, stream);
+        let restored = Stream::restored(low_threshold, stream);
         streams.insert(stream.id, restored)?;
     }
     Ok(streams)

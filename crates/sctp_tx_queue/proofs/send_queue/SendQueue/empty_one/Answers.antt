@@ -11,6 +11,6 @@ returns c =
     let id = c.args.id.0 in
     let queue : Streams → Scheduler → Queue = λ ss sch. record { streams = ss; scheduler = sch; next_number = c.self.inside.next_message_id.0; begun = option_map (λ i. i.0) c.self.inside.begun } in
     let after : Streams = put_stream id (emptied (stream id c.self.inside.streams)) c.self.inside.streams in
-    ap (λ ss. queue ss c.leave.new.self) c.empty.ensures
+    ap (λ ss. queue ss c.leave.new.self) c.change.ensures
     ∙ ap (λ sch. queue after sch) (c.leave.ensures ∙ sym (ap (λ n. set_bytes_remaining id n (stream id after).priority c.self.inside.scheduler) (emptied_sendable id c.self.inside.streams)))
     ∙ ap (λ q. emptied_one id q) c.self.view_is

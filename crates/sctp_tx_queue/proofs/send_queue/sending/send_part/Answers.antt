@@ -11,10 +11,10 @@ use Rattle.sctp_tx_queue.proofs.send_queue.sending.send_part.Goals as goal
 pub returns-in_ok-go_in_line-in-Some-clause-sent : goal.returns-in_ok-go_in_line-in-Some-clause-sent
 returns-in_ok-go_in_line-in-Some-clause-sent c =
     let s = c.args.stream.now in
-    let id = c.args.id.0 in
+    let id = c.args.counted.turn.id.0 in
     let sch = accept id c.args.scheduler.now in
     let next = c.next_after-next in
-    let low = crosses (watched_amount s) (watched_amount (advance c.args.size s)) in
+    let low = crosses (watched_amount s) (watched_amount (advance c.args.counted.turn.size s)) in
     let made = ap (λ o. option_map produced_of o) (sym c.in-Some.is) ∙ c.in_ok-made.ensures in
     record {
       made = made;
@@ -22,12 +22,12 @@ returns-in_ok-go_in_line-in-Some-clause-sent c =
       scheduler =
           c.in_ok-go_in_line-in-Some.ensures.ok
           ∙ ap (λ b. set_bytes_remaining id b next.result.priority sch) next.ensures.bytes
-          ∙ ap (λ p. set_bytes_remaining id (sendable (advance c.args.size s)) p sch) next.ensures.priority
-          ∙ ap (λ o. in_line id (sendable (advance c.args.size s)) s.priority o c.args.scheduler.now) made;
+          ∙ ap (λ p. set_bytes_remaining id (sendable (advance c.args.counted.turn.size s)) p sch) next.ensures.priority
+          ∙ ap (λ o. in_line id (sendable (advance c.args.counted.turn.size s)) s.priority o c.args.scheduler.now) made;
       emitted =
           c.in_ok-go_in_line-in-Some.ensures.emitted
           ∙ ap (λ b. emit_events (production id b next.result.lows.is_total_low c.in-Some.made.lifecycle_id) c.args.events.now) next.ensures.low
           ∙ ap (λ b. emit_events (production id low b c.in-Some.made.lifecycle_id) c.args.events.now) next.ensures.total
-          ∙ ap (λ o. emitted_made id low c.args.is_total_low o c.args.events.now) made;
+          ∙ ap (λ o. emitted_made id low c.args.counted.is_total_low o c.args.events.now) made;
       less = c.advance.ensures.less;
     }

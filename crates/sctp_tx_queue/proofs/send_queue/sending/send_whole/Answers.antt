@@ -11,8 +11,8 @@ use Rattle.sctp_tx_queue.proofs.send_queue.sending.send_whole.Goals as goal
 pub returns-clause-sent : goal.returns-clause-sent
 returns-clause-sent c =
     let s = c.args.stream.now in
-    let id = c.args.id.0 in
-    let size = c.args.size in
+    let id = c.args.counted.turn.id.0 in
+    let size = c.args.counted.turn.size in
     let sch = accept id c.args.scheduler.now in
     let next = c.next_after-next in
     let low = crosses (watched_amount s) (watched_amount (advance size s)) in
@@ -30,6 +30,6 @@ returns-clause-sent c =
           ∙ ap (λ l. emit_events (production id next.result.lows.is_low next.result.lows.is_total_low l) c.args.events.now) c.front_lifecycle.ensures
           ∙ ap (λ b. emit_events (production id b next.result.lows.is_total_low lifecycle) c.args.events.now) next.ensures.low
           ∙ ap (λ b. emit_events (production id low b lifecycle) c.args.events.now) next.ensures.total
-          ∙ whole_emitted id size low c.args.is_total_low (front_numbers s.messages s) s.messages c.args.events.now c.requires;
+          ∙ whole_emitted id size low c.args.counted.is_total_low (front_numbers s.messages s) s.messages c.args.events.now c.requires;
       less = c.take_whole.ensures.less;
     }

@@ -7,6 +7,6 @@ use Rattle.sctp_tx_queue.proofs.send_queue.message.QueuedMessage.into_fragment.G
 
 pub returns : goal.returns
 returns c =
-    let made = made_of c.args.id.0 c.args.size c.args.numbers c.args.self in
-    let payload = ap (λ (m : Queued). m.payload) c.self.view_is ∙ whole_payload c.args.size c.args.self c.requires in
+    let made = made_of c.args.turn.id.0 c.args.turn.size c.args.numbers c.args.self in
+    let payload = ap (λ (m : Queued). m.payload) c.self.view_is ∙ whole_payload c.args.turn.size c.args.self c.requires in
     ap (λ p. with_payload c.self.inside.payload.items p) c.fragment_with-made.ensures ∙ ap (λ bytes. with_payload bytes made) payload

@@ -17,27 +17,27 @@ pub returns-in_default-clause-streams : goal.returns-in_default-clause-streams
 returns-in_default-clause-streams c =
     let view : Entries → Streams = λ es. record { entries = es; total_threshold = c.self.inside.total.low_threshold; default_threshold = c.self.inside.default_threshold; default_priority = c.self.inside.default_priority } in
     ap view (ap (λ m. m.entries) c.get_mut.follows.holds-at-none) ∙ c.self.view_is
-    ∙ sym (put_nowhere c.args.id.0 _ c.args.self.now (c.in_default.ensures.value ∙ ap (λ ss. lookup (is_at (nat_cmp c.args.id.0)) ss.entries) c.self.view_is))
+    ∙ sym (put_nowhere c.args.turn.id.0 _ c.args.self.now (c.in_default.ensures.value ∙ ap (λ ss. lookup (is_at (nat_cmp c.args.turn.id.0)) ss.entries) c.self.view_is))
 
 pub returns-in_default-clause-line : goal.returns-in_default-clause-line
 returns-in_default-clause-line c =
-    let id = c.args.id.0 in
+    let id = c.args.turn.id.0 in
     let ss = c.args.self.now in
     let none = c.in_default.ensures.value ∙ ap (λ x. lookup (is_at (nat_cmp id)) x.entries) c.self.view_is in
-    let after = stream id (streams_after id c.args.size ss) in
-    c.leave.ensures ∙ ap (λ o. in_line id (sendable after) after.priority o c.args.scheduler.now) (none_made id c.args.size ss none)
+    let after = stream id (streams_after id c.args.turn.size ss) in
+    c.leave.ensures ∙ ap (λ o. in_line id (sendable after) after.priority o c.args.scheduler.now) (none_made id c.args.turn.size ss none)
 
 pub returns-in_default-clause-emitted : goal.returns-in_default-clause-emitted
 returns-in_default-clause-emitted c =
-    let id = c.args.id.0 in
+    let id = c.args.turn.id.0 in
     let ss = c.args.self.now in
     let none = c.in_default.ensures.value ∙ ap (λ x. lookup (is_at (nat_cmp id)) x.entries) c.self.view_is in
     let s = stream id ss in
-    ap (λ o. emitted_made id (crosses (watched_amount s) (watched_amount (advance c.args.size s))) (crosses (watched_total ss) (watched_total (streams_after id c.args.size ss))) o c.args.events.now) (none_made id c.args.size ss none)
+    ap (λ o. emitted_made id (crosses (watched_amount s) (watched_amount (advance c.args.turn.size s))) (crosses (watched_total ss) (watched_total (streams_after id c.args.turn.size ss))) o c.args.events.now) (none_made id c.args.turn.size ss none)
 
 pub returns-in_default-clause-made : goal.returns-in_default-clause-made
 returns-in_default-clause-made c =
-    none_made c.args.id.0 c.args.size c.args.self.now (c.in_default.ensures.value ∙ ap (λ x. lookup (is_at (nat_cmp c.args.id.0)) x.entries) c.self.view_is)
+    none_made c.args.turn.id.0 c.args.turn.size c.args.self.now (c.in_default.ensures.value ∙ ap (λ x. lookup (is_at (nat_cmp c.args.turn.id.0)) x.entries) c.self.view_is)
 
 pub invariant_of-self-in_err-made : goal.invariant_of-self-in_err-made
 invariant_of-self-in_err-made c =
@@ -45,37 +45,38 @@ invariant_of-self-in_err-made c =
     let w = c.send_from.new.stream in
     let entries = c.self.inside.streams.entries in
     let written = (c.get_mut.follows.holds w).0 in
-    let sums = total_written c.args.id.0 entries v w c.in-Some.ensures.value in
+    let sums = total_written c.args.turn.id.0 entries v w c.in-Some.ensures.value in
     record {
       counted = omega (arith, ap total_of written, sums, ap amount_of c.in_err-made.ensures.err.stream, c.self.invariant.counted);
-      few = few_changed c.args.id.0 entries _ v w v c.in-Some.ensures.value written c.in_err-made.ensures.err.stream (keeps_same v.messages) c.self.invariant.few;
-      ready = c.self.invariant.ready ∙ ready_kept c.args.id.0 entries _ v w c.in-Some.ensures.value written (ap (λ (t : Stream). t.pause) c.in_err-made.ensures.err.stream);
+      few = few_changed c.args.turn.id.0 entries _ v w v c.in-Some.ensures.value written c.in_err-made.ensures.err.stream (keeps_same v.messages) c.self.invariant.few;
+      ready = c.self.invariant.ready ∙ ready_kept c.args.turn.id.0 entries _ v w c.in-Some.ensures.value written (ap (λ (t : Stream). t.pause) c.in_err-made.ensures.err.stream);
     }
 
 pub returns-in_err-made-clause-err : goal.returns-in_err-made-clause-err
 returns-in_err-made-clause-err c =
     let view : Entries → Streams = λ es. record { entries = es; total_threshold = c.self.inside.total.low_threshold; default_threshold = c.self.inside.default_threshold; default_priority = c.self.inside.default_priority } in
     let entries = c.self.inside.streams.entries in
-    let same = (c.get_mut.follows.holds c.send_from.new.stream).0 ∙ ap (λ w. set_value (is_at (nat_cmp c.args.id.0)) entries w) c.in_err-made.ensures.err.stream ∙ written_same (is_at (nat_cmp c.args.id.0)) c.in-Some.stream.now entries c.in-Some.ensures.value in
+    let same = (c.get_mut.follows.holds c.send_from.new.stream).0 ∙ ap (λ w. set_value (is_at (nat_cmp c.args.turn.id.0)) entries w) c.in_err-made.ensures.err.stream ∙ written_same (is_at (nat_cmp c.args.turn.id.0)) c.in-Some.stream.now entries c.in-Some.ensures.value in
     let all = ap view same ∙ c.self.view_is in
     search (rules, all)
 
 pub invariant_of-self-2 : goal.invariant_of-self-2
 invariant_of-self-2 c =
     let v = c.in-Some.stream.now in
-    let w = c.send_from.new.stream in
+    let w = c.leave_room_to.new.self in
+    let after = c.leave_room_to.ensures ∙ c.in_ok-made.ensures.sent.stream in
     let entries = c.self.inside.streams.entries in
     let written = (c.get_mut.follows.holds w).0 in
-    let sums = total_written c.args.id.0 entries v w c.in-Some.ensures.value in
-    let most = amount_at_most c.args.id.0 entries v c.in-Some.ensures.value in
+    let sums = total_written c.args.turn.id.0 entries v w c.in-Some.ensures.value in
+    let most = amount_at_most c.args.turn.id.0 entries v c.in-Some.ensures.value in
     record {
-      counted = omega (arith, ap total_of written, sums, most, c.amount-before.ensures, c.amount.ensures, c.in_ok-made.ensures.sent.less, c.self.invariant.counted, ap (λ w. w.amount) c.decrease.ensures.after);
-      few = few_changed c.args.id.0 entries _ v w (advance c.args.size v) c.in-Some.ensures.value written c.in_ok-made.ensures.sent.stream (keeps_moved c.args.size (front_numbers v.messages v) v.messages) c.self.invariant.few;
-      ready = ready_changed c.args.id.0 c.self.inside.ready_count _ _ _ entries _ v w c.in-Some.ensures.value written c.is_ready-was_ready.ensures c.is_ready.ensures c.self.invariant.ready c.ready_count_after-self-inside.ensures;
+      counted = omega (arith, ap total_of written, sums, most, c.amount-before.ensures, c.amount.ensures, ap amount_of c.leave_room_to.ensures, c.in_ok-made.ensures.sent.less, c.self.invariant.counted, ap (λ w. w.amount) c.decrease.ensures.after);
+      few = few_changed c.args.turn.id.0 entries _ v w (advance c.args.turn.size v) c.in-Some.ensures.value written after (keeps_moved c.args.turn.size (front_numbers v.messages v) v.messages) c.self.invariant.few;
+      ready = ready_changed c.args.turn.id.0 c.self.inside.ready_count _ _ _ entries _ v w c.in-Some.ensures.value written c.is_ready-was_ready.ensures c.is_ready.ensures c.self.invariant.ready c.ready_count_after-self-inside.ensures;
     }
 
 pub ready_count_after-self-inside-requires-clause-least : goal.ready_count_after-self-inside-requires-clause-least
-ready_count_after-self-inside-requires-clause-least c = omega (arith, ap one c.is_ready-was_ready.ensures, ready_least c.args.id.0 c.self.inside.streams.entries c.in-Some.stream.now c.in-Some.ensures.value, c.self.invariant.ready)
+ready_count_after-self-inside-requires-clause-least c = omega (arith, ap one c.is_ready-was_ready.ensures, ready_least c.args.turn.id.0 c.self.inside.streams.entries c.in-Some.stream.now c.in-Some.ensures.value, c.self.invariant.ready)
 
 pub ready_count_after-self-inside-requires-clause-most : goal.ready_count_after-self-inside-requires-clause-most
 ready_count_after-self-inside-requires-clause-most c = omega (arith, c.self.invariant.ready, ready_most c.self.inside.streams.entries, c.len-count.ensures.len, c.len-count.ensures.small)
@@ -83,13 +84,13 @@ ready_count_after-self-inside-requires-clause-most c = omega (arith, c.self.inva
 pub returns-clause-line : goal.returns-clause-line
 returns-clause-line c =
     let ss = c.args.self.now in
-    let at = c.in-Some.ensures.value ∙ ap (λ x. lookup (is_at (nat_cmp c.args.id.0)) x.entries) c.self.view_is in
-    c.in_ok-made.ensures.sent.scheduler ∙ sent_line c.args.id.0 c.args.size c.in-Some.stream.now ss c.args.scheduler.now at
+    let at = c.in-Some.ensures.value ∙ ap (λ x. lookup (is_at (nat_cmp c.args.turn.id.0)) x.entries) c.self.view_is in
+    c.in_ok-made.ensures.sent.scheduler ∙ sent_line c.args.turn.id.0 c.args.turn.size c.in-Some.stream.now ss c.args.scheduler.now at
 
 pub returns-clause-emitted : goal.returns-clause-emitted
 returns-clause-emitted c =
-    let id = c.args.id.0 in
-    let size = c.args.size in
+    let id = c.args.turn.id.0 in
+    let size = c.args.turn.size in
     let ss = c.args.self.now in
     let v = c.in-Some.stream.now in
     let total = c.self.inside.total in
@@ -108,5 +109,5 @@ returns-clause-emitted c =
 pub returns-clause-made : goal.returns-clause-made
 returns-clause-made c =
     let ss = c.args.self.now in
-    let at = c.in-Some.ensures.value ∙ ap (λ x. lookup (is_at (nat_cmp c.args.id.0)) x.entries) c.self.view_is in
-    c.in_ok-made.ensures.sent.made ∙ ap (λ (t : Stream). next_fragment c.args.id.0 c.args.size t) (sym (stream_there c.args.id.0 c.in-Some.stream.now ss at))
+    let at = c.in-Some.ensures.value ∙ ap (λ x. lookup (is_at (nat_cmp c.args.turn.id.0)) x.entries) c.self.view_is in
+    c.in_ok-made.ensures.sent.made ∙ ap (λ (t : Stream). next_fragment c.args.turn.id.0 c.args.turn.size t) (sym (stream_there c.args.turn.id.0 c.in-Some.stream.now ss at))

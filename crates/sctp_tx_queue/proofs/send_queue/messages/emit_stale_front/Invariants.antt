@@ -2,7 +2,7 @@ use Rattle.std.proofs.Common.{◌≡◌}
 use Rattle.std.specs.VecDeque.Iter.{deque_iter_rest}
 use Rattle.sctp_state.specs.Events.{Grown}
 use Rattle.sctp_tx_queue.specs.Produced.{emit_expired}
-use Rattle.sctp_tx_queue.proofs.send_queue.stream.emit_stale_front.Given as goal
+use Rattle.sctp_tx_queue.proofs.send_queue.messages.emit_stale_front.Given as goal
 
 abbrev pub invariant-loop-message : goal.invariant-loop-message
 invariant-loop-message l = record {

@@ -3,7 +3,7 @@ use Rattle.std.proofs.lemmas.Fn.{filter_same}
 use Rattle.sctp_tx_queue.specs.SendQueue.{remaining_bytes}
 use Rattle.sctp_tx_queue.specs.Resets.{is_partly}
 use Rattle.sctp_tx_queue.proofs.ResetLemmas.{partly_le}
-use Rattle.sctp_tx_queue.proofs.send_queue.stream.keep_partly_sent.Goals as goal
+use Rattle.sctp_tx_queue.proofs.send_queue.messages.keep_partly_sent.Goals as goal
 
 pub bytes_left-bytes-requires : goal.bytes_left-bytes-requires
 bytes_left-bytes-requires c =

@@ -1,7 +1,7 @@
 use Rattle.std.proofs.Common.{◌≡◌, ◌≤◌, length, sum_by}
 use Rattle.sctp_tx_queue.specs.SendQueue.{remaining_bytes}
 use Rattle.sctp_tx_queue.specs.Produced.{fresh}
-use Rattle.sctp_tx_queue.proofs.send_queue.stream.drop_stale_front.Given as goal
+use Rattle.sctp_tx_queue.proofs.send_queue.messages.drop_stale_front.Given as goal
 
 abbrev pub invariant-loop-now : goal.invariant-loop-now
 invariant-loop-now l = record {
