@@ -5,7 +5,7 @@ ghost use Rattle.sctp_chunk.specs.Chunk.{FragmentTree};
 ghost use Rattle.sctp_chunk.specs.Views.{fragment_tree};
 
 use sctp_packet::Data;
-use sctp_serial::Tsn;
+use sctp_serial::{SocketTime, Tsn};
 use sctp_tx_outstanding::item::copy_of;
 use std::alloc::{AllocError, Global};
 use std::marker::Model;
@@ -17,6 +17,30 @@ pub struct ChunkForm {
     pub is_interleaved: bool,
     /// With the request to acknowledge at once (RFC 7053).
     pub is_immediate: bool,
+}
+
+/// An opportunity to send: a packet is to be filled.
+#[derive(Clone, Copy, Debug)]
+pub struct SendOpportunity {
+    /// The moment at which the packet goes.
+    pub now: SocketTime,
+    /// The bytes of chunks that it has room for.
+    pub max_bytes: usize,
+    /// How it carries fragments.
+    pub form: ChunkForm,
+}
+
+impl SendOpportunity {
+    /// A packet goes now, with room for so many bytes of chunks, and carries fragments in this form.
+    pub fn at(now: SocketTime, max_bytes: usize, form: ChunkForm) -> SendOpportunity
+        ensures { result ≡ record { now = now; max_bytes = max_bytes; form = form } }
+    {
+        SendOpportunity {
+            now,
+            max_bytes,
+            form,
+        }
+    }
 }
 
 /// What takes fragments one after the other, as a packet does. It borrows them: each is kept until it is acknowledged.

@@ -5,7 +5,7 @@ pub mod fragments;
 pub mod laws;
 pub mod retransmission_queue;
 
-pub use fragments::{ChunkForm, FragmentList, TakesFragments};
+pub use fragments::{ChunkForm, FragmentList, SendOpportunity, TakesFragments};
 pub use retransmission_queue::{HandleSackResult, RetransmissionQueue};
 pub use sctp_tx_outstanding::{AckInfo, Item, OutstandingData};
 pub use sctp_tx_queue::{DataToSend, SendQueue};

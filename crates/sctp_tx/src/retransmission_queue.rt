@@ -26,12 +26,13 @@ mod congestion_control;
 mod handover;
 mod windows;
 
-use crate::fragments::{ChunkForm, FragmentList, TakesFragments};
+use crate::fragments::{ChunkForm, FragmentList, SendOpportunity, TakesFragments};
+use sctp_chunk::SpareBuffers;
 use sctp_packet::{COMMON_HEADER_SIZE, Chunk, Data, SackChunk};
 use sctp_serial::{SocketTime, Tsn};
 use sctp_state::{BackoffAlgorithm, Events, Options, Timer};
 use sctp_tx_outstanding::item::{chunk_size, header_size};
-use sctp_tx_outstanding::{AckInfo, OutstandingData};
+use sctp_tx_outstanding::{AckInfo, Item, OutstandingData};
 use sctp_tx_queue::{DataToSend, SendQueue};
 use std::alloc::{AllocError, Global};
 use std::marker::Model;
@@ -51,6 +52,17 @@ pub enum HandleSackResult {
     },
 }
 
+// What a SACK's cumulative TSN meets.
+#[derive(Clone, Copy)]
+struct CumulativeAck {
+    // the TSN, unwrapped
+    number: u64,
+    // whether it acknowledges more than the last one
+    moved: bool,
+    // the bytes of the chunks that were unacknowledged
+    before: usize,
+}
+
 /// The fragments that have their TSN, the windows that let more go, and the timer t3-rtx.
 #[derive(Drop)]
 pub struct RetransmissionQueue {
@@ -61,7 +73,7 @@ pub struct RetransmissionQueue {
     rtx_packets_count: usize,
     rtx_bytes_count: u64,
     /// Buffers of payloads that were acknowledged, for the next ones, while something is outstanding.
-    spares: Vec<Vec<u8>>,
+    spares: SpareBuffers,
 }
 
 impl Model for RetransmissionQueue {
@@ -102,7 +114,7 @@ impl RetransmissionQueue {
             ),
             rtx_packets_count: 0,
             rtx_bytes_count: 0,
-            spares: Vec::new(alloc),
+            spares: SpareBuffers::new(alloc),
         }
     }
 
@@ -208,11 +220,10 @@ impl RetransmissionQueue {
         ensures err { let n = number_of self.old.outstanding sack.now.cumulative_tsn_ack.0 in let blocks = sack.now.gap_ack_blocks.items in
             OnErr result (PartlyAcknowledged n blocks self.old events.old self.new events.new) }
     {
-        let tsn = sack.cumulative_tsn_ack;
-        if !self.outstanding.is_sack_valid(tsn, &sack.gap_ack_blocks) {
+        if !self.outstanding.is_sack_valid(sack) {
             return Ok(HandleSackResult::Invalid);
         }
-        let rtt = self.outstanding.measure_rtt(now, tsn);
+        let rtt = self.outstanding.measure_rtt(now, sack.cumulative_tsn_ack);
         let acked = self.receive_sack(now, sack, events)?;
         Ok(HandleSackResult::Valid {
             rtt,
@@ -238,19 +249,18 @@ impl RetransmissionQueue {
             OnErr result (PartlyAcknowledged n blocks self.old events.old self.new events.new) }
     {
         let number = self.outstanding.unwrapped(sack.cumulative_tsn_ack);
-        let moved = self.outstanding.acked_number() < number;
-        let before = self.outstanding.unacked_packet_bytes();
+        let ack = CumulativeAck {
+            number,
+            moved: self.outstanding.acked_number() < number,
+            before: self.outstanding.unacked_packet_bytes(),
+        };
         let is_open = self.windows.is_open_at(number);
-        let info = self.outstanding.handle_sack(
-            sack.cumulative_tsn_ack,
-            &sack.gap_ack_blocks,
-            !is_open,
-            &mut self.spares,
-            events,
-        )?;
+        let info = self
+            .outstanding
+            .handle_sack(sack, !is_open, &mut self.spares, events)?;
         self.let_spares_go();
-        self.update_windows(number, sack.a_rwnd, moved, before, info);
-        self.run_timer(now, moved);
+        self.update_windows(sack.a_rwnd, ack, info);
+        self.run_timer(now, ack.moved);
         Ok(info.bytes_acked)
     }
 
@@ -259,30 +269,23 @@ impl RetransmissionQueue {
         ensures { self.new ≡ self.old }
     {
         if self.outstanding.is_empty() {
-            self.spares = Vec::new(self.alloc);
+            self.spares = SpareBuffers::new(self.alloc);
         }
     }
 
-    /// The windows follow what the items received; `before` bytes were unacknowledged.
-    fn update_windows(
-        &mut self,
-        number: u64,
-        a_rwnd: u32,
-        moved: bool,
-        before: usize,
-        info: AckInfo,
-    )
+    /// The windows follow what the items received.
+    fn update_windows(&mut self, a_rwnd: u32, ack: CumulativeAck, info: AckInfo)
         ensures { self.new ≡ record self.old {
-          windows = windows_after number a_rwnd moved info.has_packet_loss before info.bytes_acked
+          windows = windows_after ack.number a_rwnd ack.moved info.has_packet_loss ack.before info.bytes_acked
               (saturate_u64 (flight_payload self.old.outstanding.items)) (next_number self.old.outstanding.items - 1) self.old.windows;
         } }
     {
-        let is_open = self.windows.is_open_at(number);
-        self.windows.maybe_exit_fast_recovery(number);
+        let is_open = self.windows.is_open_at(ack.number);
+        self.windows.maybe_exit_fast_recovery(ack.number);
         self.windows
             .update_receiver_window(a_rwnd, self.outstanding.unacked_payload_bytes());
-        if moved && is_open {
-            self.windows.grow(before, info.bytes_acked);
+        if ack.moved && is_open {
+            self.windows.grow(ack.before, info.bytes_acked);
         }
         if info.has_packet_loss && is_open {
             self.windows.recover(self.outstanding.next_number() - 1);
@@ -450,34 +453,36 @@ impl RetransmissionQueue {
         ensures err { OnErr result (PartlySent now max_bytes self.old queue.old events.old self.new queue.new events.new) }
     {
         let mut list = FragmentList::new(self.alloc);
-        let form = ChunkForm {
-            is_interleaved: self.outstanding.is_interleaved(),
-            is_immediate: false,
+        let opportunity = SendOpportunity {
+            now,
+            max_bytes,
+            form: ChunkForm {
+                is_interleaved: self.outstanding.is_interleaved(),
+                is_immediate: false,
+            },
         };
-        self.send_into(now, max_bytes, queue, form, &mut list, events)?;
+        self.send_into(opportunity, queue, &mut list, events)?;
         Ok(list.into_chunks())
     }
 
-    /// The same, into a packet: each fragment is handed to it by reference, in order, to be carried in this form. The answer is whether there was one.
-    /// Without memory the packet may have taken the first of them.
+    /// The same, into a packet: each fragment is handed to it by reference, in order, with the form. The answer is whether
+    /// there was one. Without memory the packet may have taken the first of them.
     pub fn send_into<P: TakesFragments>(
         &mut self,
-        now: SocketTime,
-        max_bytes: usize,
+        opportunity: SendOpportunity,
         queue: &mut SendQueue,
-        form: ChunkForm,
         packet: &mut P,
         events: &mut Events,
     ) -> Result<bool, AllocError>
-        requires small { max_bytes < 2 ^ 32 }
-        ensures sender { OnOk result (self.new ≡ (send now max_bytes self.old queue.old events.old).sender) }
-        ensures queue { OnOk result (queue.new ≡ (send now max_bytes self.old queue.old events.old).queue) }
-        ensures emitted { OnOk result (events.new ≡ (send now max_bytes self.old queue.old events.old).emitted) }
-        ensures packet { OnOk result (packet.new ≡ taken_all (P.taken form) (send now max_bytes self.old queue.old events.old).chunks packet.old) }
-        ensures sent { IfOk result (λ sent. sent ≡ nat_lt 0 (length (send now max_bytes self.old queue.old events.old).chunks)) }
-        ensures fits { OnOk result (FitWithin max_bytes self.old (send now max_bytes self.old queue.old events.old).chunks) }
+        requires small { opportunity.max_bytes < 2 ^ 32 }
+        ensures sender { OnOk result (self.new ≡ (send opportunity.now opportunity.max_bytes self.old queue.old events.old).sender) }
+        ensures queue { OnOk result (queue.new ≡ (send opportunity.now opportunity.max_bytes self.old queue.old events.old).queue) }
+        ensures emitted { OnOk result (events.new ≡ (send opportunity.now opportunity.max_bytes self.old queue.old events.old).emitted) }
+        ensures packet { OnOk result (packet.new ≡ taken_all (P.taken opportunity.form) (send opportunity.now opportunity.max_bytes self.old queue.old events.old).chunks packet.old) }
+        ensures sent { IfOk result (λ sent. sent ≡ nat_lt 0 (length (send opportunity.now opportunity.max_bytes self.old queue.old events.old).chunks)) }
+        ensures fits { OnOk result (FitWithin opportunity.max_bytes self.old (send opportunity.now opportunity.max_bytes self.old queue.old events.old).chunks) }
         ensures flight { OnOk result (StaysWithin self.old self.new) }
-        ensures err { OnErr result (PartlySent now max_bytes self.old queue.old events.old self.new queue.new events.new) }
+        ensures err { OnErr result (PartlySent opportunity.now opportunity.max_bytes self.old queue.old events.old self.new queue.new events.new) }
     {
         // (read for their bounds: neither a sum that nothing is added to nor what the window lets go is capped)
         let _count = self.rtx_bytes_count();
@@ -486,11 +491,15 @@ impl RetransmissionQueue {
             return Ok(false);
         }
         discard_all(&mut self.outstanding, queue, events)?;
-        let (is_again, bytes) = self.resend(max_bytes, form, packet)?;
-        let left = max_bytes.saturating_sub(bytes);
-        let is_new = self.fill(now, left, queue, form, packet, events)?;
+        let (is_again, bytes) = self.resend(opportunity.max_bytes, opportunity.form, packet)?;
+        let left = opportunity.max_bytes.saturating_sub(bytes);
+        let rest = SendOpportunity {
+            max_bytes: left,
+            ..opportunity
+        };
+        let is_new = self.fill(rest, queue, packet, events)?;
         let is_sent = either(is_again, is_new);
-        self.run_if(now, is_sent);
+        self.run_if(opportunity.now, is_sent);
         Ok(is_sent)
     }
 
@@ -538,24 +547,29 @@ impl RetransmissionQueue {
     /// New fragments, one after the other. The answer is whether there was one.
     fn fill<P: TakesFragments>(
         &mut self,
-        now: SocketTime,
-        left: usize,
+        opportunity: SendOpportunity,
         queue: &mut SendQueue,
-        form: ChunkForm,
         packet: &mut P,
         events: &mut Events,
     ) -> Result<bool, AllocError>
-        requires small { left < 2 ^ 32 }
-        ensures sender { OnOk result (self.new ≡ (fill (suc left) now (filling self.old queue.old events.old [] left)).sender) }
-        ensures queue { OnOk result (queue.new ≡ (fill (suc left) now (filling self.old queue.old events.old [] left)).queue) }
-        ensures emitted { OnOk result (events.new ≡ (fill (suc left) now (filling self.old queue.old events.old [] left)).emitted) }
-        ensures packet { OnOk result (packet.new ≡ taken_all (P.taken form) (fill (suc left) now (filling self.old queue.old events.old [] left)).chunks packet.old) }
-        ensures sent { IfOk result (λ sent. sent ≡ nat_lt 0 (length (fill (suc left) now (filling self.old queue.old events.old [] left)).chunks)) }
-        ensures err { OnErr result (PartlyFilled now (filling self.old queue.old events.old [] left) self.new queue.new events.new) }
+        requires small { opportunity.max_bytes < 2 ^ 32 }
+        ensures sender { OnOk result (self.new ≡ (fill (suc opportunity.max_bytes) opportunity.now (filling self.old queue.old events.old [] opportunity.max_bytes)).sender) }
+        ensures queue { OnOk result (queue.new ≡ (fill (suc opportunity.max_bytes) opportunity.now (filling self.old queue.old events.old [] opportunity.max_bytes)).queue) }
+        ensures emitted { OnOk result (events.new ≡ (fill (suc opportunity.max_bytes) opportunity.now (filling self.old queue.old events.old [] opportunity.max_bytes)).emitted) }
+        ensures packet { OnOk result (packet.new ≡ taken_all (P.taken opportunity.form) (fill (suc opportunity.max_bytes) opportunity.now (filling self.old queue.old events.old [] opportunity.max_bytes)).chunks packet.old) }
+        ensures sent { IfOk result (λ sent. sent ≡ nat_lt 0 (length (fill (suc opportunity.max_bytes) opportunity.now (filling self.old queue.old events.old [] opportunity.max_bytes)).chunks)) }
+        ensures err { OnErr result (PartlyFilled opportunity.now (filling self.old queue.old events.old [] opportunity.max_bytes) self.new queue.new events.new) }
     {
-        let mut left = left;
+        let now = opportunity.now;
+        let form = opportunity.form;
+        let mut left = opportunity.max_bytes;
         let mut is_sent = false;
-        while let Some(rest) = self.add_new(now, left, queue, form, packet, events)? {
+        while let Some(rest) = self.add_new(
+            SendOpportunity::at(now, left, form),
+            queue,
+            packet,
+            events,
+        )? {
             left = rest;
             is_sent = true;
         }
@@ -565,35 +579,34 @@ impl RetransmissionQueue {
     /// One more fragment, where the windows let it go and the queue has one. The answer is what the packet has left then.
     fn add_new<P: TakesFragments>(
         &mut self,
-        now: SocketTime,
-        left: usize,
+        opportunity: SendOpportunity,
         queue: &mut SendQueue,
-        form: ChunkForm,
         packet: &mut P,
         events: &mut Events,
     ) -> Result<Option<usize>, AllocError>
-        requires small { left < 2 ^ 32 }
-        ensures sender { OnOk result (self.new ≡ (next_turn now (filling self.old queue.old events.old [] left)).filling.sender) }
-        ensures queue { OnOk result (queue.new ≡ (next_turn now (filling self.old queue.old events.old [] left)).filling.queue) }
-        ensures emitted { OnOk result (events.new ≡ (next_turn now (filling self.old queue.old events.old [] left)).filling.emitted) }
-        ensures packet { OnOk result (packet.new ≡ taken_all (P.taken form) (next_turn now (filling self.old queue.old events.old [] left)).filling.chunks packet.old) }
-        ensures left { IfOk result (λ more. IfSome more (λ rest. rest ≡ (next_turn now (filling self.old queue.old events.old [] left)).filling.left)) }
-        ensures more { IfOk result (λ more. is_some more ≡ (next_turn now (filling self.old queue.old events.old [] left)).is_more) }
-        ensures less { IfOk result (λ more. IfSome more (λ rest. rest < left)) }
-        ensures err { OnErr result (TurnStopped now (filling self.old queue.old events.old [] left) self.new queue.new events.new) }
+        requires small { opportunity.max_bytes < 2 ^ 32 }
+        ensures sender { OnOk result (self.new ≡ (next_turn opportunity.now (filling self.old queue.old events.old [] opportunity.max_bytes)).filling.sender) }
+        ensures queue { OnOk result (queue.new ≡ (next_turn opportunity.now (filling self.old queue.old events.old [] opportunity.max_bytes)).filling.queue) }
+        ensures emitted { OnOk result (events.new ≡ (next_turn opportunity.now (filling self.old queue.old events.old [] opportunity.max_bytes)).filling.emitted) }
+        ensures packet { OnOk result (packet.new ≡ taken_all (P.taken opportunity.form) (next_turn opportunity.now (filling self.old queue.old events.old [] opportunity.max_bytes)).filling.chunks packet.old) }
+        ensures left { IfOk result (λ more. IfSome more (λ rest. rest ≡ (next_turn opportunity.now (filling self.old queue.old events.old [] opportunity.max_bytes)).filling.left)) }
+        ensures more { IfOk result (λ more. is_some more ≡ (next_turn opportunity.now (filling self.old queue.old events.old [] opportunity.max_bytes)).is_more) }
+        ensures less { IfOk result (λ more. IfSome more (λ rest. rest < opportunity.max_bytes)) }
+        ensures err { OnErr result (TurnStopped opportunity.now (filling self.old queue.old events.old [] opportunity.max_bytes) self.new queue.new events.new) }
     {
         if !queue.has_next_stream() {
             return Ok(None);
         }
-        let max_payload = self.offered(left);
+        let max_payload = self.offered(opportunity.max_bytes);
         if !self.can_send_data() || max_payload == 0 {
             return Ok(None);
         }
+        let now = opportunity.now;
         let Some(fragment) = queue.produce_in(now, max_payload, &mut self.spares, events)? else {
             return Ok(None);
         };
-        let size = self.append(now, fragment, form, packet)?;
-        Ok(Some(left.saturating_sub(size)))
+        let size = self.append(now, fragment, opportunity.form, packet)?;
+        Ok(Some(opportunity.max_bytes.saturating_sub(size)))
     }
 
     /// The largest payload that a packet with so much left can take: chunks are padded to 4 bytes.
@@ -623,14 +636,14 @@ impl RetransmissionQueue {
     {
         let size = chunk_size(&fragment.data, self.outstanding.is_interleaved());
         packet.take(form, self.outstanding.next_tsn(), &fragment.data)?;
-        self.outstanding.insert(
+        self.outstanding.insert(Item::new(
             fragment.message_id,
             fragment.data,
             now,
             fragment.max_retransmissions,
             fragment.expires_at,
             fragment.lifecycle_id,
-        )?;
+        ))?;
         self.windows.take(size);
         Ok(size)
     }

@@ -3,6 +3,7 @@
 ghost use Rattle.std.specs.Prelude.{◌≡◌, ◌-◌, ◌<◌, ◌≤◌, ◌^◌, length, min, false, None, IfOk};
 ghost use Rattle.std.specs.Duration.{as_nanos};
 ghost use Rattle.sctp_chunk.specs.Views.{fragment_tree};
+ghost use Rattle.sctp_tx_outstanding.specs.OutstandingData.{first_sent};
 ghost use Rattle.sctp_tx_outstanding.specs.Item.{header_size, size_of, chunk_size, acked, nack_state, resent};
 
 mod handover;
@@ -107,17 +108,7 @@ impl Item {
         lifecycle_id: Option<LifecycleId>,
     ) -> Item
         requires small { length fragment.payload.items < 2 ^ 32 }
-        ensures { result ≡ record {
-          number = message_id.0;
-          fragment = fragment_tree fragment;
-          expires = expires_at;
-          limit = max_retransmissions;
-          lifecycle = lifecycle_id;
-          state = ItemState.InFlight;
-          sent = 1;
-          reports = 0;
-          sent_at = now;
-        } }
+        ensures { result ≡ first_sent message_id.0 (fragment_tree fragment) now max_retransmissions expires_at lifecycle_id }
     {
         Item {
             message_id,

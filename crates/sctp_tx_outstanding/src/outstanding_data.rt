@@ -3,14 +3,15 @@
 ghost use Rattle.std.specs.Prelude.{◌≡◌, ◌⊎◌, ℕ, ◌+◌, ◌-◌, ◌<◌, ◌≤◌, ◌^◌, ◌&&◌, [], not, nat_lt, min, length, map, slice_get, option_map, filter, take, true, ◌||◌, drop, ◌==◌, Option, Some, None, false, IsTrue, IfOk, OnOk, OnErr};
 ghost use Rattle.std.specs.List.{list_any};
 ghost use Rattle.std.specs.Duration.{as_nanos};
-ghost use Rattle.sctp_chunk.specs.Views.{fragment_tree, forward_tsn_tree, i_forward_tsn_tree};
+ghost use Rattle.sctp_chunk.specs.Views.{forward_tsn_tree, i_forward_tsn_tree};
 ghost use Rattle.sctp_chunk.specs.Chunk.{forward_tsn_chunk, i_forward_tsn_chunk};
+ghost use Rattle.sctp_tx_outstanding.specs.declared.item.ItemState.TheVariants.{InFlight};
 ghost use Rattle.sctp_tx_outstanding.specs.Entries.{ssn_skip, mid_skip};
 ghost use Rattle.sctp_serial.specs.Unwrapped.{origin};
 ghost use Rattle.sctp_state.specs.Events.{emit_given_up, emit_events};
 ghost use Rattle.sctp_tx_outstanding.specs.Views.{discard_of, point_of};
 ghost use Rattle.sctp_tx_outstanding.specs.Losses.{loss_of};
-ghost use Rattle.sctp_tx_outstanding.specs.OutstandingData.{first_sent, append_item, begin_reset, is_last, begun_at};
+ghost use Rattle.sctp_tx_outstanding.specs.OutstandingData.{append_item, begin_reset, is_last, begun_at};
 ghost use Rattle.sctp_tx_outstanding.specs.LastBlocks.{Rest};
 ghost use Rattle.sctp_tx_outstanding.specs.Expiries.{FindsDue};
 ghost use Rattle.sctp_tx_outstanding.specs.Interrupted.{Same, SomeNacked, SomeExpired, SackPartlyTaken};
@@ -27,8 +28,10 @@ use crate::item::Item;
 use crate::kept::{Change, Kept, placeholder};
 use crate::sack::{AckInfo, highest_end, pass_covered, settle_all, take_out};
 use crate::skips::{SkipEntry, chunk_size_with, mid_skips, put_if, ssn_skips};
-use sctp_chunk::{Data, ForwardTsnChunk, GapAckBlock, IForwardTsnChunk, are_runs};
-use sctp_serial::{LifecycleId, OutgoingMessageId, SerialNumber, SocketTime, StreamId, Tsn};
+use sctp_chunk::{
+    Data, ForwardTsnChunk, GapAckBlock, IForwardTsnChunk, SackChunk, SpareBuffers, are_runs,
+};
+use sctp_serial::{OutgoingMessageId, SerialNumber, SocketTime, StreamId, Tsn};
 use sctp_state::{Events, GivenUp, GivenUpCause};
 use std::alloc::{AllocError, Global};
 use std::collections::VecDeque;
@@ -199,30 +202,14 @@ impl OutstandingData {
         Tsn::wrapped(self.first, self.acked + 1) + past
     }
 
-    /// Takes a fragment that is sent now for the first time, and gives its TSN. Without memory nothing changes.
-    pub fn insert(
-        &mut self,
-        message_id: OutgoingMessageId,
-        fragment: Data,
-        now: SocketTime,
-        max_retransmissions: u16,
-        expires_at: Option<SocketTime>,
-        lifecycle_id: Option<LifecycleId>,
-    ) -> Result<Tsn, AllocError>
-        requires small { length fragment.payload.items < 2 ^ 32 }
-        ensures ok { OnOk result (self.new ≡ record self.old { items = append_item (first_sent message_id.0 (fragment_tree fragment) now max_retransmissions expires_at lifecycle_id) self.old.items }) }
+    /// Takes an item that is sent now for the first time, and gives its TSN. Without memory nothing changes.
+    pub fn insert(&mut self, item: Item) -> Result<Tsn, AllocError>
+        requires in_flight { item.state ≡ InFlight }
+        ensures ok { OnOk result (self.new ≡ record self.old { items = append_item item self.old.items }) }
         ensures tsn { IfOk result (λ tsn. tsn.0 ≡ wire_tsn self.old (next_number self.old.items)) }
         ensures err { OnErr result (self.new ≡ self.old) }
     {
         let tsn = self.next_tsn();
-        let item = Item::new(
-            message_id,
-            fragment,
-            now,
-            max_retransmissions,
-            expires_at,
-            lifecycle_id,
-        );
         self.kept.push(item)?;
         Ok(tsn)
     }
@@ -535,11 +522,11 @@ impl OutstandingData {
 
     /// Whether a SACK may be taken: its cumulative TSN lies from the own one to the highest TSN that was given, and no
     /// block reaches above that.
-    pub fn is_sack_valid(&self, cumulative_tsn: Tsn, blocks: &[GapAckBlock]) -> bool
-        ensures { result ≡ is_valid (number_of self.now cumulative_tsn.0) blocks.now self.now.items }
+    pub fn is_sack_valid(&self, sack: &SackChunk) -> bool
+        ensures { result ≡ is_valid (number_of self.now sack.now.cumulative_tsn_ack.0) sack.now.gap_ack_blocks.items self.now.items }
     {
-        let number = self.unwrapped(cumulative_tsn);
-        let highest = number as u128 + highest_end(blocks) as u128;
+        let number = self.unwrapped(sack.cumulative_tsn_ack);
+        let highest = number as u128 + highest_end(&sack.gap_ack_blocks) as u128;
         self.acked <= number && highest < self.next_number() && number < (1 << 32) + (1 << 62)
     }
 
@@ -547,7 +534,7 @@ impl OutstandingData {
     fn leave(
         &mut self,
         number: u64,
-        spares: &mut Vec<Vec<u8>>,
+        spares: &mut SpareBuffers,
         events: &mut Events,
     ) -> Result<usize, AllocError>
         requires onward { self.old.items.acked ≤ number }
@@ -580,24 +567,28 @@ impl OutstandingData {
     /// for each item. Of the payloads that leave a few buffers are kept for the next ones.
     pub fn handle_sack(
         &mut self,
-        cumulative_tsn: Tsn,
-        blocks: &[GapAckBlock],
+        sack: &SackChunk,
         is_in_fast_recovery: bool,
-        spares: &mut Vec<Vec<u8>>,
+        spares: &mut SpareBuffers,
         events: &mut Events,
     ) -> Result<AckInfo, AllocError>
-        requires valid { IsTrue (is_in_range (number_of self.old cumulative_tsn.0) self.old.items) }
-        ensures items { let n = number_of self.old cumulative_tsn.0 in OnOk result (self.new ≡ record self.old { items = (receive_sack n blocks.now is_in_fast_recovery self.old.items events.old).items }) }
-        ensures emitted { let n = number_of self.old cumulative_tsn.0 in OnOk result (events.new ≡ (receive_sack n blocks.now is_in_fast_recovery self.old.items events.old).emitted) }
-        ensures lossy { let n = number_of self.old cumulative_tsn.0 in IfOk result (λ info. info.has_packet_loss ≡ (receive_sack n blocks.now is_in_fast_recovery self.old.items events.old).is_lossy) }
-        ensures bytes { let n = number_of self.old cumulative_tsn.0 in IfOk result (λ info. info.bytes_acked ≡ min (acked_bytes n blocks.now self.old.items) (2 ^ 64 - 1)) }
-        ensures err { OnErr result (Same self.old events.old self.new events.new ⊎ SackPartlyTaken (number_of self.old cumulative_tsn.0) blocks.now is_in_fast_recovery self.old events.old self.new events.new) }
+        requires valid { IsTrue (is_in_range (number_of self.old sack.now.cumulative_tsn_ack.0) self.old.items) }
+        ensures items { let n = number_of self.old sack.now.cumulative_tsn_ack.0 in let blocks = sack.now.gap_ack_blocks.items in
+            OnOk result (self.new ≡ record self.old { items = (receive_sack n blocks is_in_fast_recovery self.old.items events.old).items }) }
+        ensures emitted { let n = number_of self.old sack.now.cumulative_tsn_ack.0 in let blocks = sack.now.gap_ack_blocks.items in
+            OnOk result (events.new ≡ (receive_sack n blocks is_in_fast_recovery self.old.items events.old).emitted) }
+        ensures lossy { let n = number_of self.old sack.now.cumulative_tsn_ack.0 in let blocks = sack.now.gap_ack_blocks.items in
+            IfOk result (λ info. info.has_packet_loss ≡ (receive_sack n blocks is_in_fast_recovery self.old.items events.old).is_lossy) }
+        ensures bytes { let n = number_of self.old sack.now.cumulative_tsn_ack.0 in let blocks = sack.now.gap_ack_blocks.items in
+            IfOk result (λ info. info.bytes_acked ≡ min (acked_bytes n blocks self.old.items) (2 ^ 64 - 1)) }
+        ensures err { let n = number_of self.old sack.now.cumulative_tsn_ack.0 in let blocks = sack.now.gap_ack_blocks.items in
+            OnErr result (Same self.old events.old self.new events.new ⊎ SackPartlyTaken n blocks is_in_fast_recovery self.old events.old self.new events.new) }
     {
-        let number = self.unwrapped(cumulative_tsn);
+        let number = self.unwrapped(sack.cumulative_tsn_ack);
         let left = self.leave(number, spares, events)?;
-        let covered = settle_all(&mut self.kept, blocks);
+        let covered = settle_all(&mut self.kept, &sack.gap_ack_blocks);
         let fast = !is_in_fast_recovery;
-        let is_lossy = self.nack_uncovered(covered.below, blocks, fast, events)?;
+        let is_lossy = self.nack_uncovered(covered.below, &sack.gap_ack_blocks, fast, events)?;
         Ok(AckInfo {
             bytes_acked: left.saturating_add(covered.bytes),
             has_packet_loss: is_lossy,

@@ -11,7 +11,7 @@ ghost use Rattle.sctp_tx_outstanding.specs.Passes.{IsCursor, IsWalk, AreCovered}
 
 use crate::item::Item;
 use crate::kept::{Change, Kept};
-use sctp_chunk::{GapAckBlock, are_runs};
+use sctp_chunk::{GapAckBlock, SpareBuffers, are_runs};
 
 /// What a SACK acknowledged.
 #[derive(Clone, Copy)]
@@ -32,25 +32,9 @@ fn left_bytes(item: &Item, is_interleaved: bool) -> usize
     item.chunk_size(is_interleaved)
 }
 
-/// So many buffers of payloads are kept for the next ones.
-const MOST_SPARES: usize = 32;
-
-/// They have room for so many bytes at least, and at most: an owner's may have room for more.
-const LEAST_SPARE: usize = 512;
-
-const LARGEST_SPARE: usize = 2048;
-
-/// Keeps a buffer for another payload.
-fn keep_spare(spares: &mut Vec<Vec<u8>>, buffer: Vec<u8>) {
-    let capacity = buffer.capacity();
-    if spares.len() < MOST_SPARES && LEAST_SPARE <= capacity && capacity <= LARGEST_SPARE {
-        let _is_kept = spares.push(buffer).is_ok();
-    }
-}
-
 /// Takes the first items out, and keeps buffers of their payloads. The answer is how many bytes are newly acknowledged by that, at
 /// most `usize::MAX`.
-pub(crate) fn take_out(kept: &mut Kept, count: usize, spares: &mut Vec<Vec<u8>>) -> usize
+pub(crate) fn take_out(kept: &mut Kept, count: usize, spares: &mut SpareBuffers) -> usize
     ensures items { kept.new ≡ record kept.old { items = drop count kept.old.items } }
     ensures bytes { result ≡ min (sum_by (departing_part kept.old.is_interleaved) (take count kept.old.items)) (2 ^ 64 - 1) }
 {
@@ -62,7 +46,7 @@ pub(crate) fn take_out(kept: &mut Kept, count: usize, spares: &mut Vec<Vec<u8>>)
             return bytes;
         };
         bytes = bytes.saturating_add(left_bytes(&item, is_interleaved));
-        keep_spare(spares, item.into_payload());
+        spares.keep(item.into_payload());
         left -= 1;
     }
     bytes

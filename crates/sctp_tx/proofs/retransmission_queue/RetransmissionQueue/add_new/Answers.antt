@@ -11,14 +11,14 @@ use Rattle.sctp_tx.proofs.retransmission_queue.RetransmissionQueue.add_new.Goals
 -- no fragment is larger than what was offered
 pub append-requires : goal.append-requires
 append-requires g c =
-    let fits = made_fits c.args.now c.offered-max_payload.result c.args.queue.now c.args.events.now (Some (produced_of c.in-Some.fragment)) (rw c.in-Some.is at c.in_ok-fragment.ensures.made) in
+    let fits = made_fits c.args.opportunity.now c.offered-max_payload.result c.args.queue.now c.args.events.now (Some (produced_of c.in-Some.fragment)) (rw c.in-Some.is at c.in_ok-fragment.ensures.made) in
     record { small = omega (arith, fits, c.offered-max_payload.ensures.small, c.requires.small) }
 
 pub returns-in_err-fragment-clause-err : goal.returns-in_err-fragment-clause-err
 returns-in_err-fragment-clause-err g c =
-    let x : Filling (List ℕ) = filling c.args.self.now c.args.queue.now c.args.events.now [] c.args.left in
+    let x : Filling (List ℕ) = filling c.args.self.now c.args.queue.now c.args.events.now [] c.args.opportunity.max_bytes in
     let may : may_send_new c.args.self.now ≡ true = search rules in
-    let some : 0 < offered_payload c.args.left c.args.self.now = omega (arith, c.if-max_payload-eq0.false, c.offered-max_payload.ensures.size) in
+    let some : 0 < offered_payload c.args.opportunity.max_bytes c.args.self.now = omega (arith, c.if-max_payload-eq0.false, c.offered-max_payload.ensures.size) in
     let after : Sender = record {
       outstanding = c.self.inside.outstanding;
       windows = c.self.inside.windows;
@@ -26,13 +26,13 @@ returns-in_err-fragment-clause-err g c =
       rtx_packets = c.self.inside.rtx_packets_count;
       rtx_bytes = c.self.inside.rtx_bytes_count;
     } in
-    on_err _ (TurnStopped c.args.now x after c.produce_in.new.self c.produce_in.new.events) (record { may_send = may; room = some; stopped = inl (record { sender = c.self.view_is; queue = search rules }) })
+    on_err _ (TurnStopped c.args.opportunity.now x after c.produce_in.new.self c.produce_in.new.events) (record { may_send = may; room = some; stopped = inl (record { sender = c.self.view_is; queue = search rules }) })
 
 pub returns-in_err-size-clause-err : goal.returns-in_err-size-clause-err
 returns-in_err-size-clause-err g c =
-    let x : Filling (List ℕ) = filling c.args.self.now c.args.queue.now c.args.events.now [] c.args.left in
+    let x : Filling (List ℕ) = filling c.args.self.now c.args.queue.now c.args.events.now [] c.args.opportunity.max_bytes in
     let may : may_send_new c.args.self.now ≡ true = search rules in
-    let some : 0 < offered_payload c.args.left c.args.self.now = omega (arith, c.if-max_payload-eq0.false, c.offered-max_payload.ensures.size) in
-    let not_appended : NotAppended c.args.now x c.append.new.self c.produce_in.new.self c.produce_in.new.events =
-    record { fragment = produced_of c.in-Some.fragment; made = search rules; sender = subst (λ (s : Sender). LostOrKept c.args.now (produced_of c.in-Some.fragment) s c.append.new.self) c.self.view_is c.in_err-size.ensures.err; queue = search rules; events = search rules } in
-    on_err _ (TurnStopped c.args.now x c.append.new.self c.produce_in.new.self c.produce_in.new.events) (record { may_send = may; room = some; stopped = inr not_appended })
+    let some : 0 < offered_payload c.args.opportunity.max_bytes c.args.self.now = omega (arith, c.if-max_payload-eq0.false, c.offered-max_payload.ensures.size) in
+    let not_appended : NotAppended c.args.opportunity.now x c.append.new.self c.produce_in.new.self c.produce_in.new.events =
+    record { fragment = produced_of c.in-Some.fragment; made = search rules; sender = subst (λ (s : Sender). LostOrKept c.args.opportunity.now (produced_of c.in-Some.fragment) s c.append.new.self) c.self.view_is c.in_err-size.ensures.err; queue = search rules; events = search rules } in
+    on_err _ (TurnStopped c.args.opportunity.now x c.append.new.self c.produce_in.new.self c.produce_in.new.events) (record { may_send = may; room = some; stopped = inr not_appended })

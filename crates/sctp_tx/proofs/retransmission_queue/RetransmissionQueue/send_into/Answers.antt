@@ -17,46 +17,46 @@ pub returns-then-is_idle-clause-sender : goal.returns-then-is_idle-clause-sender
 returns-then-is_idle-clause-sender g c =
     let s = c.args.self.now in
     let small : s.rtx_bytes < 2 ^ 64 = omega (arith, c.rtx_bytes_count-count.ensures) in
-    let none : send c.args.now c.args.max_bytes s c.args.queue.now c.args.events.now ≡ filling s c.args.queue.now c.args.events.now [] (c.args.max_bytes - 0) =
-    idle_send c.args.now c.args.max_bytes s c.args.queue.now c.args.events.now small (sym c.is_idle.ensures ∙ c.if-is_idle.true) in
+    let none : send c.args.opportunity.now c.args.opportunity.max_bytes s c.args.queue.now c.args.events.now ≡ filling s c.args.queue.now c.args.events.now [] (c.args.opportunity.max_bytes - 0) =
+    idle_send c.args.opportunity.now c.args.opportunity.max_bytes s c.args.queue.now c.args.events.now small (sym c.is_idle.ensures ∙ c.if-is_idle.true) in
     ap (λ (f : Filling (List ℕ)). f.sender) (sym none)
 
 pub returns-then-is_idle-clause-queue : goal.returns-then-is_idle-clause-queue
 returns-then-is_idle-clause-queue g c =
     let s = c.args.self.now in
     let small : s.rtx_bytes < 2 ^ 64 = omega (arith, c.rtx_bytes_count-count.ensures) in
-    let none : send c.args.now c.args.max_bytes s c.args.queue.now c.args.events.now ≡ filling s c.args.queue.now c.args.events.now [] (c.args.max_bytes - 0) =
-    idle_send c.args.now c.args.max_bytes s c.args.queue.now c.args.events.now small (sym c.is_idle.ensures ∙ c.if-is_idle.true) in
+    let none : send c.args.opportunity.now c.args.opportunity.max_bytes s c.args.queue.now c.args.events.now ≡ filling s c.args.queue.now c.args.events.now [] (c.args.opportunity.max_bytes - 0) =
+    idle_send c.args.opportunity.now c.args.opportunity.max_bytes s c.args.queue.now c.args.events.now small (sym c.is_idle.ensures ∙ c.if-is_idle.true) in
     ap (λ (f : Filling (List ℕ)). f.queue) (sym none)
 
 pub returns-then-is_idle-clause-emitted : goal.returns-then-is_idle-clause-emitted
 returns-then-is_idle-clause-emitted g c =
     let s = c.args.self.now in
     let small : s.rtx_bytes < 2 ^ 64 = omega (arith, c.rtx_bytes_count-count.ensures) in
-    let none : send c.args.now c.args.max_bytes s c.args.queue.now c.args.events.now ≡ filling s c.args.queue.now c.args.events.now [] (c.args.max_bytes - 0) =
-    idle_send c.args.now c.args.max_bytes s c.args.queue.now c.args.events.now small (sym c.is_idle.ensures ∙ c.if-is_idle.true) in
+    let none : send c.args.opportunity.now c.args.opportunity.max_bytes s c.args.queue.now c.args.events.now ≡ filling s c.args.queue.now c.args.events.now [] (c.args.opportunity.max_bytes - 0) =
+    idle_send c.args.opportunity.now c.args.opportunity.max_bytes s c.args.queue.now c.args.events.now small (sym c.is_idle.ensures ∙ c.if-is_idle.true) in
     ap (λ (f : Filling (List ℕ)). f.emitted) (sym none)
 
 pub returns-then-is_idle-clause-packet : goal.returns-then-is_idle-clause-packet
 returns-then-is_idle-clause-packet g c =
     let s = c.args.self.now in
     let small : s.rtx_bytes < 2 ^ 64 = omega (arith, c.rtx_bytes_count-count.ensures) in
-    let none : send c.args.now c.args.max_bytes s c.args.queue.now c.args.events.now ≡ filling s c.args.queue.now c.args.events.now [] (c.args.max_bytes - 0) =
-    idle_send c.args.now c.args.max_bytes s c.args.queue.now c.args.events.now small (sym c.is_idle.ensures ∙ c.if-is_idle.true) in
-    ap (λ (f : Filling (List ℕ)). taken_all (g.P.TakesFragments.taken c.args.form) f.chunks c.args.packet.now) (sym none)
+    let none : send c.args.opportunity.now c.args.opportunity.max_bytes s c.args.queue.now c.args.events.now ≡ filling s c.args.queue.now c.args.events.now [] (c.args.opportunity.max_bytes - 0) =
+    idle_send c.args.opportunity.now c.args.opportunity.max_bytes s c.args.queue.now c.args.events.now small (sym c.is_idle.ensures ∙ c.if-is_idle.true) in
+    ap (λ (f : Filling (List ℕ)). taken_all (g.P.TakesFragments.taken c.args.opportunity.form) f.chunks c.args.packet.now) (sym none)
 
 pub returns-then-is_idle-clause-sent : goal.returns-then-is_idle-clause-sent
 returns-then-is_idle-clause-sent g c =
     let s = c.args.self.now in
     let small : s.rtx_bytes < 2 ^ 64 = omega (arith, c.rtx_bytes_count-count.ensures) in
-    let none : send c.args.now c.args.max_bytes s c.args.queue.now c.args.events.now ≡ filling s c.args.queue.now c.args.events.now [] (c.args.max_bytes - 0) =
-    idle_send c.args.now c.args.max_bytes s c.args.queue.now c.args.events.now small (sym c.is_idle.ensures ∙ c.if-is_idle.true) in
+    let none : send c.args.opportunity.now c.args.opportunity.max_bytes s c.args.queue.now c.args.events.now ≡ filling s c.args.queue.now c.args.events.now [] (c.args.opportunity.max_bytes - 0) =
+    idle_send c.args.opportunity.now c.args.opportunity.max_bytes s c.args.queue.now c.args.events.now small (sym c.is_idle.ensures ∙ c.if-is_idle.true) in
     ap (λ (f : Filling (List ℕ)). nat_lt 0 (length f.chunks)) (sym none)
 
 pub returns-then-is_idle-clause-fits : goal.returns-then-is_idle-clause-fits
 returns-then-is_idle-clause-fits g c =
-    let small : c.args.max_bytes < 2 ^ 64 = omega (arith, c.requires.small) in
-    sent_fits c.args.now c.args.max_bytes c.args.self.now c.args.queue.now c.args.events.now small
+    let small : c.args.opportunity.max_bytes < 2 ^ 64 = omega (arith, c.requires.small) in
+    sent_fits c.args.opportunity.now c.args.opportunity.max_bytes c.args.self.now c.args.queue.now c.args.events.now small
 
 pub returns-then-is_idle-clause-flight : goal.returns-then-is_idle-clause-flight
 returns-then-is_idle-clause-flight g c =
@@ -70,11 +70,11 @@ returns-clause-sender g c =
     let old : Sender = record v { outstanding = dropped.outstanding } in
     let is : old ≡ without_discards s = search rules in
     let left = c.saturating_sub-left.result in
-    let start : filling c.resend.new.self dropped.queue dropped.events (begun c.args.now c.args.max_bytes s c.args.queue.now c.args.events.now).chunks left
-    ≡ begun c.args.now c.args.max_bytes s c.args.queue.now c.args.events.now = search rules in
-    let again : c.in_ok-is_again.is_again ≡ nat_lt 0 (length (begun c.args.now c.args.max_bytes s c.args.queue.now c.args.events.now).chunks) =
-    subst (λ (t : Sender). c.in_ok-is_again.is_again ≡ nat_lt 0 (length (resent c.args.max_bytes t).chunks)) is c.in_ok-is_again.ensures.sent in
-    sender_is c.args.now c.args.max_bytes s c.args.queue.now c.args.events.now c.resend.new.self dropped.queue dropped.events left start c.run_if.new.self c.in_ok-is_again.is_again c.in_ok-is_new.is_new again c.in_ok-is_new.ensures.sent c.fill.new.self c.in_ok-is_new.ensures.sender (subst (λ (b : Bool). c.run_if.new.self ≡ start_t3_if b c.args.now c.fill.new.self) c.either-is_sent.ensures c.run_if.ensures)
+    let start : filling c.resend.new.self dropped.queue dropped.events (begun c.args.opportunity.now c.args.opportunity.max_bytes s c.args.queue.now c.args.events.now).chunks left
+    ≡ begun c.args.opportunity.now c.args.opportunity.max_bytes s c.args.queue.now c.args.events.now = search rules in
+    let again : c.in_ok-is_again.is_again ≡ nat_lt 0 (length (begun c.args.opportunity.now c.args.opportunity.max_bytes s c.args.queue.now c.args.events.now).chunks) =
+    subst (λ (t : Sender). c.in_ok-is_again.is_again ≡ nat_lt 0 (length (resent c.args.opportunity.max_bytes t).chunks)) is c.in_ok-is_again.ensures.sent in
+    sender_is c.args.opportunity.now c.args.opportunity.max_bytes s c.args.queue.now c.args.events.now c.resend.new.self dropped.queue dropped.events left start c.run_if.new.self c.in_ok-is_again.is_again c.in_ok-is_new.is_new again c.in_ok-is_new.ensures.sent c.fill.new.self c.in_ok-is_new.ensures.sender (subst (λ (b : Bool). c.run_if.new.self ≡ start_t3_if b c.args.opportunity.now c.fill.new.self) c.either-is_sent.ensures c.run_if.ensures)
 
 pub returns-clause-queue : goal.returns-clause-queue
 returns-clause-queue g c =
@@ -84,9 +84,9 @@ returns-clause-queue g c =
     let old : Sender = record v { outstanding = dropped.outstanding } in
     let is : old ≡ without_discards s = search rules in
     let left = c.saturating_sub-left.result in
-    let start : filling c.resend.new.self dropped.queue dropped.events (begun c.args.now c.args.max_bytes s c.args.queue.now c.args.events.now).chunks left
-    ≡ begun c.args.now c.args.max_bytes s c.args.queue.now c.args.events.now = search rules in
-    c.in_ok-is_new.ensures.queue ∙ ap (λ (f : Filling (List ℕ)). f.queue) (sym (sent_as c.args.now c.args.max_bytes s c.args.queue.now c.args.events.now c.resend.new.self dropped.queue dropped.events left start))
+    let start : filling c.resend.new.self dropped.queue dropped.events (begun c.args.opportunity.now c.args.opportunity.max_bytes s c.args.queue.now c.args.events.now).chunks left
+    ≡ begun c.args.opportunity.now c.args.opportunity.max_bytes s c.args.queue.now c.args.events.now = search rules in
+    c.in_ok-is_new.ensures.queue ∙ ap (λ (f : Filling (List ℕ)). f.queue) (sym (sent_as c.args.opportunity.now c.args.opportunity.max_bytes s c.args.queue.now c.args.events.now c.resend.new.self dropped.queue dropped.events left start))
 
 pub returns-clause-emitted : goal.returns-clause-emitted
 returns-clause-emitted g c =
@@ -96,9 +96,9 @@ returns-clause-emitted g c =
     let old : Sender = record v { outstanding = dropped.outstanding } in
     let is : old ≡ without_discards s = search rules in
     let left = c.saturating_sub-left.result in
-    let start : filling c.resend.new.self dropped.queue dropped.events (begun c.args.now c.args.max_bytes s c.args.queue.now c.args.events.now).chunks left
-    ≡ begun c.args.now c.args.max_bytes s c.args.queue.now c.args.events.now = search rules in
-    c.in_ok-is_new.ensures.emitted ∙ ap (λ (f : Filling (List ℕ)). f.emitted) (sym (sent_as c.args.now c.args.max_bytes s c.args.queue.now c.args.events.now c.resend.new.self dropped.queue dropped.events left start))
+    let start : filling c.resend.new.self dropped.queue dropped.events (begun c.args.opportunity.now c.args.opportunity.max_bytes s c.args.queue.now c.args.events.now).chunks left
+    ≡ begun c.args.opportunity.now c.args.opportunity.max_bytes s c.args.queue.now c.args.events.now = search rules in
+    c.in_ok-is_new.ensures.emitted ∙ ap (λ (f : Filling (List ℕ)). f.emitted) (sym (sent_as c.args.opportunity.now c.args.opportunity.max_bytes s c.args.queue.now c.args.events.now c.resend.new.self dropped.queue dropped.events left start))
 
 pub returns-clause-packet : goal.returns-clause-packet
 returns-clause-packet g c =
@@ -108,10 +108,10 @@ returns-clause-packet g c =
     let old : Sender = record v { outstanding = dropped.outstanding } in
     let is : old ≡ without_discards s = search rules in
     let left = c.saturating_sub-left.result in
-    let start : filling c.resend.new.self dropped.queue dropped.events (begun c.args.now c.args.max_bytes s c.args.queue.now c.args.events.now).chunks left
-    ≡ begun c.args.now c.args.max_bytes s c.args.queue.now c.args.events.now = search rules in
-    let first = subst (λ (t : Sender). c.resend.new.packet ≡ taken_all (g.P.TakesFragments.taken c.args.form) (resent c.args.max_bytes t).chunks c.args.packet.now) is c.in_ok-is_again.ensures.packet in
-    taken_is c.args.now c.args.max_bytes s c.args.queue.now c.args.events.now c.resend.new.self dropped.queue dropped.events left start (g.P.TakesFragments.taken c.args.form) c.args.packet.now c.resend.new.packet c.fill.new.packet first c.in_ok-is_new.ensures.packet
+    let start : filling c.resend.new.self dropped.queue dropped.events (begun c.args.opportunity.now c.args.opportunity.max_bytes s c.args.queue.now c.args.events.now).chunks left
+    ≡ begun c.args.opportunity.now c.args.opportunity.max_bytes s c.args.queue.now c.args.events.now = search rules in
+    let first = subst (λ (t : Sender). c.resend.new.packet ≡ taken_all (g.P.TakesFragments.taken c.args.opportunity.form) (resent c.args.opportunity.max_bytes t).chunks c.args.packet.now) is c.in_ok-is_again.ensures.packet in
+    taken_is c.args.opportunity.now c.args.opportunity.max_bytes s c.args.queue.now c.args.events.now c.resend.new.self dropped.queue dropped.events left start (g.P.TakesFragments.taken c.args.opportunity.form) c.args.packet.now c.resend.new.packet c.fill.new.packet first c.in_ok-is_new.ensures.packet
 
 pub returns-clause-sent : goal.returns-clause-sent
 returns-clause-sent g c =
@@ -121,16 +121,16 @@ returns-clause-sent g c =
     let old : Sender = record v { outstanding = dropped.outstanding } in
     let is : old ≡ without_discards s = search rules in
     let left = c.saturating_sub-left.result in
-    let start : filling c.resend.new.self dropped.queue dropped.events (begun c.args.now c.args.max_bytes s c.args.queue.now c.args.events.now).chunks left
-    ≡ begun c.args.now c.args.max_bytes s c.args.queue.now c.args.events.now = search rules in
-    let again : c.in_ok-is_again.is_again ≡ nat_lt 0 (length (begun c.args.now c.args.max_bytes s c.args.queue.now c.args.events.now).chunks) =
-    subst (λ (t : Sender). c.in_ok-is_again.is_again ≡ nat_lt 0 (length (resent c.args.max_bytes t).chunks)) is c.in_ok-is_again.ensures.sent in
-    c.either-is_sent.ensures ∙ sent_is c.args.now c.args.max_bytes s c.args.queue.now c.args.events.now c.resend.new.self dropped.queue dropped.events left start c.run_if.new.self c.in_ok-is_again.is_again c.in_ok-is_new.is_new again c.in_ok-is_new.ensures.sent
+    let start : filling c.resend.new.self dropped.queue dropped.events (begun c.args.opportunity.now c.args.opportunity.max_bytes s c.args.queue.now c.args.events.now).chunks left
+    ≡ begun c.args.opportunity.now c.args.opportunity.max_bytes s c.args.queue.now c.args.events.now = search rules in
+    let again : c.in_ok-is_again.is_again ≡ nat_lt 0 (length (begun c.args.opportunity.now c.args.opportunity.max_bytes s c.args.queue.now c.args.events.now).chunks) =
+    subst (λ (t : Sender). c.in_ok-is_again.is_again ≡ nat_lt 0 (length (resent c.args.opportunity.max_bytes t).chunks)) is c.in_ok-is_again.ensures.sent in
+    c.either-is_sent.ensures ∙ sent_is c.args.opportunity.now c.args.opportunity.max_bytes s c.args.queue.now c.args.events.now c.resend.new.self dropped.queue dropped.events left start c.run_if.new.self c.in_ok-is_again.is_again c.in_ok-is_new.is_new again c.in_ok-is_new.ensures.sent
 
 pub returns-clause-fits : goal.returns-clause-fits
 returns-clause-fits g c =
-    let small : c.args.max_bytes < 2 ^ 64 = omega (arith, c.requires.small) in
-    sent_fits c.args.now c.args.max_bytes c.args.self.now c.args.queue.now c.args.events.now small
+    let small : c.args.opportunity.max_bytes < 2 ^ 64 = omega (arith, c.requires.small) in
+    sent_fits c.args.opportunity.now c.args.opportunity.max_bytes c.args.self.now c.args.queue.now c.args.events.now small
 
 pub returns-clause-flight : goal.returns-clause-flight
 returns-clause-flight g c =
@@ -140,23 +140,23 @@ returns-clause-flight g c =
     let old : Sender = record v { outstanding = dropped.outstanding } in
     let is : old ≡ without_discards s = search rules in
     let left = c.saturating_sub-left.result in
-    let start : filling c.resend.new.self dropped.queue dropped.events (begun c.args.now c.args.max_bytes s c.args.queue.now c.args.events.now).chunks left
-    ≡ begun c.args.now c.args.max_bytes s c.args.queue.now c.args.events.now = search rules in
-    let again : c.in_ok-is_again.is_again ≡ nat_lt 0 (length (begun c.args.now c.args.max_bytes s c.args.queue.now c.args.events.now).chunks) =
-    subst (λ (t : Sender). c.in_ok-is_again.is_again ≡ nat_lt 0 (length (resent c.args.max_bytes t).chunks)) is c.in_ok-is_again.ensures.sent in
+    let start : filling c.resend.new.self dropped.queue dropped.events (begun c.args.opportunity.now c.args.opportunity.max_bytes s c.args.queue.now c.args.events.now).chunks left
+    ≡ begun c.args.opportunity.now c.args.opportunity.max_bytes s c.args.queue.now c.args.events.now = search rules in
+    let again : c.in_ok-is_again.is_again ≡ nat_lt 0 (length (begun c.args.opportunity.now c.args.opportunity.max_bytes s c.args.queue.now c.args.events.now).chunks) =
+    subst (λ (t : Sender). c.in_ok-is_again.is_again ≡ nat_lt 0 (length (resent c.args.opportunity.max_bytes t).chunks)) is c.in_ok-is_again.ensures.sent in
     let small : s.windows.cwnd < 2 ^ 64 = omega (arith, c.cwnd-cwnd.ensures) in
-    let last : c.run_if.new.self ≡ (send c.args.now c.args.max_bytes s c.args.queue.now c.args.events.now).sender =
-    sender_is c.args.now c.args.max_bytes s c.args.queue.now c.args.events.now c.resend.new.self dropped.queue dropped.events left start c.run_if.new.self c.in_ok-is_again.is_again c.in_ok-is_new.is_new again c.in_ok-is_new.ensures.sent c.fill.new.self c.in_ok-is_new.ensures.sender (subst (λ (b : Bool). c.run_if.new.self ≡ start_t3_if b c.args.now c.fill.new.self) c.either-is_sent.ensures c.run_if.ensures) in
-    subst (λ (t : Sender). StaysWithin s t) (sym last) (stays_within c.args.now c.args.max_bytes s c.args.queue.now c.args.events.now small)
+    let last : c.run_if.new.self ≡ (send c.args.opportunity.now c.args.opportunity.max_bytes s c.args.queue.now c.args.events.now).sender =
+    sender_is c.args.opportunity.now c.args.opportunity.max_bytes s c.args.queue.now c.args.events.now c.resend.new.self dropped.queue dropped.events left start c.run_if.new.self c.in_ok-is_again.is_again c.in_ok-is_new.is_new again c.in_ok-is_new.ensures.sent c.fill.new.self c.in_ok-is_new.ensures.sender (subst (λ (b : Bool). c.run_if.new.self ≡ start_t3_if b c.args.opportunity.now c.fill.new.self) c.either-is_sent.ensures c.run_if.ensures) in
+    subst (λ (t : Sender). StaysWithin s t) (sym last) (stays_within c.args.opportunity.now c.args.opportunity.max_bytes s c.args.queue.now c.args.events.now small)
 
 pub returns-in_err-discard_all-clause-err : goal.returns-in_err-discard_all-clause-err
 returns-in_err-discard_all-clause-err g c =
     let v : Sender = record { outstanding = c.self.inside.outstanding; windows = c.self.inside.windows; t3 = c.self.inside.t3_rtx; rtx_packets = c.self.inside.rtx_packets_count; rtx_bytes = c.self.inside.rtx_bytes_count } in
     let new = c.discard_all.new in
     let x : Sender = record v { outstanding = new.outstanding } in
-    let of_v = stopped_discarding c.args.now c.args.max_bytes v c.args.queue.now c.args.events.now x new.queue new.events new.outstanding refl c.in_err-discard_all.ensures.err in
-    let h : PartlySent c.args.now c.args.max_bytes c.args.self.now c.args.queue.now c.args.events.now x new.queue new.events =
-    subst (λ (t : Sender). PartlySent c.args.now c.args.max_bytes t c.args.queue.now c.args.events.now x new.queue new.events) c.self.view_is of_v in
+    let of_v = stopped_discarding c.args.opportunity.now c.args.opportunity.max_bytes v c.args.queue.now c.args.events.now x new.queue new.events new.outstanding refl c.in_err-discard_all.ensures.err in
+    let h : PartlySent c.args.opportunity.now c.args.opportunity.max_bytes c.args.self.now c.args.queue.now c.args.events.now x new.queue new.events =
+    subst (λ (t : Sender). PartlySent c.args.opportunity.now c.args.opportunity.max_bytes t c.args.queue.now c.args.events.now x new.queue new.events) c.self.view_is of_v in
     on_err _ _ h
 
 pub returns-in_err-is_again-clause-err : goal.returns-in_err-is_again-clause-err
@@ -167,7 +167,7 @@ returns-in_err-is_again-clause-err g c =
     let old : Sender = record v { outstanding = dropped.outstanding } in
     let is : old ≡ without_discards s = search rules in
     let gone : Stands (discard_all s.outstanding.items.discards c.args.queue.now c.args.events.now) dropped.queue dropped.events = search rules in
-    on_err _ _ (stopped_resending c.args.now c.args.max_bytes s c.args.queue.now c.args.events.now c.resend.new.self dropped.queue dropped.events old is c.in_err-is_again.ensures.err gone)
+    on_err _ _ (stopped_resending c.args.opportunity.now c.args.opportunity.max_bytes s c.args.queue.now c.args.events.now c.resend.new.self dropped.queue dropped.events old is c.in_err-is_again.ensures.err gone)
 
 pub returns-in_err-is_new-clause-err : goal.returns-in_err-is_new-clause-err
 returns-in_err-is_new-clause-err g c =
@@ -177,8 +177,8 @@ returns-in_err-is_new-clause-err g c =
     let old : Sender = record v { outstanding = dropped.outstanding } in
     let is : old ≡ without_discards s = search rules in
     let left = c.saturating_sub-left.result in
-    let start : filling c.resend.new.self dropped.queue dropped.events (begun c.args.now c.args.max_bytes s c.args.queue.now c.args.events.now).chunks left
-    ≡ begun c.args.now c.args.max_bytes s c.args.queue.now c.args.events.now = search rules in
+    let start : filling c.resend.new.self dropped.queue dropped.events (begun c.args.opportunity.now c.args.opportunity.max_bytes s c.args.queue.now c.args.events.now).chunks left
+    ≡ begun c.args.opportunity.now c.args.opportunity.max_bytes s c.args.queue.now c.args.events.now = search rules in
     let new = c.fill.new in
-    on_err _ _ (stopped_filling c.args.now c.args.max_bytes s c.args.queue.now c.args.events.now new.self new.queue new.events (begun c.args.now c.args.max_bytes s c.args.queue.now c.args.events.now) refl
-    (filling_stopped c.args.now c.args.max_bytes s c.args.queue.now c.args.events.now c.resend.new.self dropped.queue dropped.events left start new.self new.queue new.events c.in_err-is_new.ensures.err))
+    on_err _ _ (stopped_filling c.args.opportunity.now c.args.opportunity.max_bytes s c.args.queue.now c.args.events.now new.self new.queue new.events (begun c.args.opportunity.now c.args.opportunity.max_bytes s c.args.queue.now c.args.events.now) refl
+    (filling_stopped c.args.opportunity.now c.args.opportunity.max_bytes s c.args.queue.now c.args.events.now c.resend.new.self dropped.queue dropped.events left start new.self new.queue new.events c.in_err-is_new.ensures.err))
