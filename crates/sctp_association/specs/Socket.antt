@@ -19,6 +19,7 @@ use Rattle.sctp_state.specs.Handover.{HandoverState}
 use Rattle.sctp_rx.specs.Delivery.{Extends}
 use Rattle.spec_endpoint.specs.Association.{State, Endpoint}
 use Rattle.sctp_endpoint.specs.declared.transmission_control_block.Association as given_association
+use Rattle.sctp_endpoint.specs.GoesOn.{GrownQuietly, HoldsAnnounced}
 use Rattle.sctp_endpoint.specs.Views.{ContextValue, context_of}
 use Rattle.spec_endpoint.specs.Calls.{ready_in}
 use Rattle.spec_endpoint.specs.Shown.{Association, association_in}
@@ -107,10 +108,10 @@ Ends Worked before after = (before.has_failed ≡ false) × (after.has_failed �
 Ends RanOut before after = (before.has_failed ≡ false) × (after.has_failed ≡ true)
 Ends HadFailed before after = (before.has_failed ≡ true) × (after ≡ before)
 
--- What a call leaves where memory ran out in it: what was emitted before, with more behind it, and the association, with the messages
--- that were ready, and more behind them.
+-- What a call leaves where memory ran out in it: what was emitted before, with more behind it that announces no association, and the
+-- association, with the messages that were ready, and more behind them.
 pub record LeavesAtMemory {R C : Type 0} (before after : SocketValue R C) : Type 0 where
-  pub emitted : Grown before.context.emitted after.context.emitted
+  pub emitted : GrownQuietly before.context.emitted after.context.emitted
   pub association : association_in after.state ≡ association_in before.state
   pub ready : Extends (ready_in before.state) (ready_in after.state)
 
@@ -123,9 +124,10 @@ association_from h = record {
   peer_initial_tsn = h.peer_initial_tsn;
 }
 
--- The same of a call that takes up a record: the association is the one before, or the record's.
+-- The same of a call that takes up a record: the association is the one before, or the record's, and one that was announced is held.
 pub record LeavesRestoring {R C : Type 0} (h : HandoverState) (before after : SocketValue R C) : Type 0 where
   pub emitted : Grown before.context.emitted after.context.emitted
+  pub held : HoldsAnnounced before.context.emitted after.context.emitted after.state
   pub association : (association_in after.state ≡ association_in before.state) ⊎ (association_in after.state ≡ Some (association_from h))
   pub ready : Extends (ready_in before.state) (ready_in after.state)
 

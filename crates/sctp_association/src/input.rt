@@ -17,7 +17,7 @@ ghost use Rattle.spec_endpoint.specs.Packets.{emit_error};
 ghost use Rattle.spec_endpoint.specs.Calls.{ready_in};
 ghost use Rattle.spec_endpoint.specs.Receiving.{Receives};
 ghost use Rattle.sctp_association.specs.Interrupted.{StopsAmong, StopsIn, StopsPacket};
-ghost use Rattle.sctp_endpoint.specs.GoesOn.{GoesOn};
+ghost use Rattle.sctp_endpoint.specs.GoesOn.{Continues, GoesOn, GoesOnWith};
 ghost use Rattle.sctp_endpoint.specs.KeepsReady.{KeepsReady};
 ghost use Rattle.sctp_endpoint.specs.Views.{context_of, endpoint_of, after_chunk_of, opened_of, phase_of, endpoint_state_of, state_of, tcb_of};
 ghost use Rattle.spec_endpoint.specs.Input as table;
@@ -70,7 +70,7 @@ fn maybe_send_sack<C: Checksum>(
     let mut packet = context.new_packet(tcb);
     let window = tcb.reassembly_queue.remaining_bytes() as u32;
     let sack = tcb.data_tracker.create_selective_ack(window)?;
-    packet.add(Chunk::Sack(sack))?;
+    packet.add_sack(&sack)?;
     context.send_buffered_packets_with(tcb, phase.is_before_cookie_ack(), packet)
 }
 
@@ -153,13 +153,13 @@ fn handle_heartbeat<C: Checksum>(
     }
 }
 
-#[tactic(auto, using(sctp_endpoint::proofs::GoesOnLemmas::goes_on_same, sctp_endpoint::proofs::GoesOnLemmas::goes_on_through))]
+#[tactic(auto, using(sctp_endpoint::proofs::GoesOnLemmas::with_same))]
 fn handle_acked_cookie<C: Checksum>(
     state: &mut State,
     context: &mut Context<C>,
 ) -> Result<(), AllocError>
     ensures ok { OnOk result (endpoint_state_of C.word_of state.new context.new ≡ where_open on_cookie_ack (endpoint_state_of C.word_of state.old context.old)) }
-    ensures goes_on { GoesOn context.old context.new }
+    ensures goes_on { GoesOnWith context.old context.new (state_of state.new) }
     ensures received { ready_in (state_of state.new) ≡ ready_in (state_of state.old) }
 {
     match state {
@@ -169,7 +169,7 @@ fn handle_acked_cookie<C: Checksum>(
 }
 
 /// What a chunk does, of a packet under this tag. DATA and I-DATA are received where they lie.
-#[tactic(auto, using(sctp_endpoint::proofs::KeepsReadyLemmas::err_alone, sctp_endpoint::proofs::KeepsReadyLemmas::err_same, sctp_endpoint::proofs::KeepsReadyLemmas::err_more, sctp_endpoint::proofs::KeepsReadyLemmas::err_given, sctp_endpoint::proofs::GoesOnLemmas::goes_on_same, sctp_endpoint::proofs::GoesOnLemmas::goes_on_through))]
+#[tactic(auto, using(sctp_endpoint::proofs::KeepsReadyLemmas::err_alone, sctp_endpoint::proofs::KeepsReadyLemmas::err_same, sctp_endpoint::proofs::KeepsReadyLemmas::err_more, sctp_endpoint::proofs::KeepsReadyLemmas::err_given, sctp_endpoint::proofs::GoesOnLemmas::with_same, sctp_endpoint::proofs::GoesOnLemmas::with_quiet))]
 fn dispatch<R: Rng, C: Checksum>(
     state: &mut State,
     context: &mut Context<C>,
@@ -180,7 +180,7 @@ fn dispatch<R: Rng, C: Checksum>(
     requires { carries_data (chunk_tree chunk) ≡ false }
     ensures ok { OnOk result (endpoint_of R.stream C.word_of state.new context.new rng.new
         ≡ table.on_chunk tag (chunk_tree chunk) (endpoint_of R.stream C.word_of state.old context.old rng.old)) }
-    ensures goes_on { GoesOn context.old context.new }
+    ensures goes_on { GoesOnWith context.old context.new (state_of state.new) }
     ensures ready { OnErr result (KeepsReady (state_of state.old) (state_of state.new)) }
 {
     match chunk {
@@ -225,7 +225,7 @@ fn allows_next(chunk: &Chunk) -> bool
 }
 
 /// One chunk. The answer is whether the next one is looked at.
-#[tactic(auto, using(sctp_endpoint::proofs::KeepsReadyLemmas::keeps_given, sctp_endpoint::proofs::GoesOnLemmas::goes_on_same, sctp_endpoint::proofs::GoesOnLemmas::goes_on_through))]
+#[tactic(auto, using(sctp_endpoint::proofs::KeepsReadyLemmas::keeps_given, sctp_endpoint::proofs::GoesOnLemmas::with_quiet))]
 fn receive<R: Rng, C: Checksum>(
     state: &mut State,
     context: &mut Context<C>,
@@ -236,7 +236,7 @@ fn receive<R: Rng, C: Checksum>(
     requires { carries_data (chunk_tree chunk) ≡ false }
     ensures ok { IfOk result (λ goes_on. after_chunk_of R.stream C.word_of state.new context.new rng.new goes_on
         ≡ table.receive tag (chunk_tree chunk) (endpoint_of R.stream C.word_of state.old context.old rng.old)) }
-    ensures goes_on { GoesOn context.old context.new }
+    ensures goes_on { GoesOnWith context.old context.new (state_of state.new) }
     ensures ready { OnErr result (KeepsReady (state_of state.old) (state_of state.new)) }
 {
     if let Some(misuse) = violation(state, &chunk) {
@@ -293,7 +293,7 @@ fn built(alloc: Global, raw: RawChunk<'_>) -> Result<Chunk, AllocError>
 }
 
 /// One chunk where it lies. DATA is received there, and others are built. The answer is whether the next one is looked at.
-#[tactic(auto, using(sctp_endpoint::proofs::KeepsReadyLemmas::keeps_alone, sctp_endpoint::proofs::GoesOnLemmas::goes_on_same, sctp_endpoint::proofs::GoesOnLemmas::goes_on_through))]
+#[tactic(auto, using(sctp_endpoint::proofs::KeepsReadyLemmas::keeps_alone, sctp_endpoint::proofs::GoesOnLemmas::with_same, sctp_endpoint::proofs::GoesOnLemmas::with_quiet))]
 fn receive_in_place<R: Rng, C: Checksum>(
     state: &mut State,
     context: &mut Context<C>,
@@ -303,7 +303,7 @@ fn receive_in_place<R: Rng, C: Checksum>(
 ) -> Result<bool, AllocError>
     ensures ok { (t : ChunkTree) → IsChunk (raw_chunk raw.entry) t → IfOk result (λ goes_on. after_chunk_of R.stream C.word_of state.new context.new rng.new goes_on
         ≡ table.receive tag t (endpoint_of R.stream C.word_of state.old context.old rng.old)) }
-    ensures goes_on { GoesOn context.old context.new }
+    ensures goes_on { GoesOnWith context.old context.new (state_of state.new) }
     ensures ready { OnErr result (KeepsReady (state_of state.old) (state_of state.new)) }
 {
     match raw.data_view() {
@@ -316,7 +316,7 @@ fn receive_in_place<R: Rng, C: Checksum>(
 }
 
 /// One chunk after the other.
-#[tactic(auto, using(sctp_endpoint::proofs::GoesOnLemmas::goes_on_same, sctp_endpoint::proofs::GoesOnLemmas::goes_on_through))]
+#[tactic(auto, using(sctp_endpoint::proofs::GoesOnLemmas::continues_same, sctp_endpoint::proofs::GoesOnLemmas::continues_through, sctp_endpoint::proofs::GoesOnLemmas::continues_with))]
 fn receive_all<R: Rng, C: Checksum>(
     state: &mut State,
     context: &mut Context<C>,
@@ -326,8 +326,8 @@ fn receive_all<R: Rng, C: Checksum>(
 ) -> Result<(), AllocError>
     ensures ok { (chunks : List ChunkTree) → AreLeft view.entry chunks → OnOk result (endpoint_of R.stream C.word_of state.new context.new rng.new
         ≡ table.receive_all tag chunks (endpoint_of R.stream C.word_of state.old context.old rng.old)) }
-    ensures goes_on { GoesOn context.old context.new }
-    ensures stops { (chunks : List ChunkTree) → AreLeft view.entry chunks → OnErr result (StopsAmong tag chunks (endpoint_of R.stream C.word_of state.old context.old rng.old) (state_of state.new)) }
+    ensures goes_on { Continues context.old context.new }
+    ensures stops { (chunks : List ChunkTree) → AreLeft view.entry chunks → OnErr result (StopsAmong tag chunks (endpoint_of R.stream C.word_of state.old context.old rng.old) (endpoint_state_of C.word_of state.new context.new)) }
 {
     while let Some(raw) = view.next_chunk() {
         if !receive_in_place(state, context, rng, tag, raw)? {
@@ -369,7 +369,7 @@ fn on_packet_end<C: Checksum>(state: &mut State, context: &mut Context<C>) -> Re
 }
 
 /// The chunks of a packet that is taken.
-#[tactic(auto, using(sctp_endpoint::proofs::GoesOnLemmas::goes_on_same, sctp_endpoint::proofs::GoesOnLemmas::goes_on_through))]
+#[tactic(auto, using(sctp_endpoint::proofs::GoesOnLemmas::continues_by, sctp_endpoint::proofs::GoesOnLemmas::continues_behind, sctp_endpoint::proofs::GoesOnLemmas::continues_on))]
 fn handle_accepted_packet<R: Rng, C: Checksum>(
     state: &mut State,
     context: &mut Context<C>,
@@ -380,9 +380,9 @@ fn handle_accepted_packet<R: Rng, C: Checksum>(
 ) -> Result<(), AllocError>
     ensures ok { (chunks : List ChunkTree) → AreLeft view.entry chunks → has_data ≡ table.has_data_chunk chunks
         → OnOk result (endpoint_of R.stream C.word_of state.new context.new rng.new ≡ table.on_accepted_packet tag chunks (endpoint_of R.stream C.word_of state.old context.old rng.old)) }
-    ensures goes_on { GoesOn context.old context.new }
+    ensures goes_on { Continues context.old context.new }
     ensures stops { (chunks : List ChunkTree) → AreLeft view.entry chunks → has_data ≡ table.has_data_chunk chunks
-        → OnErr result (StopsAmong tag chunks (table.in_endpoint_state (table.repeats_if has_data) (endpoint_of R.stream C.word_of state.old context.old rng.old)) (state_of state.new)) }
+        → OnErr result (StopsAmong tag chunks (table.in_endpoint_state (table.repeats_if has_data) (endpoint_of R.stream C.word_of state.old context.old rng.old)) (endpoint_state_of C.word_of state.new context.new)) }
 {
     repeat_if(state, context, has_data)?;
     receive_all(state, context, rng, tag, view)?;
@@ -390,7 +390,7 @@ fn handle_accepted_packet<R: Rng, C: Checksum>(
 }
 
 /// A packet that could be read, where it lies.
-#[tactic(auto, using(sctp_endpoint::proofs::GoesOnLemmas::goes_on_same, sctp_endpoint::proofs::GoesOnLemmas::goes_on_through))]
+#[tactic(auto, using(crate::proofs::InterruptedLemmas::stops_quietly, sctp_endpoint::proofs::GoesOnLemmas::continues_by, sctp_endpoint::proofs::GoesOnLemmas::continues_behind, sctp_endpoint::proofs::GoesOnLemmas::goes_on_through))]
 pub(crate) fn handle_packet<R: Rng, C: Checksum>(
     state: &mut State,
     context: &mut Context<C>,
@@ -399,8 +399,8 @@ pub(crate) fn handle_packet<R: Rng, C: Checksum>(
 ) -> Result<(), AllocError>
     ensures ok { (chunks : List ChunkTree) → AreLeft view.entry chunks → OnOk result (endpoint_of R.stream C.word_of state.new context.new rng.new
         ≡ table.on_packet (viewed_packet view.entry chunks) (endpoint_of R.stream C.word_of state.old context.old rng.old)) }
-    ensures goes_on { GoesOn context.old context.new }
-    ensures stops { (chunks : List ChunkTree) → AreLeft view.entry chunks → OnErr result (StopsPacket (viewed_packet view.entry chunks) (endpoint_of R.stream C.word_of state.old context.old rng.old) (state_of state.new)) }
+    ensures goes_on { Continues context.old context.new }
+    ensures stops { (chunks : List ChunkTree) → AreLeft view.entry chunks → OnErr result (StopsPacket (viewed_packet view.entry chunks) (endpoint_of R.stream C.word_of state.old context.old rng.old) (endpoint_state_of C.word_of state.new context.new)) }
 {
     count_packet(context);
     let tag = view.header().verification_tag;
@@ -426,7 +426,7 @@ fn refuse_bytes<C: Checksum>(context: &mut Context<C>) -> Result<(), AllocError>
 }
 
 /// The bytes of a packet that came.
-#[tactic(auto, using(sctp_endpoint::proofs::GoesOnLemmas::goes_on_same, sctp_endpoint::proofs::GoesOnLemmas::goes_on_through))]
+#[tactic(auto, using(sctp_endpoint::proofs::GoesOnLemmas::continues_by))]
 pub(crate) fn handle_input<R: Rng, C: Checksum>(
     state: &mut State,
     context: &mut Context<C>,
@@ -435,8 +435,8 @@ pub(crate) fn handle_input<R: Rng, C: Checksum>(
 ) -> Result<(), AllocError>
     ensures ok { OnOk result (Receives (C.word_of context.old.checksum) bytes.now (endpoint_of R.stream C.word_of state.old context.old rng.old)
         (endpoint_of R.stream C.word_of state.new context.new rng.new)) }
-    ensures goes_on { GoesOn context.old context.new }
-    ensures stops { OnErr result (StopsIn (C.word_of context.old.checksum) bytes.now (endpoint_of R.stream C.word_of state.old context.old rng.old) (state_of state.new)) }
+    ensures goes_on { Continues context.old context.new }
+    ensures stops { OnErr result (StopsIn (C.word_of context.old.checksum) bytes.now (endpoint_of R.stream C.word_of state.old context.old rng.old) (endpoint_state_of C.word_of state.new context.new)) }
 {
     let word = packet_word(context, bytes);
     match PacketView::new(bytes, word, &policy(context)) {

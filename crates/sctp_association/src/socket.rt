@@ -201,12 +201,12 @@ impl<R: Rng, C: Checksum> DcSctpSocket for Socket<R, C> {
         get_next_message(&mut self.state, &self.context.options)
     }
 
-    #[tactic(auto, using(crate::proofs::StandsLemmas::stands_same, crate::proofs::StandsLemmas::stands_by, crate::proofs::StandsLemmas::stands_on))]
+    #[tactic(auto, using(crate::proofs::StandsLemmas::stands_same, crate::proofs::StandsLemmas::stands_along))]
     fn handle_input(&mut self, bytes: &[u8]) -> Result<(), CallError>
         ensures ends { Ends (ending_of result) self.old self.new }
         ensures ok { OnOk result (Receives (C.word_of self.old.context.checksum) bytes.now (endpoint R.stream C.word_of self.old) (endpoint R.stream C.word_of self.new)) }
         ensures stands { Grown self.old.context.emitted self.new.context.emitted }
-        ensures stops { OnErr result (StopsIn (C.word_of self.old.context.checksum) bytes.now (endpoint R.stream C.word_of self.old) self.new.state) }
+        ensures stops { OnErr result (StopsIn (C.word_of self.old.context.checksum) bytes.now (endpoint R.stream C.word_of self.old) (endpoint R.stream C.word_of self.new).endpoint_state) }
     {
         if self.has_failed {
             return Err(CallError::Failed);
@@ -215,7 +215,7 @@ impl<R: Rng, C: Checksum> DcSctpSocket for Socket<R, C> {
         Ok(ended(&mut self.has_failed, done)?)
     }
 
-    #[tactic(auto, using(crate::proofs::StandsLemmas::stands_same, crate::proofs::StandsLemmas::stands_by, crate::proofs::StandsLemmas::stands_on))]
+    #[tactic(auto, using(crate::proofs::StandsLemmas::stands_same, crate::proofs::StandsLemmas::stands_by, crate::proofs::StandsLemmas::stands_on, crate::proofs::StandsLemmas::quiet_same, crate::proofs::StandsLemmas::quiet_by, crate::proofs::StandsLemmas::quiet_on))]
     fn advance_time(&mut self, now: SocketTime) -> Result<(), CallError>
         ensures ends { Ends (ending_of result) self.old self.new }
         ensures ok { OnOk result (endpoint R.stream C.word_of self.new ≡ in_endpoint_state (time.advance now) (endpoint R.stream C.word_of self.old)) }
@@ -235,7 +235,7 @@ impl<R: Rng, C: Checksum> DcSctpSocket for Socket<R, C> {
         poll_timeout(&self.context, &self.state)
     }
 
-    #[tactic(auto, using(crate::proofs::StandsLemmas::stands_same, crate::proofs::StandsLemmas::stands_by, crate::proofs::StandsLemmas::stands_on))]
+    #[tactic(auto, using(crate::proofs::StandsLemmas::stands_same, crate::proofs::StandsLemmas::stands_by, crate::proofs::StandsLemmas::stands_on, crate::proofs::StandsLemmas::quiet_same, crate::proofs::StandsLemmas::quiet_by, crate::proofs::StandsLemmas::quiet_on))]
     fn connect(&mut self) -> Result<(), CallError>
         ensures ends { Ends (ending_of result) self.old self.new }
         ensures ok { OnOk result (endpoint R.stream C.word_of self.new ≡ opening.connect (endpoint R.stream C.word_of self.old)) }
@@ -249,7 +249,7 @@ impl<R: Rng, C: Checksum> DcSctpSocket for Socket<R, C> {
         Ok(ended(&mut self.has_failed, done)?)
     }
 
-    #[tactic(auto, using(crate::proofs::StandsLemmas::stands_same, crate::proofs::StandsLemmas::stands_by, crate::proofs::StandsLemmas::stands_on))]
+    #[tactic(auto, using(crate::proofs::StandsLemmas::stands_same, crate::proofs::StandsLemmas::stands_by, crate::proofs::StandsLemmas::stands_on, crate::proofs::StandsLemmas::quiet_same, crate::proofs::StandsLemmas::quiet_by, crate::proofs::StandsLemmas::quiet_on))]
     fn close(&mut self) -> Result<(), CallError>
         ensures ends { Ends (ending_of result) self.old self.new }
         ensures ok { OnOk result (endpoint R.stream C.word_of self.new ≡ in_endpoint_state closing.close (endpoint R.stream C.word_of self.old)) }
@@ -263,7 +263,7 @@ impl<R: Rng, C: Checksum> DcSctpSocket for Socket<R, C> {
         Ok(ended(&mut self.has_failed, done)?)
     }
 
-    #[tactic(auto, using(crate::proofs::StandsLemmas::stands_same, crate::proofs::StandsLemmas::stands_by, crate::proofs::StandsLemmas::stands_on))]
+    #[tactic(auto, using(crate::proofs::StandsLemmas::stands_same, crate::proofs::StandsLemmas::stands_by, crate::proofs::StandsLemmas::stands_on, crate::proofs::StandsLemmas::quiet_same, crate::proofs::StandsLemmas::quiet_by, crate::proofs::StandsLemmas::quiet_on))]
     fn shutdown(&mut self) -> Result<(), CallError>
         ensures ends { Ends (ending_of result) self.old self.new }
         ensures ok { OnOk result (endpoint R.stream C.word_of self.new ≡ in_endpoint_state closing.shutdown (endpoint R.stream C.word_of self.old)) }
@@ -277,7 +277,7 @@ impl<R: Rng, C: Checksum> DcSctpSocket for Socket<R, C> {
         Ok(ended(&mut self.has_failed, done)?)
     }
 
-    #[tactic(auto, using(crate::proofs::StandsLemmas::stands_same, crate::proofs::StandsLemmas::stands_by, crate::proofs::StandsLemmas::stands_on))]
+    #[tactic(auto, using(crate::proofs::StandsLemmas::stands_same, crate::proofs::StandsLemmas::stands_by, crate::proofs::StandsLemmas::stands_on, crate::proofs::StandsLemmas::quiet_same, crate::proofs::StandsLemmas::quiet_by, crate::proofs::StandsLemmas::quiet_on))]
     fn send(&mut self, message: Message, options: &SendOptions) -> Result<(), SendError>
         ensures ends { Ends (sending_ending result) self.old self.new }
         ensures answer { sending_ending result ≡ Worked → refusal_in result ≡ calls.send_refusal_of (message_of message) (endpoint R.stream C.word_of self.old).endpoint_state }
@@ -296,7 +296,7 @@ impl<R: Rng, C: Checksum> DcSctpSocket for Socket<R, C> {
         }
     }
 
-    #[tactic(auto, using(crate::proofs::StandsLemmas::stands_same, crate::proofs::StandsLemmas::stands_by, crate::proofs::StandsLemmas::stands_on))]
+    #[tactic(auto, using(crate::proofs::StandsLemmas::stands_same, crate::proofs::StandsLemmas::stands_by, crate::proofs::StandsLemmas::stands_on, crate::proofs::StandsLemmas::quiet_same, crate::proofs::StandsLemmas::quiet_by, crate::proofs::StandsLemmas::quiet_on))]
     fn send_many(&mut self, messages: Vec<Message>, options: &SendOptions) -> Result<(), BatchFault>
         ensures ends { Ends (batch_ending result) self.old self.new }
         ensures answer { batch_ending result ≡ Worked → refusals_in result ≡ (let s = (endpoint R.stream C.word_of self.old).endpoint_state in
@@ -318,7 +318,7 @@ impl<R: Rng, C: Checksum> DcSctpSocket for Socket<R, C> {
         Err(BatchFault::Refused(BatchSendError(refusals)))
     }
 
-    #[tactic(auto, using(crate::proofs::StandsLemmas::stands_same, crate::proofs::StandsLemmas::stands_by, crate::proofs::StandsLemmas::stands_on))]
+    #[tactic(auto, using(crate::proofs::StandsLemmas::stands_same, crate::proofs::StandsLemmas::stands_by, crate::proofs::StandsLemmas::stands_on, crate::proofs::StandsLemmas::quiet_same, crate::proofs::StandsLemmas::quiet_by, crate::proofs::StandsLemmas::quiet_on))]
     fn reset_streams(&mut self, streams: &[StreamId]) -> Result<(), ResetStreamsError>
         ensures ends { Ends (resetting_ending result) self.old self.new }
         ensures answer { resetting_ending result ≡ Worked → reset_refusal_in result ≡ resets.reset_refusal self.old.state }
@@ -338,7 +338,7 @@ impl<R: Rng, C: Checksum> DcSctpSocket for Socket<R, C> {
         }
     }
 
-    #[tactic(auto, using(crate::proofs::StandsLemmas::stands_same, crate::proofs::StandsLemmas::stands_by, crate::proofs::StandsLemmas::stands_on))]
+    #[tactic(auto, using(crate::proofs::StandsLemmas::stands_same, crate::proofs::StandsLemmas::stands_by, crate::proofs::StandsLemmas::stands_on, crate::proofs::StandsLemmas::quiet_same, crate::proofs::StandsLemmas::quiet_by, crate::proofs::StandsLemmas::quiet_on))]
     fn set_stream_priority(&mut self, id: StreamId, priority: u16) -> Result<(), CallError>
         ensures ends { Ends (ending_of result) self.old self.new }
         ensures ok { OnOk result (endpoint R.stream C.word_of self.new ≡ in_endpoint_state (in_context (calls.set_priority id.0 priority)) (endpoint R.stream C.word_of self.old)) }
@@ -358,7 +358,7 @@ impl<R: Rng, C: Checksum> DcSctpSocket for Socket<R, C> {
         self.context.send_queue.get_priority(id)
     }
 
-    #[tactic(auto, using(crate::proofs::StandsLemmas::stands_same, crate::proofs::StandsLemmas::stands_by, crate::proofs::StandsLemmas::stands_on))]
+    #[tactic(auto, using(crate::proofs::StandsLemmas::stands_same, crate::proofs::StandsLemmas::stands_by, crate::proofs::StandsLemmas::stands_on, crate::proofs::StandsLemmas::quiet_same, crate::proofs::StandsLemmas::quiet_by, crate::proofs::StandsLemmas::quiet_on))]
     fn set_buffered_amount_low_threshold(
         &mut self,
         id: StreamId,
@@ -426,7 +426,7 @@ impl<R: Rng, C: Checksum> DcSctpSocket for Socket<R, C> {
         get_handover_readiness(&self.context, &self.state)
     }
 
-    #[tactic(auto, using(crate::proofs::StandsLemmas::stands_same, crate::proofs::StandsLemmas::stands_by, crate::proofs::StandsLemmas::stands_on))]
+    #[tactic(auto, using(crate::proofs::StandsLemmas::stands_same, crate::proofs::StandsLemmas::stands_by, crate::proofs::StandsLemmas::stands_on, crate::proofs::StandsLemmas::quiet_same, crate::proofs::StandsLemmas::quiet_by, crate::proofs::StandsLemmas::quiet_on))]
     fn get_handover_state_and_close(&mut self) -> Result<SocketHandoverState, HandoverError>
         ensures ends { Ends (handover_ending result) self.old self.new }
         ensures answer { handover_ending result ≡ Worked → readiness_in result ≡ handover.readiness (endpoint R.stream C.word_of self.old).endpoint_state }
@@ -448,7 +448,7 @@ impl<R: Rng, C: Checksum> DcSctpSocket for Socket<R, C> {
         Ok(ended(&mut self.has_failed, state)?)
     }
 
-    #[tactic(auto, using(crate::proofs::StandsLemmas::stands_same, crate::proofs::StandsLemmas::stands_by, crate::proofs::StandsLemmas::stands_on))]
+    #[tactic(auto, using(crate::proofs::StandsLemmas::stands_same, crate::proofs::StandsLemmas::stands_with, crate::proofs::StandsLemmas::held_same, crate::proofs::StandsLemmas::held_with))]
     fn restore_from_state(&mut self, state: &SocketHandoverState) -> Result<(), RestoreError>
         ensures ends { Ends (restore_ending result) self.old self.new }
         ensures answer { restore_ending result ≡ Worked → restore_refusal_in result ≡ handover.restore_refusal_in self.old.state (handover_state_of state.now) }

@@ -3,9 +3,9 @@
 ghost use Rattle.std.specs.Prelude.{◌≡◌, ◌<◌, ◌^◌, ◌⊎◌, false, None, length, map, IfOk, OnErr, OnOk};
 ghost use Rattle.sctp_serial.specs.Messages.{message_of};
 ghost use Rattle.sctp_tx_queue.specs.SendQueue.{total_of};
-ghost use Rattle.sctp_state.specs.Events.{Grown, emit_events};
+ghost use Rattle.sctp_state.specs.Events.{emit_events};
 ghost use Rattle.sctp_state.specs.Options.{send_options_of};
-ghost use Rattle.sctp_endpoint.specs.GoesOn.{GoesOn};
+ghost use Rattle.sctp_endpoint.specs.GoesOn.{GoesOn, GrownQuietly};
 ghost use Rattle.sctp_endpoint.specs.Views.{context_of, phase_of, endpoint_state_of, state_of};
 ghost use Rattle.spec_endpoint.specs.Calls.{ready_in};
 ghost use Rattle.spec_endpoint.specs.Shown.{association_in};
@@ -147,7 +147,7 @@ fn refusal<C: Checksum>(
 }
 
 /// A message is queued, or refused; then the answer says why.
-#[tactic(auto, using(sctp_endpoint::proofs::GoesOnLemmas::goes_on_same, sctp_endpoint::proofs::GoesOnLemmas::goes_on_through, sctp_state::proofs::EventLemmas::grown_same))]
+#[tactic(auto, using(sctp_endpoint::proofs::GoesOnLemmas::goes_on_same, sctp_endpoint::proofs::GoesOnLemmas::goes_on_through, sctp_endpoint::proofs::QuietLemmas::quietly_same))]
 fn offer<C: Checksum>(
     context: &mut Context<C>,
     shown: SocketState,
@@ -157,7 +157,7 @@ fn offer<C: Checksum>(
     ensures answer { IfOk result (λ refusal. refusal ≡ table.send_refusal (message_of message) shown (context_of C.word_of context.old)) }
     ensures offered { OnOk result (context_of C.word_of context.new
         ≡ table.offer (message_of message) (send_options_of options.now) shown (context_of C.word_of context.old)) }
-    ensures grown { Grown context.old.emitted context.new.emitted }
+    ensures grown { GrownQuietly context.old.emitted context.new.emitted }
     ensures unsent { OnErr result (context.new.queue ≡ context.old.queue) }
     ensures uncounted { OnErr result (context.new.counts.tx_messages ≡ context.old.counts.tx_messages) }
 {
@@ -206,7 +206,7 @@ pub fn set_max_message_size<C: Checksum>(context: &mut Context<C>, bytes: usize)
 }
 
 /// A message is queued and sent as far as it may be; or refused, then the answer says why.
-#[tactic(auto, using(sctp_endpoint::proofs::GoesOnLemmas::goes_on_same, sctp_endpoint::proofs::GoesOnLemmas::goes_on_through, sctp_state::proofs::EventLemmas::grown_through))]
+#[tactic(auto, using(sctp_endpoint::proofs::GoesOnLemmas::goes_on_same, sctp_endpoint::proofs::GoesOnLemmas::goes_on_through, sctp_endpoint::proofs::QuietLemmas::quietly_through))]
 pub fn send<C: Checksum>(
     state: &mut State,
     context: &mut Context<C>,
@@ -216,7 +216,7 @@ pub fn send<C: Checksum>(
     ensures answer { IfOk result (λ refusal. refusal ≡ table.send_refusal_of (message_of message) (endpoint_state_of C.word_of state.old context.old)) }
     ensures sent { OnOk result (endpoint_state_of C.word_of state.new context.new
         ≡ table.send (message_of message) (send_options_of options.now) (endpoint_state_of C.word_of state.old context.old)) }
-    ensures grown { Grown context.old.emitted context.new.emitted }
+    ensures grown { GrownQuietly context.old.emitted context.new.emitted }
     ensures counted { let c = context_of C.word_of context.old in
         OnErr result ((context.new.counts.tx_messages ≡ c.counts.tx_messages) ⊎ (context.new.counts.tx_messages ≡ (table.offer (message_of message) (send_options_of options.now) (table.shown_state (state_of state.old)) c).counts.tx_messages)) }
     ensures ready { ready_in (state_of state.new) ≡ ready_in (state_of state.old) }
@@ -231,7 +231,7 @@ pub fn send<C: Checksum>(
 }
 
 /// Messages are queued or refused, one after the other.
-#[tactic(auto, using(sctp_endpoint::proofs::GoesOnLemmas::goes_on_same, sctp_endpoint::proofs::GoesOnLemmas::goes_on_through, sctp_state::proofs::EventLemmas::grown_through))]
+#[tactic(auto, using(sctp_endpoint::proofs::GoesOnLemmas::goes_on_same, sctp_endpoint::proofs::GoesOnLemmas::goes_on_through, sctp_endpoint::proofs::QuietLemmas::quietly_through))]
 fn offer_all<C: Checksum>(
     context: &mut Context<C>,
     shown: SocketState,
@@ -241,7 +241,7 @@ fn offer_all<C: Checksum>(
     ensures refusals { IfOk result (λ refusals. refusals.items ≡ table.refusals 0 (map message_of messages.items) (send_options_of options.now) shown (context_of C.word_of context.old)) }
     ensures offered { OnOk result (context_of C.word_of context.new
         ≡ table.offer_all (map message_of messages.items) (send_options_of options.now) shown (context_of C.word_of context.old)) }
-    ensures grown { Grown context.old.emitted context.new.emitted }
+    ensures grown { GrownQuietly context.old.emitted context.new.emitted }
 {
     let mut refusals = Vec::new(context.alloc);
     for (place, message) in messages.into_iter().enumerate() {
@@ -253,7 +253,7 @@ fn offer_all<C: Checksum>(
 }
 
 /// Several messages are queued, and sent at the end. The answer names those that are refused by their places.
-#[tactic(auto, using(sctp_endpoint::proofs::GoesOnLemmas::goes_on_same, sctp_endpoint::proofs::GoesOnLemmas::goes_on_through, sctp_state::proofs::EventLemmas::grown_through))]
+#[tactic(auto, using(sctp_endpoint::proofs::GoesOnLemmas::goes_on_same, sctp_endpoint::proofs::GoesOnLemmas::goes_on_through, sctp_endpoint::proofs::QuietLemmas::quietly_through))]
 pub fn send_many<C: Checksum>(
     state: &mut State,
     context: &mut Context<C>,
@@ -264,7 +264,7 @@ pub fn send_many<C: Checksum>(
         (table.shown_state (state_of state.old)) (context_of C.word_of context.old)) }
     ensures sent { OnOk result (endpoint_state_of C.word_of state.new context.new
         ≡ table.send_many (map message_of messages.items) (send_options_of options.now) (endpoint_state_of C.word_of state.old context.old)) }
-    ensures grown { Grown context.old.emitted context.new.emitted }
+    ensures grown { GrownQuietly context.old.emitted context.new.emitted }
     ensures ready { ready_in (state_of state.new) ≡ ready_in (state_of state.old) }
     ensures association { association_in (state_of state.new) ≡ association_in (state_of state.old) }
 {

@@ -10,7 +10,7 @@ ghost use Rattle.spec_endpoint.specs.Association.{Closed, Established, Open};
 ghost use Rattle.spec_endpoint.specs.Calls.{ready_in};
 ghost use Rattle.spec_endpoint.specs.Shown.{association_in};
 ghost use Rattle.spec_endpoint.specs.Packets.{emit_event_in};
-ghost use Rattle.sctp_endpoint.specs.GoesOn.{GoesOn};
+ghost use Rattle.sctp_endpoint.specs.GoesOn.{GoesOn, GoesOnWith};
 ghost use Rattle.sctp_endpoint.specs.Views.{after_sending_of, context_of, phase_of, endpoint_state_of, state_of, tcb_of};
 ghost use Rattle.spec_endpoint.specs.Handover as table;
 
@@ -181,23 +181,23 @@ fn wake<C: Checksum>(context: &mut Context<C>, tcb: &mut TransmissionControlBloc
 }
 
 /// The association goes on; it is new to the user of this socket.
-#[tactic(auto, using(sctp_endpoint::proofs::GoesOnLemmas::goes_on_same, sctp_endpoint::proofs::GoesOnLemmas::goes_on_through))]
+#[tactic(auto, using(sctp_endpoint::proofs::GoesOnLemmas::with_held))]
 fn go_on<C: Checksum>(
     state: &mut State,
     context: &mut Context<C>,
     tcb: TransmissionControlBlock,
 ) -> Result<(), AllocError>
     ensures ok { OnOk result (endpoint_state_of C.word_of state.new context.new ≡ table.goes_on (after_sending_of C.word_of tcb context.old)) }
-    ensures goes_on { GoesOn context.old context.new }
+    ensures goes_on { GoesOnWith context.old context.new (state_of state.new) }
     ensures association { association_in (state_of state.new) ≡ association_in (Open Established (tcb_of tcb)) }
 {
     state.enter(State::Open(Phase::Established, tcb));
-    context.emit_event(SocketEvent::OnConnected())?;
+    context.announce(SocketEvent::OnConnected())?;
     send_waiting(state, context)
 }
 
 /// The association of a record goes on.
-#[tactic(auto, using(sctp_endpoint::proofs::GoesOnLemmas::goes_on_same, sctp_endpoint::proofs::GoesOnLemmas::goes_on_through, sctp_endpoint::proofs::GoesOnLemmas::goes_on_as))]
+#[tactic(auto, using(sctp_endpoint::proofs::GoesOnLemmas::with_quiet, sctp_endpoint::proofs::GoesOnLemmas::with_behind, sctp_endpoint::proofs::GoesOnLemmas::goes_on_through, sctp_endpoint::proofs::GoesOnLemmas::goes_on_as))]
 fn take_up<C: Checksum>(
     state: &mut State,
     context: &mut Context<C>,
@@ -206,7 +206,7 @@ fn take_up<C: Checksum>(
     requires connected { handed_over.now.socket_state ≡ HandoverSocketState.Connected }
     requires valid { IsTrue (is_valid_state (handover_state_of handed_over.now)) }
     ensures ok { OnOk result (endpoint_state_of C.word_of state.new context.new ≡ table.take_up (handover_state_of handed_over.now) (context_of C.word_of context.old)) }
-    ensures goes_on { GoesOn context.old context.new }
+    ensures goes_on { GoesOnWith context.old context.new (state_of state.new) }
     ensures held { OnErr result ((context.new.emitted ≡ context.old.emitted)
         ⊎ (association_in (state_of state.new) ≡ association_in (Open Established (table.tcb_from context.old.clock context.old.options (handover_state_of handed_over.now))))) }
     ensures association { (association_in (state_of state.new) ≡ association_in (state_of state.old))
@@ -221,7 +221,7 @@ fn take_up<C: Checksum>(
 }
 
 /// A valid record is taken up by a closed socket. Of a socket that was closed there is nothing to take up.
-#[tactic(auto, using(sctp_endpoint::proofs::GoesOnLemmas::goes_on_same, sctp_endpoint::proofs::GoesOnLemmas::goes_on_through))]
+#[tactic(auto, using(sctp_endpoint::proofs::GoesOnLemmas::with_same))]
 fn restore_closed<C: Checksum>(
     state: &mut State,
     context: &mut Context<C>,
@@ -230,7 +230,7 @@ fn restore_closed<C: Checksum>(
     requires valid { IsTrue (is_valid_state (handover_state_of handed_over.now)) }
     ensures ok { OnOk result (endpoint_state_of C.word_of state.new context.new
         ≡ table.restored_as handed_over.now.socket_state (handover_state_of handed_over.now) (endpoint_state_of C.word_of state.old context.old)) }
-    ensures goes_on { GoesOn context.old context.new }
+    ensures goes_on { GoesOnWith context.old context.new (state_of state.new) }
     ensures association { (association_in (state_of state.new) ≡ association_in (state_of state.old))
         ⊎ (association_in (state_of state.new) ≡ association_in (Open Established (table.tcb_from context.old.clock context.old.options (handover_state_of handed_over.now)))) }
 {
@@ -241,7 +241,7 @@ fn restore_closed<C: Checksum>(
 }
 
 /// A record is taken up, or refused; then the answer says why.
-#[tactic(auto, using(sctp_endpoint::proofs::GoesOnLemmas::goes_on_same, sctp_endpoint::proofs::GoesOnLemmas::goes_on_through))]
+#[tactic(auto, using(sctp_endpoint::proofs::GoesOnLemmas::with_same))]
 pub fn restore<C: Checksum>(
     state: &mut State,
     context: &mut Context<C>,
@@ -250,7 +250,7 @@ pub fn restore<C: Checksum>(
     ensures answer { IfOk result (λ refusal. refusal ≡ table.restore_refusal_in (state_of state.old) (handover_state_of handed_over.now)) }
     ensures restored { OnOk result (endpoint_state_of C.word_of state.new context.new
         ≡ table.restore (handover_state_of handed_over.now) (endpoint_state_of C.word_of state.old context.old)) }
-    ensures goes_on { GoesOn context.old context.new }
+    ensures goes_on { GoesOnWith context.old context.new (state_of state.new) }
     ensures allowed { OnErr result (table.restore_refusal_in (state_of state.old) (handover_state_of handed_over.now) ≡ None) }
     ensures association { (association_in (state_of state.new) ≡ association_in (state_of state.old))
         ⊎ (association_in (state_of state.new) ≡ association_in (Open Established (table.tcb_from context.old.clock context.old.options (handover_state_of handed_over.now)))) }

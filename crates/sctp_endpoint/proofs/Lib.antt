@@ -4,5 +4,6 @@ pub mod GoesOnLemmas
 pub mod KeepsReadyLemmas
 pub mod GrownLemmas
 pub mod OutgoingLemmas
+pub mod QuietLemmas
 pub mod RequestLemmas
 pub mod WrittenLemmas

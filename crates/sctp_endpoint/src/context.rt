@@ -1,13 +1,13 @@
 //! What an end has in every state: its options, its clock, the messages that wait, and what it emits.
 
-ghost use Rattle.std.specs.Prelude.{◌≡◌, OnErr, OnOk, Some};
+ghost use Rattle.std.specs.Prelude.{◌≡◌, false, OnErr, OnOk, Some};
 ghost use Rattle.sctp_packet.specs.ChunkView.{chunk_tree};
 ghost use Rattle.sctp_state.specs.Events.{OnError, OnAborted, event_of};
 ghost use Rattle.sctp_state.specs.Options.{IsValid, options_of};
 ghost use Rattle.spec_endpoint.specs.Association.{context};
 ghost use Rattle.spec_endpoint.specs.Packets.{add, emit_error, emit, emit_chunk, clear_chunks, new_packet, emit_event_in};
 ghost use Rattle.sctp_endpoint.specs.Views.{context_of, tcb_of};
-ghost use Rattle.sctp_endpoint.specs.GoesOn.{GoesOn};
+ghost use Rattle.sctp_endpoint.specs.GoesOn.{Continues, GoesOn, announces};
 ghost use Rattle.spec_endpoint.specs.Wire.{writing};
 ghost use Rattle.spec_endpoint.specs.Shutdown as closing;
 ghost use Rattle.spec_endpoint.specs.Heartbeats as heartbeats;
@@ -128,7 +128,7 @@ impl<C: Checksum> Context<C> {
     }
 
     /// A packet goes out, where something was put into it; then it is empty again.
-    #[tactic(auto, using(crate::proofs::GoesOnLemmas::goes_on_same, crate::proofs::GoesOnLemmas::goes_on_as, crate::proofs::GoesOnLemmas::goes_on_by, crate::proofs::GoesOnLemmas::grown_by))]
+    #[tactic(auto, using(crate::proofs::GoesOnLemmas::goes_on_same, crate::proofs::GoesOnLemmas::goes_on_as, crate::proofs::GoesOnLemmas::goes_on_by, crate::proofs::QuietLemmas::quietly_by))]
     pub fn emit(&mut self, packet: &mut OutgoingPacket) -> Result<(), AllocError>
         ensures context { OnOk result (context_of C.word_of self.new ≡ emit packet.old (context_of C.word_of self.old)) }
         ensures packet { OnOk result (packet.new ≡ clear_chunks packet.old) }
@@ -172,7 +172,7 @@ impl<C: Checksum> Context<C> {
     }
 
     /// Emits an error.
-    #[tactic(auto, using(crate::proofs::GoesOnLemmas::goes_on_same, crate::proofs::GoesOnLemmas::goes_on_as, crate::proofs::GoesOnLemmas::goes_on_by, crate::proofs::GoesOnLemmas::grown_by))]
+    #[tactic(auto, using(crate::proofs::GoesOnLemmas::goes_on_same, crate::proofs::GoesOnLemmas::goes_on_as, crate::proofs::GoesOnLemmas::goes_on_by, crate::proofs::QuietLemmas::quietly_by))]
     pub fn emit_error(&mut self, kind: ErrorKind, text: &str) -> Result<(), AllocError>
         ensures ok { OnOk result (context_of C.word_of self.new ≡ emit_error kind text.now (context_of C.word_of self.old)) }
         ensures goes_on { GoesOn self.old self.new }
@@ -182,11 +182,23 @@ impl<C: Checksum> Context<C> {
         self.events.add(SocketEvent::OnError(kind, text))
     }
 
-    /// Emits an event. The error is want of memory; nothing is emitted then.
-    #[tactic(auto, using(crate::proofs::GoesOnLemmas::goes_on_same, crate::proofs::GoesOnLemmas::goes_on_as, crate::proofs::GoesOnLemmas::goes_on_by, crate::proofs::GoesOnLemmas::grown_by))]
+    /// Emits an event that announces no association. The error is want of memory; nothing is emitted then.
+    #[tactic(auto, using(crate::proofs::GoesOnLemmas::goes_on_same, crate::proofs::GoesOnLemmas::goes_on_as, crate::proofs::GoesOnLemmas::goes_on_by, crate::proofs::QuietLemmas::quietly_by))]
     pub fn emit_event(&mut self, event: SocketEvent) -> Result<(), AllocError>
+        requires { announces (event_of event) ≡ false }
         ensures ok { OnOk result (context_of C.word_of self.new ≡ emit_event_in (event_of event) (context_of C.word_of self.old)) }
         ensures goes_on { GoesOn self.old self.new }
+        ensures err { OnErr result (self.new ≡ self.old) }
+    {
+        self.events.add(event)
+    }
+
+    /// Emits an event that may announce an association, which the end then holds. The error is want of memory; nothing is emitted
+    /// then.
+    #[tactic(auto, using(crate::proofs::GoesOnLemmas::continues_same, crate::proofs::GoesOnLemmas::continues_by_event))]
+    pub fn announce(&mut self, event: SocketEvent) -> Result<(), AllocError>
+        ensures ok { OnOk result (context_of C.word_of self.new ≡ emit_event_in (event_of event) (context_of C.word_of self.old)) }
+        ensures goes_on { Continues self.old self.new }
         ensures err { OnErr result (self.new ≡ self.old) }
     {
         self.events.add(event)
@@ -208,6 +220,7 @@ impl<C: Checksum> Context<C> {
     /// given up.
     #[tactic(auto, using(crate::proofs::GoesOnLemmas::goes_on_same, crate::proofs::GoesOnLemmas::goes_on_through))]
     pub fn internal_close(&mut self, event: SocketEvent) -> Result<(), AllocError>
+        requires { announces (event_of event) ≡ false }
         ensures ok { OnOk result (context_of C.word_of self.new ≡ closing.over (event_of event) (context_of C.word_of self.old)) }
         ensures goes_on { GoesOn self.old self.new }
     {

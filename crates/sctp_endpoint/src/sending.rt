@@ -18,7 +18,7 @@ use crate::state::State;
 use crate::transmission_control_block::TransmissionControlBlock;
 use sctp_packet::{COMMON_HEADER_SIZE, Chunk, CookieEchoChunk, Data};
 use sctp_serial::{StreamId, Tsn};
-use sctp_tx::ChunkForm;
+use sctp_tx::{ChunkForm, SendOpportunity};
 use sctp_wire::Checksum;
 use std::alloc::AllocError;
 use std::time::Duration;
@@ -172,11 +172,14 @@ impl<C: Checksum> Context<C> {
             is_immediate: tcb.retransmission_queue.cwnd() < self.immediate_sack_cwnd(),
         };
         let room = packet.bytes_remaining();
-        let is_sent = tcb.retransmission_queue.send_into(
-            self.clock,
-            room,
-            &mut self.send_queue,
+        let opportunity = SendOpportunity {
+            now: self.clock,
+            max_bytes: room,
             form,
+        };
+        let is_sent = tcb.retransmission_queue.send_into(
+            opportunity,
+            &mut self.send_queue,
             packet,
             &mut self.events,
         )?;

@@ -1,1 +1,2 @@
+pub mod AnnouncedLemmas
 pub mod RenewedLemmas

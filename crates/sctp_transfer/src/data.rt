@@ -23,7 +23,7 @@ use sctp_rx::ReassemblyQueue;
 use sctp_serial::{SocketTime, Tsn};
 use sctp_state::{ErrorKind, Options};
 use sctp_wire::Checksum;
-use std::alloc::{AllocError, Global};
+use std::alloc::AllocError;
 
 /// DATA or I-DATA, where it lies. Its payload is copied only where it is kept.
 #[tactic(auto, using(sctp_reassembly::proofs::ExtendsLemmas::extends_none, sctp_endpoint::proofs::GoesOnLemmas::goes_on_same, sctp_endpoint::proofs::GoesOnLemmas::goes_on_through))]
@@ -43,15 +43,7 @@ pub fn handle_data<C: Checksum>(
     }
     match state {
         State::Closed | State::CookieWait(_) => emit_data_error(context),
-        State::Open(_, tcb) => {
-            take_data(
-                tcb,
-                &context.options,
-                context.alloc,
-                context.clock,
-                fragment,
-            )
-        }
+        State::Open(_, tcb) => { take_data(tcb, &context.options, context.clock, fragment) }
     }
 }
 
@@ -101,7 +93,6 @@ fn has_room(tcb: &TransmissionControlBlock, options: &Options, tsn: Tsn) -> bool
 #[tactic(auto, using(sctp_reassembly::proofs::ExtendsLemmas::extends_none, crate::proofs::DataLemmas::not_taken))]
 fn keep_data(
     tcb: &mut TransmissionControlBlock,
-    alloc: Global,
     now: SocketTime,
     fragment: DataView<'_>,
 ) -> Result<(), AllocError>
@@ -114,7 +105,7 @@ fn keep_data(
 {
     let tsn = fragment.tsn;
     if tcb.data_tracker.observe(now, tsn, fragment.immediate_ack)? {
-        let data = fragment.to_data(alloc)?;
+        let data = tcb.reassembly_queue.copy_of(fragment)?;
         tcb.reassembly_queue.add(tsn, data)?;
     }
     Ok(())
@@ -137,7 +128,6 @@ fn tell_of_drop(tcb: &mut TransmissionControlBlock, options: &Options)
 fn take_data(
     tcb: &mut TransmissionControlBlock,
     options: &Options,
-    alloc: Global,
     now: SocketTime,
     fragment: DataView<'_>,
 ) -> Result<(), AllocError>
@@ -151,7 +141,7 @@ fn take_data(
         tell_of_drop(tcb, options);
         return Ok(());
     }
-    keep_data(tcb, alloc, now, fragment)
+    keep_data(tcb, now, fragment)
 }
 
 #[tactic(auto, using(sctp_endpoint::proofs::GoesOnLemmas::goes_on_same, sctp_endpoint::proofs::GoesOnLemmas::goes_on_through))]

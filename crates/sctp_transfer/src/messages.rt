@@ -81,6 +81,9 @@ fn take_first(tcb: &mut TransmissionControlBlock, options: &Options) -> Option<M
     ensures message { option_map message_of result ≡ first_of (tcb_of tcb.old).reassembly.ready }
     ensures rest { tcb_of tcb.new ≡ table.message_taken (options_of options.now) (tcb_of tcb.old) }
 {
+    if !options.avoid_stalls {
+        return first_message(tcb);
+    }
     let before = tcb.reassembly_queue.remaining_bytes();
     let message = first_message(tcb);
     let after = tcb.reassembly_queue.remaining_bytes();

@@ -1,9 +1,9 @@
-use Rattle.std.proofs.Common.{◌≡◌, List, length}
+use Rattle.std.proofs.Common.{◌≡◌, ℕ, List, length}
 use Rattle.sctp_packet.specs.Chunk.{ChunkTree}
 use Rattle.sctp_packet.specs.View.{AreLeft}
-use Rattle.spec_endpoint.specs.Association.{State}
+use Rattle.spec_endpoint.specs.Association.{EndpointState}
 use Rattle.spec_endpoint.specs.Input.{receive_all}
-use Rattle.sctp_endpoint.specs.GoesOn.{GoesOn}
+use Rattle.sctp_endpoint.specs.GoesOn.{Continues}
 use Rattle.sctp_endpoint.specs.Views.{endpoint_of}
 use Rattle.sctp_association.specs.Interrupted.{StopsAmong}
 use Rattle.sctp_association.proofs.input.receive_all.Given as goal
@@ -15,9 +15,9 @@ invariant-loop-raw g l = record {
       × (receive_all l.tag left (endpoint_of g.R.Rng.stream g.C.Checksum.word_of l.state l.context l.rng)
       ≡ receive_all l.tag chunks (endpoint_of g.R.Rng.stream g.C.Checksum.word_of l.fn.state l.fn.context l.fn.rng));
   stops : (chunks : List ChunkTree) → AreLeft l.fn.view chunks → (left : List ChunkTree) × AreLeft l.view left
-      × ((now : State) → StopsAmong l.tag left (endpoint_of g.R.Rng.stream g.C.Checksum.word_of l.state l.context l.rng) now
+      × ((now : EndpointState (List ℕ)) → StopsAmong l.tag left (endpoint_of g.R.Rng.stream g.C.Checksum.word_of l.state l.context l.rng) now
       → StopsAmong l.tag chunks (endpoint_of g.R.Rng.stream g.C.Checksum.word_of l.fn.state l.fn.context l.fn.rng) now);
-  goes_on : GoesOn l.fn.context l.context;
+  goes_on : Continues l.fn.context l.context;
 }
 
 abbrev pub decreases-loop-raw : goal.decreases-loop-raw

@@ -1,15 +1,16 @@
-use Rattle.std.proofs.Common.{rules, ◌≡◌, ◌&&◌, not, true, arith}
+use Rattle.std.proofs.Common.{rules, ap, ◌≡◌, ◌&&◌, not, true, arith}
 use Rattle.sctp_packet.specs.Views.{viewed_fragment}
+use Rattle.sctp_rx.specs.ReassemblyQueue.{queued_bytes, held_fragments}
 use Rattle.sctp_rx.specs.DataTracker.{number_of, is_valid, has_seen}
 use Rattle.sctp_endpoint.specs.Views.{tcb_of}
 use Rattle.sctp_transfer.proofs.DataLemmas.{taken_new}
 use Rattle.sctp_transfer.proofs.data.keep_data.Goals as goal
 
 pub add-requires-clause-room : goal.add-requires-clause-room
-add-requires-clause-room c = omega (arith, c.requires.bytes, c.in_ok-data.data.payload.small)
+add-requires-clause-room c = omega (arith, ap queued_bytes c.copy_of.ensures.others, c.requires.bytes, c.in_ok-data.data.payload.small)
 
 pub add-requires-clause-fragments : goal.add-requires-clause-fragments
-add-requires-clause-fragments c = omega (arith, c.requires.fragments)
+add-requires-clause-fragments c = omega (arith, ap held_fragments c.copy_of.ensures.others, c.requires.fragments)
 
 pub returns-in_ok-add-clause-ok : goal.returns-in_ok-add-clause-ok
 returns-in_ok-add-clause-ok c =
