@@ -4,9 +4,9 @@ use Rattle.std.specs.Prelude.{◌==◌, option_map}
 use Rattle.sctp_state.specs.Options.{Options}
 use Rattle.sctp_state.specs.Timer.{Timer, start, stop, is_due, expire, set_duration}
 use Rattle.sctp_state.specs.RetransmissionTimeout.{Rtt, rto, is_dropped, first_sample, later_sample, observe_rto}
-use Rattle.sctp_tracker.specs.declared.data_tracker.AckState.{AckState}
-use Rattle.sctp_tracker.specs.declared.data_tracker.AckState.TheVariants.{Idle, Becoming, Delayed, Immediate}
-use Rattle.sctp_tracker.specs.DataTracker.{Tracker, ack_delay, update_rto, ack_after, is_ack_due, take_ack, is_becoming, packet_end, ack_timeout, observe, forward}
+use Rattle.sctp_rx.specs.declared.data_tracker.AckState.{AckState}
+use Rattle.sctp_rx.specs.declared.data_tracker.AckState.TheVariants.{Idle, Becoming, Delayed, Immediate}
+use Rattle.sctp_rx.specs.DataTracker.{Tracker, ack_delay, update_rto, ack_after, is_ack_due, take_ack, is_becoming, packet_end, ack_timeout, observe, forward}
 use Rattle.sctp_capabilities.specs.Capabilities.{Capabilities}
 use Rattle.sctp_tx.specs.RetransmissionQueue.{Sender}
 use Rattle.spec_endpoint.specs.Association.{Identity, Tcb, tcb}

@@ -15,7 +15,7 @@ use Rattle.sctp_state.specs.Options.{Options, SendOptions}
 use Rattle.sctp_state.specs.Events.{OnAborted, OnIncomingStreamReset, numbers_of}
 use Rattle.sctp_state.specs.RetransmissionTimeout.{rto}
 use Rattle.sctp_state.specs.Timer.{Timer, is_due, is_running, expire, expire_once}
-use Rattle.sctp_tracker.specs.DataTracker.{ack_timeout}
+use Rattle.sctp_rx.specs.DataTracker.{ack_timeout}
 use Rattle.sctp_reassembly.specs.ReassemblyQueue.{Reassembly, defer, reset}
 use Rattle.spec_endpoint.specs.Association.{Tcb, Phase, CookieEchoed, Established, ShutdownPending, ShutdownSent, ShutdownReceived, ShutdownAckSent, State, Closed, CookieWait, Open, Heartbeats, Context, EndpointState, open_as}
 use Rattle.spec_endpoint.specs.Packets.{new_packet, emit_event_in}

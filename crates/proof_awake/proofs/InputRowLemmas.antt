@@ -8,8 +8,8 @@ use Rattle.sctp_state.specs.declared.api.ErrorKind.TheVariants.{PeerReported, Pr
 use Rattle.sctp_state.specs.Options.{Options}
 use Rattle.sctp_state.specs.Timer.{Timer}
 use Rattle.sctp_state.specs.Events.{OnAborted}
-use Rattle.sctp_tracker.specs.DataTracker.{is_ack_due, take_ack, packet_end}
-use Rattle.sctp_tracker.specs.Sack.{clear_duplicates}
+use Rattle.sctp_rx.specs.DataTracker.{is_ack_due, take_ack, packet_end}
+use Rattle.sctp_rx.specs.Sack.{clear_duplicates}
 use Rattle.spec_endpoint.specs.Association.{Tcb, Phase, CookieEchoed, Established, ShutdownPending, ShutdownSent, ShutdownReceived, ShutdownAckSent, State, Closed, CookieWait, Open, Heartbeats, Context, EndpointState, Endpoint, where_open}
 use Rattle.spec_endpoint.specs.Packets.{add, new_packet}
 use Rattle.spec_endpoint.specs.Heartbeats.{on_heartbeat_info, ack_by_length, clear_if_last, is_last_info, info_in}

@@ -5,8 +5,8 @@ use Rattle.rand_core.specs.Stream.{Stream}
 use Rattle.sctp_serial.specs.Time.{forever}
 use Rattle.sctp_state.specs.Options.{Options, IsValid}
 use Rattle.sctp_state.specs.Timer.{Timer, next_expiry, moment_of}
-use Rattle.sctp_tracker.specs.declared.data_tracker.AckState.{AckState}
-use Rattle.sctp_tracker.specs.declared.data_tracker.AckState.TheVariants.{Idle, Becoming, Delayed, Immediate}
+use Rattle.sctp_rx.specs.declared.data_tracker.AckState.{AckState}
+use Rattle.sctp_rx.specs.declared.data_tracker.AckState.TheVariants.{Idle, Becoming, Delayed, Immediate}
 use Rattle.spec_endpoint.specs.Association.{Tcb, CookieEchoed, Established, ShutdownPending, ShutdownSent, ShutdownReceived, ShutdownAckSent, State, Closed, CookieWait, Open, Heartbeats, Packing, EndpointState, fresh, Context, Phase}
 use Rattle.spec_endpoint.specs.Timers.{running_expiry, timeout_in, sends_owed}
 use Rattle.spec_endpoint.specs.Calls.{without_first_message, told_if, message_taken_in}

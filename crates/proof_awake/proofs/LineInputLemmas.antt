@@ -11,7 +11,7 @@ use Rattle.sctp_state.specs.declared.api.errors.SendError.{SendError}
 use Rattle.sctp_state.specs.declared.api.errors.ResetStreamsError.{ResetStreamsError}
 use Rattle.sctp_state.specs.Options.{Options, SendOptions}
 use Rattle.sctp_state.specs.Events.{OnAborted}
-use Rattle.sctp_tracker.specs.DataTracker.{is_ack_due}
+use Rattle.sctp_rx.specs.DataTracker.{is_ack_due}
 use Rattle.spec_endpoint.specs.Association.{Tcb, Phase, CookieEchoed, Established, ShutdownPending, ShutdownSent, ShutdownReceived, ShutdownAckSent, State, Closed, CookieWait, Open, Context, EndpointState, Endpoint, where_open}
 use Rattle.spec_endpoint.specs.Packets.{PacketDraft, add, new_packet, round_down_to_4}
 use Rattle.spec_endpoint.specs.Heartbeats.{on_heartbeat_info, ack_by_length, clear_if_last, is_last_info, info_in}
@@ -29,7 +29,7 @@ use Rattle.spec_endpoint.specs.Laws.{Call, Connect, Close, Shutdown, Send, SendM
 use Rattle.spec_endpoint.specs.Calls.{set_low_threshold, set_priority, shown_state, send_refusal_of, offered, sent_if, offer_all, take_message, told_if, opens_window, without_first_message}
 use Rattle.spec_endpoint.specs.Handover.{left_in, left_if, readiness}
 use Rattle.spec_endpoint.specs.Opening.{on_cookie_ack}
-use Rattle.sctp_tracker.specs.DataTracker.{packet_end, take_ack}
+use Rattle.sctp_rx.specs.DataTracker.{packet_end, take_ack}
 use Rattle.spec_endpoint.specs.Input.{packet_refusal, report_unrecognized_in, on_unknown_if, emit_unknown_chunk_error, is_reported, on_heartbeat, on_chunk, AfterChunk, violation, received_if, receive, receive_rest, receive_all, has_data_chunk, repeats, repeats_if, in_endpoint_state, ack_if_due, at_end, on_packet_end, count_packet_at, packet_if, packet_acked, shut_waiting, shut_if}
 use Rattle.proof_awake.proofs.BlockLemmas.{ended_holds, taken_holds, with_tracker}
 use Rattle.proof_awake.proofs.OpeningRowLemmas.{Whole}

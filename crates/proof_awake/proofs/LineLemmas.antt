@@ -10,7 +10,7 @@ use Rattle.sctp_tx_outstanding.specs.Item.{Item, header_size}
 use Rattle.sctp_tx_outstanding.specs.OutstandingData.{flight_part, packet_part}
 use Rattle.sctp_tx_outstanding.specs.Forward.{is_forward_due}
 use Rattle.sctp_tx_outstanding.specs.Resending.{Resent, resent_below, empty_packet}
-use Rattle.sctp_tracker.specs.DataTracker.{is_ack_due}
+use Rattle.sctp_rx.specs.DataTracker.{is_ack_due}
 use Rattle.sctp_tx_queue.specs.SendQueue.{Queue}
 use Rattle.sctp_tx_queue.specs.Resets.{streams_to_request, request_resets}
 use Rattle.sctp_tx.specs.Windows.{saturate_u64, room_within, may_send}
@@ -19,9 +19,9 @@ use Rattle.sctp_tx.specs.Resent.{flight, sizes, is_interleaved, room_of, may_sen
 use Rattle.sctp_tx.specs.ForwardPoints.{forward_chunk}
 use Rattle.sctp_tx.specs.Sending as fragments
 use Rattle.sctp_tx.specs.Sending.{item_of, offered_payload, fill, without_discards, send}
-use Rattle.proof_tx_refines.specs.Filled as filled
-use Rattle.proof_tx_refines.specs.Filled.{windows, nothing, IsFilled, ends, goes_on, began}
-use Rattle.proof_tx_refines.proofs.FilledLemmas.{filled_by}
+use Rattle.proof_refines.specs.Filled as filled
+use Rattle.proof_refines.specs.Filled.{windows, nothing, IsFilled, ends, goes_on, began}
+use Rattle.proof_refines.proofs.FilledLemmas.{filled_by}
 use Rattle.spec_endpoint.specs.Association.{Tcb, Context}
 use Rattle.spec_endpoint.specs.Packets.{PacketDraft, room, fits, added_if, add, add_all, is_some_chunk, has_chunks, emit_if}
 use Rattle.spec_endpoint.specs.ResetRequests.{Request, request_chunk}

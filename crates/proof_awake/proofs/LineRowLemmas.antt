@@ -6,7 +6,7 @@ use Rattle.sctp_chunk.specs.declared.forward_tsn.SkippedStream.{SkippedStream}
 use Rattle.sctp_chunk.specs.declared.sack.GapAckBlock.{GapAckBlock}
 use Rattle.sctp_wire.specs.Cause.{CauseTree}
 use Rattle.sctp_state.specs.Events.{Event, OnClosed}
-use Rattle.sctp_tracker.specs.DataTracker.{is_ack_due}
+use Rattle.sctp_rx.specs.DataTracker.{is_ack_due}
 use Rattle.sctp_tx_outstanding.specs.OutstandingData.{fast_items, number_of}
 use Rattle.sctp_tx_outstanding.specs.Forward.{is_forward_due}
 use Rattle.sctp_tx_outstanding.specs.Sack as sack

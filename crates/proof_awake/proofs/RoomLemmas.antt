@@ -12,7 +12,7 @@ use Rattle.sctp_tx.specs.RetransmissionQueue.{Sender, grown_if, recovering_if, w
 use Rattle.sctp_tx.specs.Resent.{may_send_new, start_t3_if}
 use Rattle.sctp_tx.specs.Sending as fragments
 use Rattle.sctp_tx.specs.Sending.{QueueStep, append, offered_payload, queue_step_if, next_turn, fill, send}
-use Rattle.proof_tx_refines.specs.Filled.{began}
+use Rattle.proof_refines.specs.Filled.{began}
 use Rattle.proof_awake.specs.Invariant.{HasLimits, WindowsHaveRoom}
 
 -- ---- growth and losses

@@ -9,7 +9,7 @@ use Rattle.sctp_state.specs.Events.{Event, OnClosed}
 use Rattle.sctp_state.specs.RetransmissionTimeout.{rto}
 use Rattle.sctp_state.specs.declared.timer.BackoffAlgorithm.TheVariants.{Exponential}
 use Rattle.sctp_state.specs.Timer.{Timer, timer, start, set_duration}
-use Rattle.sctp_tracker.specs.DataTracker.{Tracker, number_of}
+use Rattle.sctp_rx.specs.DataTracker.{Tracker, number_of}
 use Rattle.sctp_reassembly.specs.ReassemblyQueue.{Reassembly}
 use Rattle.sctp_tx_outstanding.specs.Sack as sack
 use Rattle.sctp_tx.specs.RetransmissionQueue.{Sender, nothing_in_flight, answer_if, sender_if, emitted_if, Valid}
@@ -19,7 +19,7 @@ use Rattle.spec_endpoint.specs.Sending.{AfterSending, is_before_cookie_ack, send
 use Rattle.spec_endpoint.specs.Shutdown.{close_with, PhaseStep, pending_next, received_next, maybe_send_shutdown_or_ack, shutdown_in_phase, shutdown_in, shut_by_peer, on_shutdown, on_shutdown_ack_open, on_shutdown_ack_in, on_shutdown_complete, abort, close_in, is_quiet_if, is_quiet}
 use Rattle.spec_endpoint.specs.Data.{fragment_if, accepts_tsn, handle_forward_tsn_if, accepts_point, on_no_data, on_data_in, on_data_if, on_data, on_forward, has_room, told_of_drop}
 use Rattle.spec_endpoint.specs.Sack.{clean_blocks, sample_rtt, clear_errors_if, send_after_sack, after_sack, on_sack_in, is_late, sampled_unless}
-use Rattle.sctp_tracker.specs.declared.data_tracker.AckState.TheVariants.{Immediate}
+use Rattle.sctp_rx.specs.declared.data_tracker.AckState.TheVariants.{Immediate}
 use Rattle.sctp_rx.specs.DataTracker.{acking}
 use Rattle.sctp_tx_outstanding.specs.OutstandingData.{number_of as item_number_of}
 use Rattle.sctp_tx_queue.specs.SendQueue.{is_empty}

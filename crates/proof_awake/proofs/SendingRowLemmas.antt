@@ -5,8 +5,8 @@ use Rattle.sctp_packet.specs.Chunk.{ChunkTree, cookie_echo_chunk}
 use Rattle.sctp_state.specs.Options.{Options}
 use Rattle.sctp_state.specs.Timer.{Timer, start}
 use Rattle.sctp_state.specs.RetransmissionTimeout.{rto}
-use Rattle.sctp_tracker.specs.DataTracker.{is_ack_due, take_ack}
-use Rattle.sctp_tracker.specs.Sack.{clear_duplicates}
+use Rattle.sctp_rx.specs.DataTracker.{is_ack_due, take_ack}
+use Rattle.sctp_rx.specs.Sack.{clear_duplicates}
 use Rattle.sctp_tx_outstanding.specs.OutstandingData.{fast_items}
 use Rattle.sctp_tx_outstanding.specs.Forward.{is_forward_due}
 use Rattle.sctp_tx_queue.specs.Resets.{streams_to_request, request_resets}

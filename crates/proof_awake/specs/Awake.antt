@@ -1,8 +1,8 @@
 -- Between events an end that owes something has a timer that runs.
 use Rattle.std.specs.Prelude.{◌≡◌, ◌==◌, ◌⊎◌, Bool, true, false, Option, None, List, [], ◌∷◌}
 use Rattle.sctp_state.specs.Timer.{Timer, is_running}
-use Rattle.sctp_tracker.specs.declared.data_tracker.AckState.{AckState}
-use Rattle.sctp_tracker.specs.declared.data_tracker.AckState.TheVariants.{Idle, Becoming, Delayed, Immediate}
+use Rattle.sctp_rx.specs.declared.data_tracker.AckState.{AckState}
+use Rattle.sctp_rx.specs.declared.data_tracker.AckState.TheVariants.{Idle, Becoming, Delayed, Immediate}
 use Rattle.sctp_tx_outstanding.specs.Item.{Item}
 use Rattle.spec_endpoint.specs.Laws.{Call, Restore}
 use Rattle.spec_endpoint.specs.Association.{Tcb, Phase, CookieEchoed, Established, ShutdownPending, ShutdownSent, ShutdownReceived, ShutdownAckSent, State, Closed, CookieWait, Open, Heartbeats, EndpointState}

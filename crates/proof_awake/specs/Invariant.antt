@@ -3,8 +3,8 @@ use Rattle.std.specs.Prelude.{◌≡◌, ℕ, ◌≤◌, not, Bool, true, false,
 use Rattle.sctp_state.specs.Options.{Options}
 use Rattle.sctp_state.specs.RetransmissionTimeout.{Rtt}
 use Rattle.sctp_state.specs.Timer.{Timer}
-use Rattle.sctp_tracker.specs.declared.data_tracker.AckState.{AckState}
-use Rattle.sctp_tracker.specs.DataTracker.{Tracker}
+use Rattle.sctp_rx.specs.declared.data_tracker.AckState.{AckState}
+use Rattle.sctp_rx.specs.DataTracker.{Tracker}
 use Rattle.sctp_tx_outstanding.specs.Item.{Item}
 use Rattle.sctp_tx.specs.Windows.{Windows}
 use Rattle.sctp_tx.specs.RetransmissionQueue.{Sender}

@@ -4,11 +4,11 @@ use Rattle.std.proofs.Math.Bool.{or_comm}
 use Rattle.proof_protocol.specs.State.{Message, has}
 use Rattle.proof_protocol.specs.Rules.{TransferEvent}
 use Rattle.proof_protocol.specs.Resets.{Epochs, ResetEvent, transfers, reset_stream, send_request, perform, commit, goes, MayAll, go_all}
-use Rattle.proof_tx_refines.specs.Reachable.{given_up_by, given_up_places, recorded_places, delivered_ids, ids_at}
-use Rattle.proof_tx_refines.specs.Records.{are_distinct}
-use Rattle.proof_tx_refines.proofs.RecordLemmas.{one_more}
-use Rattle.proof_tx_refines.proofs.RestLemmas.{has_more, all_records}
-use Rattle.proof_tx_refines.proofs.SackLemmas.{delivered_more, ids_more}
+use Rattle.proof_refines.specs.Reachable.{given_up_by, given_up_places, recorded_places, delivered_ids, ids_at}
+use Rattle.proof_refines.specs.Records.{are_distinct}
+use Rattle.proof_refines.proofs.RecordLemmas.{one_more}
+use Rattle.proof_refines.proofs.SenderRestLemmas.{has_more, all_records}
+use Rattle.proof_refines.proofs.SackLemmas.{delivered_more, ids_more}
 use Rattle.spec_endpoint.specs.Association.{Endpoint}
 use Rattle.proof_endpoint.specs.Mapped.{Carried}
 use Rattle.proof_endpoint.specs.Acts.{calm}

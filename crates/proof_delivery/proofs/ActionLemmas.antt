@@ -1,5 +1,5 @@
 -- An action of either end leaves one direction at a later state of the rules.
-use Rattle.std.proofs.Common.{◌≡◌, ℕ, zero, suc, ◌+◌, ◌-◌, ◌^◌, ◌<◌, ◌≤◌, not, Bool, true, false, cond, ◌⊎◌, inl, inr, Option, Some, None, List, [], ◌∷◌, ◌++◌, length, replicate, slice_get, All, refl, sym, ap, subst, ◌∙◌, arith}
+use Rattle.std.proofs.Common.{◌≡◌, ℕ, zero, suc, ◌+◌, ◌-◌, ◌<◌, ◌≤◌, not, Bool, true, false, cond, ◌⊎◌, inl, inr, Option, Some, None, List, [], ◌∷◌, ◌++◌, length, replicate, slice_get, All, refl, sym, ap, subst, ◌∙◌, arith}
 use Rattle.std.specs.Prelude.{⊤}
 use Rattle.std.specs.List.{list_all}
 use Rattle.std.proofs.lemmas.List.{length-append, length-map}
@@ -28,7 +28,7 @@ use Rattle.proof_delivery.proofs.FilledLemmas.{fills, filled_goes, receives_fill
 use Rattle.proof_delivery.proofs.SenderToolLemmas.{Grows, goes_grows, goes_none, receiver_stays, so_still}
 use Rattle.proof_delivery.proofs.ReceiverToolLemmas.{SameSender, sender_stays}
 use Rattle.proof_delivery.proofs.WithinLemmas.{numbered_is}
-use Rattle.proof_delivery.proofs.DirectionLemmas.{Saying, IsUnderWay, AllUnderWay, each_behind, says_out, says_in, out_on, in_on, out_first, in_first, Stands, SoFar, Flows}
+use Rattle.proof_delivery.proofs.DirectionLemmas.{least_out, Saying, IsUnderWay, AllUnderWay, each_behind, says_out, says_in, out_on, in_on, out_first, in_first, Stands, SoFar, Flows}
 use Rattle.proof_delivery.proofs.PremisesLemmas.{waits, is_asked, waits_again}
 
 -- ---- what no rule of a sender changes
@@ -185,25 +185,17 @@ outgoing message is_interleaved x y g = record {
 
 -- ---- more packets
 
--- those of an action, where at its beginning so much was acknowledged and numbered
-more_under_way : (Says : Saying) (of : Stamp → ℕ) (now : Stamp) (from y : Direction) (past emitted : _) (ss : List Stamp) → of now ≡ count (transfer_of from).sender
-    → count (transfer_of from).sender ≤ (transfer_of from).acknowledged + 2 ^ 30 → (transfer_of from).acknowledged ≤ (transfer_of y).acknowledged
-    → count (transfer_of from).sender ≤ count (transfer_of y).sender
-    → All (λ (p : Carried). All (Says (transfer_of from).acknowledged (count (transfer_of from).sender) y) p.chunks) (packets_in emitted) → AllUnderWay Says of y (packets_in past) ss
-    → AllUnderWay Says of y (packets_in (past ++ emitted)) (ss ++ replicate (length (packets_in (past ++ emitted)) - length (packets_in past)) now)
-more_under_way Says of now from y past emitted ss is near left numbered says h =
+-- those of an action, where at its beginning so much was acknowledged
+more_under_way : (Says : Saying) (of : Stamp → ℕ) (left : Stamp) (from y : Direction) (past emitted : _) (ss : List Stamp) → of left ≡ (transfer_of from).acknowledged
+    → (transfer_of from).acknowledged ≤ (transfer_of y).acknowledged → All (λ (p : Carried). All (Says (transfer_of from).acknowledged y) p.chunks) (packets_in emitted) → AllUnderWay Says of y (packets_in past) ss
+    → AllUnderWay Says of y (packets_in (past ++ emitted)) (ss ++ replicate (length (packets_in (past ++ emitted)) - length (packets_in past)) left)
+more_under_way Says of left from y past emitted ss is grows says h =
     let P : Stamp → Carried → Type 0 = λ stamp p. IsUnderWay Says y (of stamp) p in
-    let new : All (P now) (packets_in emitted) =
-    All-weaker (λ (p : Carried). All (Says (transfer_of from).acknowledged (count (transfer_of from).sender) y) p.chunks) (P now)
-    (λ p u. record {
-      least = (transfer_of from).acknowledged;
-      past = left;
-      near = omega (arith, is, near);
-      below = omega (arith, is, numbered);
-      says = subst (λ (n : ℕ). All (Says (transfer_of from).acknowledged n y) p.chunks) (sym is) u;
-    }) (packets_in emitted) says in
-    subst (λ (ps : List Carried). AllUnderWay Says of y ps (ss ++ replicate (length ps - length (packets_in past)) now)) (sym (packets_both past emitted))
-    (each_behind P now (packets_in past) (packets_in emitted) ss h new)
+    let new : All (P left) (packets_in emitted) =
+    All-weaker (λ (p : Carried). All (Says (transfer_of from).acknowledged y) p.chunks) (P left)
+    (λ p u. record { past = omega (arith, is, grows); says = subst (λ (n : ℕ). All (Says n y) p.chunks) (sym is) u }) (packets_in emitted) says in
+    subst (λ (ps : List Carried). AllUnderWay Says of y ps (ss ++ replicate (length ps - length (packets_in past)) left)) (sym (packets_both past emitted))
+    (each_behind P left (packets_in past) (packets_in emitted) ss h new)
 
 -- ---- how the streams stand
 
@@ -308,18 +300,18 @@ so_far_then k s e os prepared = record {
 module _ (message : ℕ → Message) (lifecycle : ℕ → Option ℕ) (is_interleaved : Bool) (of : Stamp → ℕ) (stay : Stay message lifecycle is_interleaved) (s r : Side) (accepted : ℕ)
     (handed : List messages.Message) (stamps_s stamps_r : List Stamp) (so_far : SoFar) (x : Direction)
     (f : Flows message lifecycle is_interleaved of s r accepted handed stamps_s stamps_r so_far x)
-    (now : Stamp) (at_now : of now ≡ count (transfer_of x).sender) (near : count (transfer_of x).sender ≤ (transfer_of x).acknowledged + 2 ^ 30) (asked : Bool) where
+    (left : Stamp) (asked : Bool) where
   -- of the sender, which accepts these
-  pub ends_out : (os : List AcceptedMessage) (prepared : List ℕ) (mid y : Direction) (e : Endpoint Carried) → Offers message is_interleaved (length os) x mid
+  pub ends_out : least_out of left ≡ (transfer_of x).acknowledged → (os : List AcceptedMessage) (prepared : List ℕ) (mid y : Direction) (e : Endpoint Carried) → Offers message is_interleaved (length os) x mid
       → AreOffered message lifecycle accepted os → SenderClaim message lifecycle is_interleaved mid prepared (calm e) y → Stands (state_of s) e.endpoint_state.state
-      → Flows message lifecycle is_interleaved of (after_action asked e s) r (accepted + length os) handed (stamp_packets s (after_action asked e s) now stamps_s) stamps_r (so_far_then so_far s e os prepared) y
-  ends_out os prepared mid y e offers are c stands =
+      → Flows message lifecycle is_interleaved of (after_action asked e s) r (accepted + length os) handed (stamp_packets s (after_action asked e s) left stamps_s) stamps_r (so_far_then so_far s e os prepared) y
+  ends_out at_left os prepared mid y e offers are c stands =
       let went : GoesOn message is_interleaved is_outgoing mid y = outgoing message is_interleaved mid y c.goes in
-      let there : AllUnderWay (says_out message is_interleaved (first_out e.endpoint_state.state)) of x (emitted_packets s) stamps_s =
-      out_first message lifecycle is_interleaved of x (state_of s) e.endpoint_state.state (queue_of s) e.endpoint_state.context.queue y f.sends c.shown stands (emitted_packets s) stamps_s f.out in
-      let old : AllUnderWay (says_out message is_interleaved (first_out e.endpoint_state.state)) of y (emitted_packets s) stamps_s =
-      out_on message is_interleaved is_outgoing mid y offers.kept.epochs went (first_out e.endpoint_state.state) of (emitted_packets s) stamps_s
-      (out_on message is_interleaved is_outgoing x mid f.kept.epochs offers.goes (first_out e.endpoint_state.state) of (emitted_packets s) stamps_s there) in
+      let there : AllUnderWay (says_out message is_interleaved (first_out e.endpoint_state.state)) (least_out of) x (emitted_packets s) stamps_s =
+      out_first message lifecycle is_interleaved (least_out of) x (state_of s) e.endpoint_state.state (queue_of s) e.endpoint_state.context.queue y f.sends c.shown stands (emitted_packets s) stamps_s f.out in
+      let old : AllUnderWay (says_out message is_interleaved (first_out e.endpoint_state.state)) (least_out of) y (emitted_packets s) stamps_s =
+      out_on message is_interleaved is_outgoing mid y offers.kept.epochs went (first_out e.endpoint_state.state) (least_out of) (emitted_packets s) stamps_s
+      (out_on message is_interleaved is_outgoing x mid f.kept.epochs offers.goes (first_out e.endpoint_state.state) (least_out of) (emitted_packets s) stamps_s there) in
       let answers : AllUnderWay (says_in message is_interleaved (first_in (state_of r))) of y (emitted_packets r) stamps_r =
       in_on message is_interleaved is_outgoing mid y offers.kept.epochs went (first_in (state_of r)) of (emitted_packets r) stamps_r
       (in_on message is_interleaved is_outgoing x mid f.kept.epochs offers.goes (first_in (state_of r)) of (emitted_packets r) stamps_r f.answers) in
@@ -328,7 +320,6 @@ module _ (message : ℕ → Message) (lifecycle : ℕ → Option ℕ) (is_interl
       let few = same.accepted in
       let were = offers.accepted in
       let is = f.accepted_is in
-      let acked = offers.acknowledged in
       let counted = offers.counted in
       let many = f.many in
       let emitted : List (Event Carried) = e.endpoint_state.context.emitted.events in
@@ -340,8 +331,8 @@ module _ (message : ℕ → Message) (lifecycle : ℕ → Option ℕ) (is_interl
         sends = c.shown;
         refines = stay.refines (state_of r) handed mid y offers.kept went c.done (stay.refines (state_of r) handed x mid f.kept offers.goes offers.done f.refines);
         accepted_is = omega (arith, few, were, is);
-        out = more_under_way (says_out message is_interleaved (first_out e.endpoint_state.state)) of now mid y s.emitted emitted stamps_s
-            (at_now ∙ sym counted) (omega (arith, near, counted, acked)) grows.left grows.numbered c.emitted old;
+        out = more_under_way (says_out message is_interleaved (first_out e.endpoint_state.state)) (least_out of) left mid y s.emitted emitted stamps_s
+            (at_left ∙ sym offers.acknowledged) grows.left c.emitted old;
         answers = answers;
         streams = c.epochs so_far.streams (so_still so_far.streams x.rules mid.rules offers.raised offers.opened f.streams);
         many = length-append so_far.epochs (epochs_of os so_far.streams) ∙ (ap (λ (n : ℕ). n + length (epochs_of os so_far.streams)) many
@@ -358,9 +349,9 @@ module _ (message : ℕ → Message) (lifecycle : ℕ → Option ℕ) (is_interl
       }
 
   -- of the receiver, which hands out these
-  pub ends_in : (out : List messages.Message) (y : Direction) (e : Endpoint Carried) → ReceiverClaim message is_interleaved x (handed ++ out) (calm e) y → Stands (state_of r) e.endpoint_state.state
-      → Flows message lifecycle is_interleaved of s (after_action asked e r) accepted (handed ++ out) stamps_s (stamp_packets r (after_action asked e r) now stamps_r) so_far y
-  ends_in out y e c stands =
+  pub ends_in : of left ≡ (transfer_of x).acknowledged → (out : List messages.Message) (y : Direction) (e : Endpoint Carried) → ReceiverClaim message is_interleaved x (handed ++ out) (calm e) y → Stands (state_of r) e.endpoint_state.state
+      → Flows message lifecycle is_interleaved of s (after_action asked e r) accepted (handed ++ out) stamps_s (stamp_packets r (after_action asked e r) left stamps_r) so_far y
+  ends_in at_left out y e c stands =
       let there : AllUnderWay (says_in message is_interleaved (first_in e.endpoint_state.state)) of x (emitted_packets r) stamps_r =
       in_first message lifecycle is_interleaved of x (state_of r) e.endpoint_state.state handed (handed ++ out) y f.refines c.shown stands (emitted_packets r) stamps_r f.answers in
       let old : AllUnderWay (says_in message is_interleaved (first_in e.endpoint_state.state)) of y (emitted_packets r) stamps_r =
@@ -375,9 +366,9 @@ module _ (message : ℕ → Message) (lifecycle : ℕ → Option ℕ) (is_interl
         sends = stay.sends (state_of s) (queue_of s) x y f.kept c.goes c.stay f.sends;
         refines = c.shown;
         accepted_is = ap (λ o. o.accepted) same.sender ∙ f.accepted_is;
-        out = out_on message is_interleaved goes_in x y f.kept.epochs c.goes (first_out (state_of s)) of (emitted_packets s) stamps_s f.out;
-        answers = more_under_way (says_in message is_interleaved (first_in e.endpoint_state.state)) of now x y r.emitted emitted stamps_r
-            at_now near grows.left grows.numbered c.emitted old;
+        out = out_on message is_interleaved goes_in x y f.kept.epochs c.goes (first_out (state_of s)) (least_out of) (emitted_packets s) stamps_s f.out;
+        answers = more_under_way (says_in message is_interleaved (first_in e.endpoint_state.state)) of left x y r.emitted emitted stamps_r
+            at_left grows.left c.emitted old;
         streams = so_still so_far.streams x.rules y.rules same.raised same.opened f.streams;
         many = f.many;
         epochs = λ p n h. ap (λ (g : ℕ → ℕ). g p) same.epoch ∙ f.epochs p n h;

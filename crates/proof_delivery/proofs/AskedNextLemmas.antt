@@ -5,8 +5,8 @@ use Rattle.std.proofs.lemmas.Bool.{and_parts, or_right, eq-eqb}
 use Rattle.sctp_serial.specs.declared.api.StreamId.{StreamId}
 use Rattle.proof_protocol.specs.State.{IsAmong, has}
 use Rattle.proof_protocol.specs.Resets.{Epochs, Request}
-use Rattle.proof_tx_refines.specs.Records.{are_distinct}
-use Rattle.proof_rx_refines.specs.Resets.{AreNextTo, named_by}
+use Rattle.proof_refines.specs.Records.{are_distinct}
+use Rattle.proof_refines.specs.Resets.{AreNextTo, named_by}
 use Rattle.spec_endpoint.specs.ResetRequests.{ids}
 use Rattle.proof_delivery.specs.Asks.{ResetRequest, request_for, AreRequested}
 

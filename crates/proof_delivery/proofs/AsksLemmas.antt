@@ -12,7 +12,7 @@ use Rattle.proof_protocol.specs.Resets.{Epochs, ResetEvent, transfers, reset_str
 use Rattle.proof_protocol.proofs.StepLemmas.{later}
 use Rattle.proof_protocol.proofs.CommonLemmas.{get_front}
 use Rattle.proof_delivery.specs.Asks.{ResetRequest, named_in, request_for, IsResetRequest, AreRequested, SaysOutgoing, SaysIncoming}
-use Rattle.proof_tx_refines.proofs.AskedLemmas.{has_this}
+use Rattle.proof_refines.proofs.AskedLemmas.{has_this}
 
 -- ---- lists
 
@@ -253,11 +253,11 @@ module _ (message : ℕ → Message) (is_interleaved : Bool) (asks : List ResetR
 
 -- ---- what was said stays true
 
-pub asks_said : (first most : ℕ) (asks more : List ResetRequest) (p : ParameterTree) → SaysOutgoing first most asks p → SaysOutgoing first most (asks ++ more) p
-asks_said first most asks more (outgoing_reset_request number response last_tsn streams) h =
-    record { at = h.at; ask = h.ask; there = get_front asks more h.at h.ask h.there; number_is = h.number_is; last_is = h.last_is; streams_are = h.streams_are; near = h.near }
-asks_said first most asks more (incoming_reset_request number streams) h = h
-asks_said first most asks more p h = tt
+pub asks_said : (first : ℕ) (asks more : List ResetRequest) (p : ParameterTree) → SaysOutgoing first asks p → SaysOutgoing first (asks ++ more) p
+asks_said first asks more (outgoing_reset_request number response last_tsn streams) h =
+    record { at = h.at; ask = h.ask; there = get_front asks more h.at h.ask h.there; number_is = h.number_is; last_is = h.last_is; streams_are = h.streams_are }
+asks_said first asks more (incoming_reset_request number streams) h = h
+asks_said first asks more p h = tt
 
 pub answers_said : (first done asked more further : ℕ) (p : ParameterTree) → SaysIncoming first done asked p → SaysIncoming first (done + more) (asked + further) p
 answers_said first done asked more further (reset_response number result sender receiver) h = λ final.

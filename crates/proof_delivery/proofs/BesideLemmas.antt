@@ -12,9 +12,9 @@ use Rattle.proof_protocol.specs.Resets.{Request, Epochs, ResetEvent, transfers, 
 use Rattle.proof_protocol.specs.Based.{InEpochs}
 use Rattle.proof_protocol.proofs.BasedLemmas.{keeps_epochs}
 use Rattle.proof_protocol.proofs.CommonLemmas.{get_front}
-use Rattle.proof_tx_refines.specs.Following.{NoneIsReset, IsOthers}
-use Rattle.proof_tx_refines.proofs.WholeLemmas.{shown_again}
-use Rattle.proof_tx_refines.proofs.FollowLemmas.{others_follow}
+use Rattle.proof_refines.specs.Following.{NoneIsReset, IsOthers}
+use Rattle.proof_refines.proofs.WholeLemmas.{shown_again}
+use Rattle.proof_refines.proofs.FollowLemmas.{others_follow}
 use Rattle.spec_endpoint.specs.Association.{State, Closed, CookieWait, Open}
 use Rattle.spec_endpoint.specs.ResetRequests.{Requests}
 use Rattle.proof_delivery.specs.Asks.{ResetRequest, IsAsking, IsAnswering}

@@ -22,7 +22,7 @@ use Rattle.proof_pair.specs.Trace.{Pair, EndAction, Calls, Gives, Refuses, goes,
 use Rattle.proof_pair.specs.Opens.{at_first}
 use Rattle.proof_pair.specs.Handing.{two_come}
 use Rattle.proof_pair.proofs.HandedTraceLemmas.{one_handed}
-use Rattle.proof_delivery.specs.Windows.{numbered_count, IsNearNext, KeepsWithin, IsWithin, AreWithin, queue_of, Stamp, stamp, Stamps, no_stamps, stamps_after, stamps_for, IsYoung, IsTimely, KeepsWindows}
+use Rattle.proof_delivery.specs.Windows.{numbered_count, IsNearNext, KeepsWithin, IsWithin, AreWithin, queue_of, Stamp, numbered, Stamps, no_stamps, stamps_after, stamps_for, IsYoung, IsTimely, KeepsWindows}
 use Rattle.proof_delivery.specs.Accepted.{accepted}
 use Rattle.proof_delivery.specs.Answered.{NumberedBefore, none_asked, asked_after, AreAnswered, KeepsRequests, performed_in, KeepsResets}
 use Rattle.proof_delivery.specs.Delivery.{plain, TwoAreDelivered}
@@ -84,13 +84,13 @@ is_within_true (Open phase t) q h = within_true q t h
 -- ---- packets, and traces
 
 unfoldable pub is_young : (now old : Stamp) → Bool
-is_young now old = nat_lt now.a (old.a + 2 ^ 30) && nat_lt now.b (old.b + 2 ^ 30)
+is_young now old = nat_lt now.a (old.a + 2 ^ 31) && nat_lt now.b (old.b + 2 ^ 31)
 
 young_true : (now old : Stamp) → is_young now old ≡ true → IsYoung now old
 unfolding is_young
 young_true now old h =
-    let parts = and_parts (nat_lt now.a (old.a + 2 ^ 30)) (nat_lt now.b (old.b + 2 ^ 30)) h in
-    record { a = ltb-true now.a (old.a + 2 ^ 30) parts.0; b = ltb-true now.b (old.b + 2 ^ 30) parts.1 }
+    let parts = and_parts (nat_lt now.a (old.a + 2 ^ 31)) (nat_lt now.b (old.b + 2 ^ 31)) h in
+    record { a = ltb-true now.a (old.a + 2 ^ 31) parts.0; b = ltb-true now.b (old.b + 2 ^ 31) parts.1 }
 
 unfoldable pub young_if : Stamp → Option Stamp → Bool
 young_if now None = true
@@ -124,21 +124,21 @@ both_within_true w h =
 unfoldable pub keeps_windows : List (Bool × EndAction) → Pair → Stamps → Bool
 keeps_windows [] w s = both_within w
 keeps_windows (e ∷ es) w s =
-    both_within w && (is_timely e.1 (stamp w) (stamps_for e.0 s) && keeps_windows es (goes e.0 e.1 w) (stamps_after e.0 e.1 w s))
+    both_within w && (is_timely e.1 (numbered w) (stamps_for e.0 s) && keeps_windows es (goes e.0 e.1 w) (stamps_after e.0 e.1 w s))
 
 pub windows_kept : (es : List (Bool × EndAction)) (w : Pair) (s : Stamps) → keeps_windows es w s ≡ true → KeepsWindows es w s
 unfolding keeps_windows
 windows_kept [] w s h = both_within_true w h
 windows_kept (e ∷ es) w s h =
-    let first = and_parts (both_within w) (is_timely e.1 (stamp w) (stamps_for e.0 s) && keeps_windows es (goes e.0 e.1 w) (stamps_after e.0 e.1 w s)) h in
-    let rest = and_parts (is_timely e.1 (stamp w) (stamps_for e.0 s)) (keeps_windows es (goes e.0 e.1 w) (stamps_after e.0 e.1 w s)) first.1 in
-    (both_within_true w first.0, timely_true e.1 (stamp w) (stamps_for e.0 s) rest.0, windows_kept es (goes e.0 e.1 w) (stamps_after e.0 e.1 w s) rest.1)
+    let first = and_parts (both_within w) (is_timely e.1 (numbered w) (stamps_for e.0 s) && keeps_windows es (goes e.0 e.1 w) (stamps_after e.0 e.1 w s)) h in
+    let rest = and_parts (is_timely e.1 (numbered w) (stamps_for e.0 s)) (keeps_windows es (goes e.0 e.1 w) (stamps_after e.0 e.1 w s)) first.1 in
+    (both_within_true w first.0, timely_true e.1 (numbered w) (stamps_for e.0 s) rest.0, windows_kept es (goes e.0 e.1 w) (stamps_after e.0 e.1 w s) rest.1)
 
 -- ---- requests
 
 -- few enough were numbered, whatever waits
 abbrev pub is_few : State → ℕ → Bool
-is_few s n = nat_lt (numbered_count s) (n + 2 ^ 30)
+is_few s n = nat_lt (numbered_count s) (n + 2 ^ 31)
 
 abbrev pub both_few : Pair → NumberedBefore → Bool
 both_few w k = is_few (state_of w.a) k.a && is_few (state_of w.b) k.b
@@ -150,7 +150,7 @@ keeps_requests (e ∷ es) w k = both_few w k && keeps_requests es (goes e.0 e.1 
 few_answered : (w : Pair) (k : NumberedBefore) → both_few w k ≡ true → AreAnswered w k
 few_answered w k h =
     let p = and_parts (is_few (state_of w.a) k.a) (is_few (state_of w.b) k.b) h in
-    record { a = λ n e. ltb-true (numbered_count (state_of w.a)) (k.a + 2 ^ 30) p.0; b = λ n e. ltb-true (numbered_count (state_of w.b)) (k.b + 2 ^ 30) p.1 }
+    record { a = λ n e. ltb-true (numbered_count (state_of w.a)) (k.a + 2 ^ 31) p.0; b = λ n e. ltb-true (numbered_count (state_of w.b)) (k.b + 2 ^ 31) p.1 }
 
 pub requests_kept : (es : List (Bool × EndAction)) (w : Pair) (k : NumberedBefore) → keeps_requests es w k ≡ true → KeepsRequests es w k
 unfolding keeps_requests

@@ -1,6 +1,6 @@
 -- What an end's values and packets say of one direction of an association, by the rules with epochs: as its sender, and as its receiver.
 -- One end acts, and the state that the rules had before its action is `from`.
-use Rattle.std.proofs.Common.{◌≡◌, ℕ, suc, ◌+◌, ◌-◌, ◌^◌, ◌<◌, ◌≤◌, Bool, true, false, Option, Some, List, [], ◌∷◌, ◌++◌, length, slice_get, All}
+use Rattle.std.proofs.Common.{◌≡◌, ℕ, suc, ◌+◌, ◌*◌, ◌-◌, ◌^◌, ◌<◌, ◌≤◌, Bool, true, false, Option, Some, List, [], ◌∷◌, ◌++◌, length, slice_get, All}
 use Rattle.std.specs.Prelude.{◌⊎◌, ⊤}
 use Rattle.std.specs.List.{list_all}
 use Rattle.sctp_serial.specs.Messages as messages
@@ -19,15 +19,15 @@ use Rattle.proof_protocol.specs.State.{Message, ForwardPoint, Sender, Transfer, 
 use Rattle.proof_protocol.specs.Rules.{TransferEvent, accept, begin, number, end_with_placeholder, give_up, data_comes, late_comes, become_ready, send_sack, acknowledge_next, send_forward, forward_comes, perform_reset}
 use Rattle.proof_protocol.specs.Resets.{Epochs, ResetEvent, transfers, reset_stream, send_request, perform, commit, MayAll, go_all}
 use Rattle.proof_protocol.specs.Based.{InEpochs, EpochWindows}
-use Rattle.proof_tx_refines.specs.Refinement.{SenderRefines}
-use Rattle.proof_tx_refines.specs.Following.{FollowsEpochs, NoneIsReset}
-use Rattle.proof_tx_refines.specs.Reachable.{given_up_places, recorded_places, is_sending, delivered_ids, ids_at}
-use Rattle.proof_tx_refines.specs.Points.{chunk_of}
-use Rattle.proof_tx_refines.specs.Rows.{Carries}
+use Rattle.proof_refines.specs.SenderRefinement.{SenderRefines}
+use Rattle.proof_refines.specs.Following.{FollowsEpochs, NoneIsReset}
+use Rattle.proof_refines.specs.Reachable.{given_up_places, recorded_places, is_sending, delivered_ids, ids_at}
+use Rattle.proof_refines.specs.Points.{chunk_of}
+use Rattle.proof_refines.specs.Rows.{Carries}
 use Rattle.proof_protocol.specs.Points.{AreApart}
-use Rattle.proof_rx_refines.specs.Refinement.{ReceiverRefines}
-use Rattle.proof_rx_refines.specs.Near.{ReadsNear, AreFew}
-use Rattle.proof_rx_refines.specs.Resets.{base_now, IsWaitingFor}
+use Rattle.proof_refines.specs.ReceiverRefinement.{ReceiverRefines}
+use Rattle.proof_refines.specs.Near.{ReadsNear, AreFew}
+use Rattle.proof_refines.specs.Resets.{base_now, IsWaitingFor}
 use Rattle.spec_endpoint.specs.Association.{Tcb, State, Closed, CookieWait, Open}
 use Rattle.spec_endpoint.specs.Laws.{Call}
 use Rattle.proof_endpoint.specs.Mapped.{Carried}
@@ -123,29 +123,28 @@ pub record SaysPoint (is_interleaved : Bool) (first least : ℕ) (x : Transfer) 
   pub apart : AreApart point.entries
   pub ahead : least < point.upto
 
--- a SACK of a point that was sent: where `least` were acknowledged and `most` numbered
-pub record SaysSack (first least most : ℕ) (x : Transfer) (k : SackTree) : Type 0 where
+-- a SACK of a point that was sent: where `least` were acknowledged
+pub record SaysSack (first least : ℕ) (x : Transfer) (k : SackTree) : Type 0 where
   pub point : ℕ
   pub sent : IsAmong point x.sacks
   pub written : k.cumulative_tsn_ack ≡ wire u32_space first (origin + point - 1)
   pub from : least ≤ point
-  pub to : point ≤ most
 
--- what the sender says, whose first TSN is `first`, where `least` were acknowledged and `most` numbered. A RE-CONFIG speaks of both
+-- what the sender says, whose first TSN is `first`, where `least` were acknowledged. A RE-CONFIG speaks of both
 -- directions
-abbrev pub SaysOut : (message : ℕ → Message) (is_interleaved : Bool) (first least most : ℕ) → Direction → ChunkTree → Type 0
-SaysOut message is_interleaved first least most x (data_chunk tsn is_immediate f) = (is_interleaved ≡ false) × SaysData message first least (transfer_of x).sender tsn f
-SaysOut message is_interleaved first least most x (idata_chunk tsn is_immediate f) = (is_interleaved ≡ true) × SaysData message first least (transfer_of x).sender tsn f
-SaysOut message is_interleaved first least most x (forward_tsn_chunk tsn skipped) = SaysPoint is_interleaved first least (transfer_of x) (forward_tsn_chunk tsn skipped)
-SaysOut message is_interleaved first least most x (i_forward_tsn_chunk tsn skipped) = SaysPoint is_interleaved first least (transfer_of x) (i_forward_tsn_chunk tsn skipped)
-SaysOut message is_interleaved first least most x (re_config_chunk parameters) = All (SaysOutgoing first most x.asks) parameters
-SaysOut message is_interleaved first least most x chunk = ⊤
+abbrev pub SaysOut : (message : ℕ → Message) (is_interleaved : Bool) (first least : ℕ) → Direction → ChunkTree → Type 0
+SaysOut message is_interleaved first least x (data_chunk tsn is_immediate f) = (is_interleaved ≡ false) × SaysData message first least (transfer_of x).sender tsn f
+SaysOut message is_interleaved first least x (idata_chunk tsn is_immediate f) = (is_interleaved ≡ true) × SaysData message first least (transfer_of x).sender tsn f
+SaysOut message is_interleaved first least x (forward_tsn_chunk tsn skipped) = SaysPoint is_interleaved first least (transfer_of x) (forward_tsn_chunk tsn skipped)
+SaysOut message is_interleaved first least x (i_forward_tsn_chunk tsn skipped) = SaysPoint is_interleaved first least (transfer_of x) (i_forward_tsn_chunk tsn skipped)
+SaysOut message is_interleaved first least x (re_config_chunk parameters) = All (SaysOutgoing first x.asks) parameters
+SaysOut message is_interleaved first least x chunk = ⊤
 
 -- what its receiver says
-abbrev pub SaysIn : (first least most : ℕ) → Direction → ChunkTree → Type 0
-SaysIn first least most x (sack_chunk k) = SaysSack first least most (transfer_of x) k
-SaysIn first least most x (re_config_chunk parameters) = All (SaysIncoming first x.done (length x.asks)) parameters
-SaysIn first least most x chunk = ⊤
+abbrev pub SaysIn : (first least : ℕ) → Direction → ChunkTree → Type 0
+SaysIn first least x (sack_chunk k) = SaysSack first least (transfer_of x) k
+SaysIn first least x (re_config_chunk parameters) = All (SaysIncoming first x.done (length x.asks)) parameters
+SaysIn first least x chunk = ⊤
 
 -- the first TSN of what an end sends, and of what it receives
 abbrev pub first_out : State → ℕ
@@ -206,22 +205,20 @@ module _ (message : ℕ → Message) (lifecycle : ℕ → Option ℕ) (is_interl
   SendsIn (Open phase t) q x = IsSending t q x
 
   -- Each chunk that it puts into a packet or emits, now and behind what was emitted before. These streams were to be reset in the action. A
-  -- request that waits goes out before 2^30 fragments more are numbered; it waited before, or is of this action. Each answer is emitted, and
-  -- none as failed.
+  -- request that waits did so before, or is of this action. Each answer is emitted, and none as failed.
   pub record SenderClaim (from : Direction) (prepared : List ℕ) (m : EndWithPacket Carried) (x : Direction) : Type 0 where
     pub kept : IsKept message is_interleaved x
     pub goes : GoesOn message is_interleaved goes_out from x
     pub done : x.done ≡ from.done
     pub shown : SendsIn m.state m.context.queue x
-    pub near : (a : ResetRequest) → slice_get x.asks x.answered ≡ Some a → count (transfer_of from).sender < a.upto + 2 ^ 30
     pub since : (a : ResetRequest) → slice_get x.asks x.answered ≡ Some a → (slice_get from.asks x.answered ≡ Some a) ⊎ (count (transfer_of from).sender ≤ a.upto)
     pub given_up : recorded_places m.context.emitted ≡ given_up_places (of_transfer goes.events)
     pub reported : Reports lifecycle (transfer_of from) (transfer_of x) [] m.context.emitted.events
     pub performed : x.answered ≡ from.answered + performed_in m.context.emitted.events
     pub epochs : (f : ℕ → StreamEpoch) → AreSo f from.rules → AreSo (reopen (performed_of m.context.emitted.events) (shut_streams prepared f)) x.rules
     pub none_failed : failed_in m.context.emitted.events ≡ false
-    pub emitted : All (λ (p : Carried). All (SaysOut message is_interleaved (first_out m.state) (transfer_of from).acknowledged (count (transfer_of from).sender) x) p.chunks) (packets_in m.context.emitted.events)
-    pub made : All (SaysOut message is_interleaved (first_out m.state) (transfer_of from).acknowledged (count (transfer_of from).sender) x) m.packet.chunks
+    pub emitted : All (λ (p : Carried). All (SaysOut message is_interleaved (first_out m.state) (transfer_of from).acknowledged x) p.chunks) (packets_in m.context.emitted.events)
+    pub made : All (SaysOut message is_interleaved (first_out m.state) (transfer_of from).acknowledged x) m.packet.chunks
 
 -- ---- the receiver, where the first messages that became ready were handed out
 
@@ -256,29 +253,29 @@ module _ (message : ℕ → Message) (is_interleaved : Bool) where
     pub stay : AsksStay from x
     pub shown : ReceivesIn m.state handed x
     pub performed : (s : ℕ) → x.rules.performed s ≡ from.rules.performed s + resets_emitted s m.context.emitted.events
-    pub emitted : All (λ (p : Carried). All (SaysIn (first_in m.state) (transfer_of from).acknowledged (count (transfer_of from).sender) x) p.chunks) (packets_in m.context.emitted.events)
-    pub made : All (SaysIn (first_in m.state) (transfer_of from).acknowledged (count (transfer_of from).sender) x) m.packet.chunks
+    pub emitted : All (λ (p : Carried). All (SaysIn (first_in m.state) (transfer_of from).acknowledged x) p.chunks) (packets_in m.context.emitted.events)
+    pub made : All (SaysIn (first_in m.state) (transfer_of from).acknowledged x) m.packet.chunks
 
 -- ---- what a call receives
 
--- Of a packet that the receiver emitted when `least` were acknowledged and `most` numbered, as the sender receives it: fewer than 2^30
--- were numbered since.
+-- Of a packet that the receiver emitted when `least` were acknowledged, as the sender receives it: fewer than 2^31 are numbered from there
+-- on, and at most 2^30 from what is acknowledged now.
 pub record ReceivesSacks (call : Call) (first : ℕ) (from : Direction) : Type 0 where
   pub least : ℕ
-  pub most : ℕ
   pub past : least ≤ (transfer_of from).acknowledged
-  pub near : most ≤ least + 2 ^ 30
-  pub young : count (transfer_of from).sender < most + 2 ^ 30
-  pub says : (tag : ℕ) (chunk : ChunkTree) → BringsChunk call tag chunk → WasSaid (SaysIn first least most from) chunk
+  pub near : count (transfer_of from).sender ≤ (transfer_of from).acknowledged + 2 ^ 30
+  pub young : count (transfer_of from).sender < least + 2 ^ 31
+  pub says : (tag : ℕ) (chunk : ChunkTree) → BringsChunk call tag chunk → WasSaid (SaysIn first least from) chunk
 
 -- Of one that the sender emitted, as its receiver receives it.
 pub record ReceivesData (message : ℕ → Message) (is_interleaved : Bool) (call : Call) (first : ℕ) (from : Direction) : Type 0 where
   pub least : ℕ
-  pub most : ℕ
-  pub near : most ≤ least + 2 ^ 30
-  pub below : most ≤ count (transfer_of from).sender
-  pub young : count (transfer_of from).sender < most + 2 ^ 30
-  pub says : (tag : ℕ) (chunk : ChunkTree) → BringsChunk call tag chunk → WasSaid (SaysOut message is_interleaved first least most from) chunk
+  pub young : count (transfer_of from).sender < least + 3 * 2 ^ 30
+  pub says : (tag : ℕ) (chunk : ChunkTree) → BringsChunk call tag chunk → WasSaid (SaysOut message is_interleaved first least from) chunk
+
+-- fewer than 2^31 are numbered from the ask that waits on
+abbrev pub AsksSoon : Direction → Type 0
+AsksSoon x = (a : ResetRequest) → slice_get x.asks x.answered ≡ Some a → count (transfer_of x).sender < a.upto + 2 ^ 31
 
 -- ---- where an act leads, and what it may use
 
@@ -311,4 +308,5 @@ module _ (message : ℕ → Message) (lifecycle : ℕ → Option ℕ) (is_interl
     pub windows : EpochWindows message from.rules
     pub few : AreFew (transfer_of from).sender
     pub short : AreShort (transfer_of from).sender
+    pub soon : AsksSoon from
     pub receives : ReceivesData message is_interleaved call (first_out g.beside) from

@@ -7,13 +7,13 @@ use Rattle.sctp_state.specs.Events.{Event}
 use Rattle.sctp_state.specs.Options.{Options}
 use Rattle.sctp_capabilities.specs.Capabilities.{agreed}
 use Rattle.sctp_capabilities.proofs.CapabilitiesLemmas.{agreed_exchanged}
-use Rattle.proof_rx_refines.specs.View.{ready_of}
+use Rattle.proof_refines.specs.View.{ready_of}
 use Rattle.proof_protocol.specs.State.{Message, has}
 use Rattle.proof_protocol.specs.Based.{Bracketed}
 use Rattle.proof_protocol.specs.Invariant.{Invariant}
 use Rattle.proof_protocol.proofs.ToolsLemmas.{has_keeps}
-use Rattle.proof_tx_refines.specs.Reachable.{delivered_ids}
-use Rattle.proof_tx_refines.proofs.SackLemmas.{delivered_more}
+use Rattle.proof_refines.specs.Reachable.{delivered_ids}
+use Rattle.proof_refines.proofs.SackLemmas.{delivered_more}
 use Rattle.proof_endpoint.specs.Mapped.{Carried}
 use Rattle.spec_endpoint.specs.Input.{packet_refusal}
 use Rattle.spec_endpoint.specs.Laws.{endings}
@@ -22,8 +22,8 @@ use Rattle.proof_pair.specs.Handing.{ready_at, handed_by, handed_at, new_behind,
 use Rattle.proof_pair.proofs.TraceLemmas.{Halves, swapped, before_run, goes_consistent}
 use Rattle.proof_pair.proofs.HandingLemmas.{Hands, hands_at}
 use Rattle.proof_delivery.specs.Accepted.{AcceptedMessage, accepted_in, accepted_at, accepted}
-use Rattle.proof_delivery.specs.Windows.{Stamp, stamp, Stamps, stamps_after, stamps_for, IsTimely, AreWithin, KeepsWindows}
-use Rattle.proof_delivery.specs.Answered.{NumberedBefore, asked_after, IsAnswered, AreAnswered, KeepsRequests, performed_in}
+use Rattle.proof_delivery.specs.Windows.{Stamp, numbered, stamp, Stamps, stamps_after, stamps_for, IsTimely, AreWithin, KeepsWindows}
+use Rattle.proof_delivery.specs.Answered.{NumberedBefore, asked_after, AreAnswered, KeepsRequests, performed_in}
 use Rattle.proof_delivery.specs.StreamEpochs.{StreamEpoch, epochs_after, epochs_of, message_epochs, emitted_along, failed_in}
 use Rattle.proof_delivery.specs.GivenUp.{emitted_by, given_up_at, given_up}
 use Rattle.proof_delivery.specs.Delivery.{ReportsAreTrue}
@@ -31,7 +31,7 @@ use Rattle.proof_delivery.specs.Ending.{stamps_along}
 use Rattle.proof_delivery.proofs.ClaimLemmas.{Direction, transfer_of, ReceivesIn}
 use Rattle.proof_delivery.proofs.DirectionLemmas.{SoFar, Flows, IsSilent}
 use Rattle.proof_delivery.proofs.ResetEventsLemmas.{failed_more}
-use Rattle.proof_delivery.proofs.TraceResetLemmas.{few_before, answered_now, asked_of, answered_at, asked_again, epochs_beside}
+use Rattle.proof_delivery.proofs.TraceResetLemmas.{few_before, answered_now, asked_of, asked_again, epochs_beside}
 use Rattle.proof_delivery.proofs.ActionLemmas.{AreOffered}
 use Rattle.proof_delivery.proofs.AccountLemmas.{Accounted}
 use Rattle.proof_delivery.proofs.SenderActionLemmas.{PreservedByActs, DirectionAfterAction, flows_again, action_out, action_until}
@@ -65,7 +65,7 @@ silent_goes false t w h = record { a = h.a; b = silent_action t w.b w.a h.b }
 
 -- ---- one direction: true is from a to b
 
--- how many fragments its sender had numbered
+-- the number of its sender's fragments
 abbrev pub of_end : Bool → Stamp → ℕ
 of_end true s = s.a
 of_end false s = s.b
@@ -104,14 +104,14 @@ module _ (message : ℕ → Message) (lifecycle : ℕ → Option ℕ) (is_interl
   more_by_none n = omega arith
 
   pub stepped : (from_a at_a : Bool) (t : EndAction) (w : Pair) (stamps : Stamps) → Halves a b w.a w.b → AreSilent w → AreWithin w → (k : NumberedBefore) → AreAnswered w k → AreFewPerformed w
-      → MayAct t (side_of at_a w) → IsTimely t (stamp w) (stamps_for at_a stamps) → NoAssociationHasEnded (goes at_a t w) → (n : ℕ) (handed : List messages.Message)
+      → MayAct t (side_of at_a w) → IsTimely t (numbered w) (stamps_for at_a stamps) → NoAssociationHasEnded (goes at_a t w) → (n : ℕ) (handed : List messages.Message)
       → AreOffered message lifecycle n (accepted_at from_a at_a t w) → n + length (accepted_at from_a at_a t w) < 2 ^ 32
       → (f : ℕ → StreamEpoch) (epochs : List ℕ) (x : Direction) → FlowsFrom message lifecycle is_interleaved from_a w stamps n handed (so_far from_a f epochs k) x
       → Stepped message lifecycle is_interleaved from_a (goes at_a t w) (stamps_after at_a t w stamps) (n + length (accepted_at from_a at_a t w)) (handed ++ handed_at (not from_a) at_a t w)
       (so_far from_a (epochs_after from_a at_a t w f) (epochs ++ epochs_of (accepted_at from_a at_a t w) f) (asked_after at_a t w k)) x w (given_up_at from_a at_a t w)
   stepped true true t w stamps h quiet within k soon emitted may timely none n handed are few f epochs x flows =
       let r = action_out message lifecycle is_interleaved (of_end true) parts a b own other mode w.a w.b h quiet.a quiet.b within.a n handed stamps.of_a stamps.of_b (so_far true f epochs k) x flows
-      soon.a (emitted true) (stamp w) refl (λ old y. y.a) t may timely none.a are few in
+      (emitted true) (numbered w) (stamp true w) refl refl (λ old y. y.a) t may timely none.a are few in
       record {
         to = r.to;
         flows = subst (λ (ms : List messages.Message). FlowsFrom message lifecycle is_interleaved true (goes true t w) (stamps_after true t w stamps) (n + length (accepted_in t w.a)) ms
@@ -121,7 +121,7 @@ module _ (message : ℕ → Message) (lifecycle : ℕ → Option ℕ) (is_interl
       }
   stepped true false t w stamps h quiet within k soon emitted may timely none n handed are few f epochs x flows =
       let r = action_in message lifecycle is_interleaved (of_end true) parts a b own other mode w.a w.b h quiet.a quiet.b within.a n handed stamps.of_a stamps.of_b (so_far true f epochs k) x flows
-      soon.a (emitted true) (stamp w) refl (λ old y. y.a) t may timely none.b in
+      soon.a (emitted true) (numbered w) (stamp true w) (stamp false w) refl refl refl (λ old y. y.a) t may timely none.b in
       record {
         to = r.to;
         flows = subst (λ (m : ℕ). FlowsFrom message lifecycle is_interleaved true (goes false t w) (stamps_after false t w stamps) m (handed ++ handed_by t w.b)
@@ -134,7 +134,7 @@ module _ (message : ℕ → Message) (lifecycle : ℕ → Option ℕ) (is_interl
       }
   stepped false false t w stamps h quiet within k soon emitted may timely none n handed are few f epochs x flows =
       let r = action_out message lifecycle is_interleaved (of_end false) parts b a other own mode_back w.b w.a (swapped a b w.a w.b h) quiet.b quiet.a within.b n handed stamps.of_b stamps.of_a
-      (so_far false f epochs k) x flows soon.b (emitted false) (stamp w) refl (λ old y. y.b) t may timely none.b are few in
+      (so_far false f epochs k) x flows (emitted false) (numbered w) (stamp false w) refl refl (λ old y. y.b) t may timely none.b are few in
       record {
         to = r.to;
         flows = subst (λ (ms : List messages.Message). FlowsFrom message lifecycle is_interleaved false (goes false t w) (stamps_after false t w stamps) (n + length (accepted_in t w.b)) ms
@@ -144,7 +144,7 @@ module _ (message : ℕ → Message) (lifecycle : ℕ → Option ℕ) (is_interl
       }
   stepped false true t w stamps h quiet within k soon emitted may timely none n handed are few f epochs x flows =
       let r = action_in message lifecycle is_interleaved (of_end false) parts b a other own mode_back w.b w.a (swapped a b w.a w.b h) quiet.b quiet.a within.b n handed stamps.of_b stamps.of_a
-      (so_far false f epochs k) x flows soon.b (emitted false) (stamp w) refl (λ old y. y.b) t may timely none.a in
+      (so_far false f epochs k) x flows soon.b (emitted false) (numbered w) (stamp false w) (stamp true w) refl refl refl (λ old y. y.b) t may timely none.a in
       record {
         to = r.to;
         flows = subst (λ (m : ℕ). FlowsFrom message lifecycle is_interleaved false (goes true t w) (stamps_after true t w stamps) m (handed ++ handed_by t w.a)
@@ -178,7 +178,6 @@ module _ (all : List AcceptedMessage) (all_epochs : List ℕ) (is_interleaved : 
     pub last : Direction
     pub said : SoFar
     pub flows : From w stamps (length done) handed said last
-    pub soon : IsAnswered (state_of (side_of from_a w)) said.asked
     pub accounts : Accounted (lifecycle_of all) (side_of from_a w) abandoned last
     pub places_are : places ≡ (transfer_of last).receiver.places
 
@@ -332,7 +331,6 @@ module _ (all : List AcceptedMessage) (all_epochs : List ℕ) (is_interleaved : 
         last = x;
         said = so_far from_a f epochs k;
         flows = flows;
-        soon = answered_at from_a w k soon;
         accounts = accounts;
         places_are = refl;
       }
@@ -437,14 +435,14 @@ module _ (all : List AcceptedMessage) (all_epochs : List ℕ) (is_interleaved : 
 
   pub emits_then : (from_a : Bool) (a b : Options) (own : AreValidOptions a) (other : AreValidOptions b) (mode : is_interleaved ≡ (agreed a b).message_interleaving) (w : Pair) (stamps : Stamps)
       → Halves a b w.a w.b → AreSilent w → AreWithin w → AreFewPerformed w → NoAssociationHasEnded w → (t : EndAction) → MayAct t (side_of from_a w)
-      → IsTimely t (stamp w) (stamps_for from_a stamps) → (done : List AcceptedMessage) → all ≡ done ++ accepted_in t (side_of from_a w) → (ready : List messages.Message) (abandoned places : List ℕ)
+      → IsTimely t (numbered w) (stamps_for from_a stamps) → (done : List AcceptedMessage) → all ≡ done ++ accepted_in t (side_of from_a w) → (ready : List messages.Message) (abandoned places : List ℕ)
       → Leads all all_epochs is_interleaved parts a b own other mode few from_a w stamps done ready abandoned places
       → (early late : List (Event Carried)) → (emitted_by t (side_of from_a w) (side_of (not from_a) w)).events ≡ early ++ late → endings early ≡ 0
       → EmitsThen (side_of from_a w).emitted early (done ++ accepted_in t (side_of from_a w)) (take (length ready) places)
   emits_then true a b own other mode w stamps h quiet within performed none t may timely done is ready abandoned places l early late emitted before =
       let offered = offered_from all done (accepted_in t w.a) [] (is ∙ ap (λ (os : List AcceptedMessage). done ++ os) (sym (append-nil (accepted_in t w.a)))) in
       let u = action_until (message_of all) (lifecycle_of all) is_interleaved (of_end true) parts a b own other mode w.a w.b h quiet.a quiet.b within.a (length done) l.handed stamps.of_a stamps.of_b
-      l.said l.last l.flows l.soon (performed true) (stamp w) refl (λ old y. y.a) t may timely none.a offered (below_all done (accepted_in t w.a) is) early late emitted before in
+      l.said l.last l.flows (performed true) (numbered w) (stamp true w) refl refl (λ old y. y.a) t may timely none.a offered (below_all done (accepted_in t w.a) is) early late emitted before in
       record {
         reports = emitted_both all all_epochs is_interleaved parts a b own other mode few true u.side w.a.emitted early u.rest u.emitted (done ++ accepted_in t w.a) (take (length ready) places)
             (subst (λ (ps : List ℕ). ReportsAreTrue (done ++ accepted_in t w.a) u.side.emitted (take (length ready) ps)) (sym l.places_are)
@@ -456,7 +454,7 @@ module _ (all : List AcceptedMessage) (all_epochs : List ℕ) (is_interleaved : 
       let offered = offered_from all done (accepted_in t w.b) [] (is ∙ ap (λ (os : List AcceptedMessage). done ++ os) (sym (append-nil (accepted_in t w.b)))) in
       let u = action_until (message_of all) (lifecycle_of all) is_interleaved (of_end false) parts b a other own (mode_back (message_of all) (lifecycle_of all) is_interleaved parts a b own other mode) w.b w.a (swapped a b w.a w.b h)
       quiet.b quiet.a within.b (length done) l.handed stamps.of_b stamps.of_a
-      l.said l.last l.flows l.soon (performed false) (stamp w) refl (λ old y. y.b) t may timely none.b offered (below_all done (accepted_in t w.b) is) early late emitted before in
+      l.said l.last l.flows (performed false) (numbered w) (stamp false w) refl refl (λ old y. y.b) t may timely none.b offered (below_all done (accepted_in t w.b) is) early late emitted before in
       record {
         reports = emitted_both all all_epochs is_interleaved parts a b own other mode few false u.side w.b.emitted early u.rest u.emitted (done ++ accepted_in t w.b) (take (length ready) places)
             (subst (λ (ps : List ℕ). ReportsAreTrue (done ++ accepted_in t w.b) u.side.emitted (take (length ready) ps)) (sym l.places_are)

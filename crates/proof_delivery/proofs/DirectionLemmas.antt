@@ -1,6 +1,6 @@
 -- Between actions, one direction of two ends: the sender's values, the receiver's, and all packets that either ever emitted, at a
 -- state of the rules.
-use Rattle.std.proofs.Common.{◌≡◌, ℕ, zero, suc, ◌+◌, ◌-◌, ◌^◌, ◌≤◌, Bool, true, false, Option, Some, None, List, [], ◌∷◌, ◌++◌, length, replicate, slice_get, All, refl, sym, ap, subst, ◌∙◌, arith, ◌<◌}
+use Rattle.std.proofs.Common.{◌≡◌, ℕ, zero, suc, ◌-◌, ◌^◌, ◌≤◌, Bool, true, false, Option, Some, None, List, [], ◌∷◌, ◌++◌, length, replicate, slice_get, All, refl, sym, ap, subst, ◌∙◌, arith, ◌<◌}
 use Rattle.std.proofs.lemmas.List.{length-append}
 use Rattle.std.proofs.lemmas.List.Elements.{All-head, All-tail, All-weaker}
 use Rattle.std.specs.Prelude.{⊤}
@@ -73,44 +73,37 @@ each_at P (q ∷ ps) [] n p e h = absurd h
 each_at P (q ∷ ps) (s ∷ ss) zero p e h = record { stamp = s; there = refl; holds = subst (λ (z : Carried). P s z) (some_packet q p e) h.0 }
 each_at P (q ∷ ps) (s ∷ ss) (suc n) p e h = let r = each_at P ps ss n p e h.1 in record { stamp = r.stamp; there = r.there; holds = r.holds }
 
+-- what was acknowledged, by the stamp of a packet of the sender
+abbrev pub least_out : (Stamp → ℕ) → Stamp → ℕ
+least_out of s = of s - 2 ^ 30
+
 -- ---- what packets say
 
--- of what was acknowledged, and numbered, when a packet was emitted
+-- of what was acknowledged when a packet was emitted
 abbrev pub Saying : Type 1
-Saying = (least most : ℕ) → Direction → ChunkTree → Type 0
+Saying = (least : ℕ) → Direction → ChunkTree → Type 0
 
-pub record IsUnderWay (Says : Saying) (x : Direction) (most : ℕ) (p : Carried) : Type 0 where
-  pub least : ℕ
+pub record IsUnderWay (Says : Saying) (x : Direction) (least : ℕ) (p : Carried) : Type 0 where
   pub past : least ≤ (transfer_of x).acknowledged
-  pub near : most ≤ least + 2 ^ 30
-  pub below : most ≤ count (transfer_of x).sender
-  pub says : All (Says least most x) p.chunks
+  pub says : All (Says least x) p.chunks
 
 abbrev pub AllUnderWay : Saying → (of : Stamp → ℕ) → Direction → List Carried → List Stamp → Type 0
 AllUnderWay Says of x ps ss = Each (λ stamp p. IsUnderWay Says x (of stamp) p) ps ss
 
 module _ (message : ℕ → Message) (is_interleaved : Bool) where
   abbrev pub says_out : (first : ℕ) → Saying
-  says_out first = λ least most x chunk. SaysOut message is_interleaved first least most x chunk
+  says_out first = λ least x chunk. SaysOut message is_interleaved first least x chunk
 
   abbrev pub says_in : (first : ℕ) → Saying
-  says_in first = λ least most x chunk. SaysIn first least most x chunk
+  says_in first = λ least x chunk. SaysIn first least x chunk
 
   under_way_on : (Says New : Saying) (x y : Direction) → Grows message is_interleaved x y
-      → ((least most : ℕ) (chunks : List ChunkTree) → All (Says least most x) chunks → All (New least most y) chunks) → (most : ℕ) (p : Carried)
-      → IsUnderWay Says x most p → IsUnderWay New y most p
-  under_way_on Says New x y g f most p h =
+      → ((least : ℕ) (chunks : List ChunkTree) → All (Says least x) chunks → All (New least y) chunks) → (least : ℕ) (p : Carried)
+      → IsUnderWay Says x least p → IsUnderWay New y least p
+  under_way_on Says New x y g f least p h =
       let l = h.past in
-      let b = h.below in
       let m = g.left in
-      let c = g.numbered in
-      record {
-        least = h.least;
-        past = omega (arith, l, m);
-        near = h.near;
-        below = omega (arith, b, c);
-        says = f h.least most p.chunks h.says;
-      }
+      record { past = omega (arith, l, m); says = f least p.chunks h.says }
 
   -- what was said stays true along rules
   pub out_on : (kind : ResetEvent → Bool) (x y : Direction) → InEpochs message is_interleaved x.rules → GoesOn message is_interleaved kind x y → (first : ℕ) (of : Stamp → ℕ) (ps : List Carried) (ss : List Stamp)
@@ -118,47 +111,47 @@ module _ (message : ℕ → Message) (is_interleaved : Bool) where
   out_on kind x y k g first of ps ss h =
       each_weaker (λ stamp p. IsUnderWay (says_out first) x (of stamp) p) (λ stamp p. IsUnderWay (says_out first) y (of stamp) p)
       (λ stamp p. under_way_on (says_out first) (says_out first) x y (goes_grows message is_interleaved kind x y k g)
-      (λ least most chunks. all_out_stay message is_interleaved kind x y k g first least most chunks) (of stamp) p) ps ss h
+      (λ least chunks. all_out_stay message is_interleaved kind x y k g first least chunks) (of stamp) p) ps ss h
 
   pub in_on : (kind : ResetEvent → Bool) (x y : Direction) → InEpochs message is_interleaved x.rules → GoesOn message is_interleaved kind x y → (first : ℕ) (of : Stamp → ℕ) (ps : List Carried) (ss : List Stamp)
       → AllUnderWay (says_in first) of x ps ss → AllUnderWay (says_in first) of y ps ss
   in_on kind x y k g first of ps ss h =
       each_weaker (λ stamp p. IsUnderWay (says_in first) x (of stamp) p) (λ stamp p. IsUnderWay (says_in first) y (of stamp) p)
       (λ stamp p. under_way_on (says_in first) (says_in first) x y (goes_grows message is_interleaved kind x y k g)
-      (λ least most chunks. all_in_stay message is_interleaved kind x y k g first least most chunks) (of stamp) p) ps ss h
+      (λ least chunks. all_in_stay message is_interleaved kind x y k g first least chunks) (of stamp) p) ps ss h
 
   -- ---- the first TSN is that of the association, which stands
 
   -- where nothing was sent, whichever it is
-  asks_anew : (asks : List ResetRequest) → asks ≡ [] → (first new most : ℕ) (p : ParameterTree) → SaysOutgoing first most asks p → SaysOutgoing new most asks p
-  asks_anew asks none first new most (outgoing_reset_request number response last_tsn streams) h =
+  asks_anew : (asks : List ResetRequest) → asks ≡ [] → (first new : ℕ) (p : ParameterTree) → SaysOutgoing first asks p → SaysOutgoing new asks p
+  asks_anew asks none first new (outgoing_reset_request number response last_tsn streams) h =
       absurd (none_some h.ask (ap (λ (l : List ResetRequest). slice_get l h.at) (sym none) ∙ h.there))
     where
       none_some : (a : ResetRequest) → None ≡ Some a → ⊥
       none_some a e = cc
-  asks_anew asks none first new most (incoming_reset_request number streams) h = h
-  asks_anew asks none first new most p h = tt
+  asks_anew asks none first new (incoming_reset_request number streams) h = h
+  asks_anew asks none first new p h = tt
 
-  out_anew : (x : Direction) → count (transfer_of x).sender ≡ 0 → (transfer_of x).forward_points ≡ [] → x.asks ≡ [] → (first new least most : ℕ) (chunk : ChunkTree)
-      → SaysOut message is_interleaved first least most x chunk → SaysOut message is_interleaved new least most x chunk
-  out_anew x none no_points no_asks first new least most (data_chunk tsn is_immediate f) h = let b = h.1.carries.below in absurd (omega (arith, none, b))
-  out_anew x none no_points no_asks first new least most (idata_chunk tsn is_immediate f) h = let b = h.1.carries.below in absurd (omega (arith, none, b))
-  out_anew x none no_points no_asks first new least most (forward_tsn_chunk tsn skipped) h = absurd (subst (λ z. IsAmong h.point z) no_points h.sent)
-  out_anew x none no_points no_asks first new least most (i_forward_tsn_chunk tsn skipped) h = absurd (subst (λ z. IsAmong h.point z) no_points h.sent)
-  out_anew x none no_points no_asks first new least most (re_config_chunk parameters) h =
-      All-weaker (SaysOutgoing first most x.asks) (SaysOutgoing new most x.asks) (λ p. asks_anew x.asks no_asks first new most p) parameters h
-  out_anew x none no_points no_asks first new least most chunk h = h
+  out_anew : (x : Direction) → count (transfer_of x).sender ≡ 0 → (transfer_of x).forward_points ≡ [] → x.asks ≡ [] → (first new least : ℕ) (chunk : ChunkTree)
+      → SaysOut message is_interleaved first least x chunk → SaysOut message is_interleaved new least x chunk
+  out_anew x none no_points no_asks first new least (data_chunk tsn is_immediate f) h = let b = h.1.carries.below in absurd (omega (arith, none, b))
+  out_anew x none no_points no_asks first new least (idata_chunk tsn is_immediate f) h = let b = h.1.carries.below in absurd (omega (arith, none, b))
+  out_anew x none no_points no_asks first new least (forward_tsn_chunk tsn skipped) h = absurd (subst (λ z. IsAmong h.point z) no_points h.sent)
+  out_anew x none no_points no_asks first new least (i_forward_tsn_chunk tsn skipped) h = absurd (subst (λ z. IsAmong h.point z) no_points h.sent)
+  out_anew x none no_points no_asks first new least (re_config_chunk parameters) h =
+      All-weaker (SaysOutgoing first x.asks) (SaysOutgoing new x.asks) (λ p. asks_anew x.asks no_asks first new p) parameters h
+  out_anew x none no_points no_asks first new least chunk h = h
 
-  all_anew : (x : Direction) → count (transfer_of x).sender ≡ 0 → (transfer_of x).forward_points ≡ [] → x.asks ≡ [] → (first new least most : ℕ) (chunks : List ChunkTree)
-      → All (SaysOut message is_interleaved first least most x) chunks → All (SaysOut message is_interleaved new least most x) chunks
-  all_anew x none no_points no_asks first new least most chunks h =
-      All-weaker (SaysOut message is_interleaved first least most x) (SaysOut message is_interleaved new least most x) (λ chunk. out_anew x none no_points no_asks first new least most chunk) chunks h
+  all_anew : (x : Direction) → count (transfer_of x).sender ≡ 0 → (transfer_of x).forward_points ≡ [] → x.asks ≡ [] → (first new least : ℕ) (chunks : List ChunkTree)
+      → All (SaysOut message is_interleaved first least x) chunks → All (SaysOut message is_interleaved new least x) chunks
+  all_anew x none no_points no_asks first new least chunks h =
+      All-weaker (SaysOut message is_interleaved first least x) (SaysOut message is_interleaved new least x) (λ chunk. out_anew x none no_points no_asks first new least chunk) chunks h
 
-  anew : (Says New : Saying) (x : Direction) → ((least most : ℕ) (chunks : List ChunkTree) → All (Says least most x) chunks → All (New least most x) chunks) → (of : Stamp → ℕ)
+  anew : (Says New : Saying) (x : Direction) → ((least : ℕ) (chunks : List ChunkTree) → All (Says least x) chunks → All (New least x) chunks) → (of : Stamp → ℕ)
       (ps : List Carried) (ss : List Stamp) → AllUnderWay Says of x ps ss → AllUnderWay New of x ps ss
   anew Says New x f of ps ss h =
       each_weaker (λ stamp p. IsUnderWay Says x (of stamp) p) (λ stamp p. IsUnderWay New x (of stamp) p)
-      (λ stamp p u. record { least = u.least; past = u.past; near = u.near; below = u.below; says = f u.least (of stamp) p.chunks u.says }) ps ss h
+      (λ stamp p u. record { past = u.past; says = f (of stamp) p.chunks u.says }) ps ss h
 
 -- an association that stands is not replaced
 abbrev pub Stands : (before after : State) → Type 0
@@ -225,7 +218,7 @@ module _ (message : ℕ → Message) (lifecycle : ℕ → Option ℕ) (is_interl
     pub sends : SendsIn message lifecycle is_interleaved (state_of s) (queue_of s) x
     pub refines : ReceivesIn message is_interleaved (state_of r) handed x
     pub accepted_is : (transfer_of x).sender.accepted ≡ accepted
-    pub out : AllUnderWay (says_out message is_interleaved (first_out (state_of s))) of x (emitted_packets s) stamps_s
+    pub out : AllUnderWay (says_out message is_interleaved (first_out (state_of s))) (least_out of) x (emitted_packets s) stamps_s
     pub answers : AllUnderWay (says_in message is_interleaved (first_in (state_of r))) of x (emitted_packets r) stamps_r
     pub streams : AreSo so_far.streams x.rules
     pub many : length so_far.epochs ≡ accepted

@@ -8,11 +8,11 @@ use Rattle.proof_protocol.specs.State.{Message, has}
 use Rattle.proof_protocol.specs.Claims.{AtRest, Claims}
 use Rattle.proof_protocol.specs.Invariant.{Invariant}
 use Rattle.proof_protocol.proofs.ClaimsLemmas.{claimed}
-use Rattle.proof_rx_refines.specs.View.{ready_of}
+use Rattle.proof_refines.specs.View.{ready_of}
 use Rattle.sctp_tx_outstanding.specs.OutstandingData.{no_items}
-use Rattle.proof_tx_refines.specs.Reachable.{id_of, ids_at}
-use Rattle.proof_tx_refines.specs.Records.{are_distinct}
-use Rattle.proof_tx_refines.proofs.RestLemmas.{rest_outgoing}
+use Rattle.proof_refines.specs.Reachable.{id_of, ids_at}
+use Rattle.proof_refines.specs.Records.{are_distinct}
+use Rattle.proof_refines.proofs.SenderRestLemmas.{rest_outgoing}
 use Rattle.spec_endpoint.specs.Association.{State, Closed, CookieWait, Open}
 use Rattle.proof_pair.specs.Trace.{Side, state_of}
 use Rattle.proof_delivery.specs.Accepted.{AcceptedMessage}

@@ -6,7 +6,7 @@ use Rattle.sctp_state.specs.Events.{Event}
 use Rattle.proof_protocol.specs.State.{Message, has, stream_of}
 use Rattle.proof_protocol.specs.Based.{Bracketed}
 use Rattle.proof_protocol.specs.Invariant.{Invariant}
-use Rattle.proof_tx_refines.proofs.RestLemmas.{has_more}
+use Rattle.proof_refines.proofs.SenderRestLemmas.{has_more}
 use Rattle.proof_endpoint.specs.Mapped.{Carried}
 use Rattle.proof_delivery.specs.Accepted.{AcceptedMessage}
 use Rattle.proof_delivery.specs.StreamEpochs.{resets_emitted}

@@ -7,7 +7,7 @@ use Rattle.std.proofs.lemmas.Option.{slice_get_cases}
 use Rattle.std.proofs.Math.Seq.{take-append_seam}
 use Rattle.sctp_serial.specs.Messages as messages
 use Rattle.sctp_state.specs.Options.{defaults}
-use Rattle.proof_rx_refines.specs.View.{ready_of}
+use Rattle.proof_refines.specs.View.{ready_of}
 use Rattle.proof_protocol.specs.State.{Message, ReadyMessage, Transfer}
 use Rattle.proof_protocol.specs.Claims.{ready_message}
 use Rattle.proof_protocol.specs.Claims as rules

@@ -24,7 +24,7 @@ use Rattle.sctp_tx.specs.RetransmissionQueue.{Sender, sender_if, emitted_if, tim
 use Rattle.sctp_tx.specs.Resent.{resent, resent_fast, may_send_new, start_t3_if, send_fast}
 use Rattle.sctp_tx.specs.ForwardPoints.{abandon_expired}
 use Rattle.sctp_tx.specs.Sending.{Filling, offered_payload, item_of, append, QueueStep, queue_step_if, next_turn, fill, discard_all, without_discards, filled_with, send}
-use Rattle.proof_tx_refines.proofs.LossLemmas.{in_flight_lives, nacked_lives}
+use Rattle.proof_refines.proofs.LossLemmas.{in_flight_lives, nacked_lives}
 use Rattle.proof_delivery.proofs.JustifiedQueueLemmas.{Holds, Makes, Turns, all_behind, due_right, same_discards, holds_discards, produces}
 use Rattle.sctp_tx_outstanding.proofs.RecordLemmas.{resent_same, slowed_same, acked_same, uncovered_same, nacked_same}
 

@@ -6,11 +6,11 @@ use Rattle.sctp_capabilities.specs.Capabilities.{agreed}
 use Rattle.proof_protocol.specs.State.{Message}
 use Rattle.proof_protocol.specs.Resets.{first_epoch}
 use Rattle.proof_protocol.proofs.BasedLemmas.{epochs_at_first}
-use Rattle.proof_rx_refines.proofs.RowLemmas.{first_receives}
-use Rattle.proof_rx_refines.proofs.NearRowLemmas.{new_is_near}
-use Rattle.proof_rx_refines.proofs.NearKeptLemmas.{new_mids}
-use Rattle.proof_tx_refines.proofs.StartLemmas.{new_shows}
-use Rattle.proof_tx_refines.proofs.FollowLemmas.{beginning_follows}
+use Rattle.proof_refines.proofs.RowLemmas.{first_receives}
+use Rattle.proof_refines.proofs.NearRowLemmas.{new_is_near}
+use Rattle.proof_refines.proofs.NearKeptLemmas.{new_mids}
+use Rattle.proof_refines.proofs.StartLemmas.{new_shows}
+use Rattle.proof_refines.proofs.FollowLemmas.{beginning_follows}
 use Rattle.sctp_tx_outstanding.specs.OutstandingData.{no_items}
 use Rattle.sctp_state.specs.Events.{Event}
 use Rattle.proof_endpoint.specs.Mapped.{Carried}

@@ -9,12 +9,12 @@ use Rattle.proof_protocol.specs.Invariant.{Invariant}
 use Rattle.proof_protocol.specs.Lifted.{lift}
 use Rattle.proof_protocol.specs.Resets.{Request, Epochs, transfers, commit, goes}
 use Rattle.proof_protocol.proofs.WireResetLemmas.{still_shown}
-use Rattle.proof_rx_refines.specs.Refinement.{ReceiverRefines}
-use Rattle.proof_rx_refines.specs.Near.{IsOn, ReadsNear}
-use Rattle.proof_rx_refines.specs.Resets.{base_now}
-use Rattle.proof_rx_refines.proofs.RowLemmas.{sender_goes}
-use Rattle.proof_rx_refines.proofs.NearRowLemmas.{sender_keeps}
-use Rattle.proof_rx_refines.proofs.NearKeptLemmas.{sender_keeps_mids}
+use Rattle.proof_refines.specs.ReceiverRefinement.{ReceiverRefines}
+use Rattle.proof_refines.specs.Near.{IsOn, ReadsNear}
+use Rattle.proof_refines.specs.Resets.{base_now}
+use Rattle.proof_refines.proofs.RowLemmas.{sender_goes}
+use Rattle.proof_refines.proofs.NearRowLemmas.{sender_keeps}
+use Rattle.proof_refines.proofs.NearKeptLemmas.{sender_keeps_mids}
 
 module _ (message : ℕ → Message) (is_interleaved : Bool) where
   pub record Leaves (x y : Epochs) : Type 0 where

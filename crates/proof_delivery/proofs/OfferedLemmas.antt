@@ -1,12 +1,12 @@
 -- Calls that offer messages: what an end says and refines as a sender, and as a receiver, after them.
-use Rattle.std.proofs.Common.{◌≡◌, ℕ, ◌+◌, ◌^◌, ◌<◌, Bool, true, false, Option, List, [], ◌∷◌, length, slice_get, All, inl, refl, sym, ap, subst, ◌∙◌, arith}
+use Rattle.std.proofs.Common.{◌≡◌, ℕ, ◌+◌, ◌^◌, ◌<◌, Bool, true, false, Option, List, [], ◌∷◌, length, All, inl, refl, sym, ap, subst, ◌∙◌, arith}
 use Rattle.std.proofs.lemmas.List.Elements.{All-nil}
 use Rattle.sctp_serial.specs.Messages as messages
 use Rattle.sctp_packet.specs.Chunk.{ChunkTree}
 use Rattle.sctp_state.specs.Options.{SendOptions}
 use Rattle.sctp_state.specs.Events.{Event, Emitted}
 use Rattle.proof_protocol.specs.State.{Message, count}
-use Rattle.proof_tx_refines.specs.Reachable.{recorded_places, delivered_ids}
+use Rattle.proof_refines.specs.Reachable.{recorded_places, delivered_ids}
 use Rattle.spec_endpoint.specs.Association.{Context, EndpointState, Endpoint, with_context}
 use Rattle.spec_endpoint.specs.Sending.{send_in}
 use Rattle.spec_endpoint.specs.Calls.{shown_state, send_refusal_of, offer, offer_all}
@@ -32,8 +32,7 @@ use Rattle.proof_delivery.proofs.FrameLemmas as frames
 use Rattle.proof_delivery.proofs.ResetEventsLemmas.{resets_in, performed_counts, performed_names, failed_still, emitted_same}
 use Rattle.proof_delivery.proofs.SenderToolLemmas.{goes_none, reports_none, SaysAll, SaysPackets}
 use Rattle.proof_delivery.proofs.DirectionLemmas.{IsSilent}
-use Rattle.proof_delivery.proofs.PremisesLemmas.{AsksSoon}
-use Rattle.proof_delivery.proofs.ActionLemmas.{AreOffered, Offers, Stay}
+use Rattle.proof_delivery.proofs.ActionLemmas.{AreOffered, Stay}
 use Rattle.proof_delivery.proofs.SenderActionLemmas.{OffersOut}
 use Rattle.proof_delivery.proofs.OfferingLemmas.{offers_packets, offers_resets, OfferedTo, IsOffering, offers_all}
 
@@ -97,12 +96,12 @@ sacks_of_none : (call : Call) (first : ℕ) (x y : Direction) → (transfer_of y
     → ReceivesSacks call first x → ReceivesSacks ReceiveNoPacket first y
 sacks_of_none call first x y a c h =
     let past = h.past in
+    let near = h.near in
     let young = h.young in
     record {
       least = h.least;
-      most = h.most;
       past = omega (arith, a, past);
-      near = h.near;
+      near = omega (arith, a, c, near);
       young = omega (arith, c, young);
       says = λ tag chunk is. absurd (no_received is);
     }
@@ -110,9 +109,6 @@ sacks_of_none call first x y a c h =
 data_of_none : (message : ℕ → Message) (is_interleaved : Bool) (call : Call) (first : ℕ) (x : Direction) → ReceivesData message is_interleaved call first x → ReceivesData message is_interleaved ReceiveNoPacket first x
 data_of_none message is_interleaved call first x h = record {
   least = h.least;
-  most = h.most;
-  near = h.near;
-  below = h.below;
   young = h.young;
   says = λ tag chunk is. absurd (no_received is);
 }
@@ -139,13 +135,6 @@ answered_so n es none = let c = none.counted in omega (arith, c)
 performed_so : (k a b : ℕ) (es fs : List (Event Carried)) → resets_in fs ≡ resets_in es → a ≡ b + resets_emitted k es → a ≡ b + resets_emitted k fs
 performed_so k a b es fs same e = let c = emitted_same k es fs same in omega (arith, c, e)
 
--- the ask that waits is the same
-near_then : (message : ℕ → Message) (is_interleaved : Bool) (n : ℕ) (x mid : Direction) → Offers message is_interleaved n x mid → AsksSoon x → AsksSoon mid
-near_then message is_interleaved n x mid o soon a there =
-    let c = o.counted in
-    let l = soon a (sym (ap (λ (k : ℕ). slice_get x.asks k) o.answered) ∙ (sym (ap (λ (l : List ResetRequest). slice_get l mid.answered) o.asks) ∙ there)) in
-    omega (arith, c, l)
-
 module _ (message : ℕ → Message) (lifecycle : ℕ → Option ℕ) (is_interleaved : Bool) (g : Setting) (x : Direction) (s : Side) where
   -- where these are offered at an end
   abbrev offered_at : List messages.Message → SendOptions → Context Carried
@@ -168,9 +157,9 @@ module _ (message : ℕ → Message) (lifecycle : ℕ → Option ℕ) (is_interl
       receives = sacks_of_none call (first_in g.beside) x o.mid o.offers.acknowledged o.offers.counted p.receives;
     }
 
-    claim_then : (ms : List messages.Message) (how : SendOptions) (n : ℕ) → IsSilent s → AsksSoon x
+    claim_then : (ms : List messages.Message) (how : SendOptions) (n : ℕ) → IsSilent s
         → (o : OfferedTo message lifecycle is_interleaved (state_of s) (offered_at ms how) x n) → SenderClaim message lifecycle is_interleaved o.mid [] (offering ms how s.end) o.mid
-    claim_then ms how n q soon o =
+    claim_then ms how n q o =
         let emitted : List (Event Carried) = (offered_at ms how).emitted.events in
         let none : EmitsNoReset emitted = emits_none emitted o.is.no_reset in
         record {
@@ -178,7 +167,6 @@ module _ (message : ℕ → Message) (lifecycle : ℕ → Option ℕ) (is_interl
           goes = goes_none message is_interleaved goes_out o.mid;
           done = refl;
           shown = o.is.shown;
-          near = near_then message is_interleaved n x o.mid o.offers soon;
           since = λ a there. inl there;
           given_up = o.is.given_up;
           reported = reports_none lifecycle (transfer_of o.mid) (transfer_of o.mid) [] emitted refl o.is.reported;
@@ -191,7 +179,7 @@ module _ (message : ℕ → Message) (lifecycle : ℕ → Option ℕ) (is_interl
           made = All-nil _;
         }
 
-    module _ (call : Call) (q : IsSilent s) (p : SenderPremises message lifecycle is_interleaved g call x) (shown : SendsIn message lifecycle is_interleaved (state_of s) (queue_of s) x) (soon : AsksSoon x) where
+    module _ (call : Call) (q : IsSilent s) (p : SenderPremises message lifecycle is_interleaved g call x) (shown : SendsIn message lifecycle is_interleaved (state_of s) (queue_of s) x) where
       is_offering : IsOffering message lifecycle is_interleaved (state_of s) s.end.endpoint_state.context x
       is_offering = record {
         kept = p.kept;
@@ -210,26 +198,26 @@ module _ (message : ℕ → Message) (lifecycle : ℕ → Option ℕ) (is_interl
           let os : List AcceptedMessage = accepted_of ms how (shown_state (state_of s)) s.end.endpoint_state.context in
           let o : OfferedTo message lifecycle is_interleaved (state_of s) (offered_at ms how) x (length os) =
           offers_all message lifecycle is_interleaved ms (state_of s) s.end.endpoint_state.context x how is_offering are few in
-          let c = goes o.mid (sender_keeps o.mid (premises_then call (offered_at ms how) (length os) p o)) [] o.mid (claim_then ms how (length os) q soon o) in
+          let c = goes o.mid (sender_keeps o.mid (premises_then call (offered_at ms how) (length os) p o)) [] o.mid (claim_then ms how (length os) q o) in
           record { mid = o.mid; offers = o.offers; to = c.0; claim = c.1 }
 
     -- each such call
     abbrev GoesOut : Call → Type 0
     GoesOut call = Rules g call → SenderPremises message lifecycle is_interleaved g call x
         → AreOffered message lifecycle (transfer_of x).sender.accepted (accepted_by call s) → (transfer_of x).sender.accepted + length (accepted_by call s) < 2 ^ 32
-        → HasNoEnd (calm (called call s.end)) → InvAt g (calm s.end) → IsSilent s → SendsIn message lifecycle is_interleaved (state_of s) (queue_of s) x → AsksSoon x
+        → HasNoEnd (calm (called call s.end)) → InvAt g (calm s.end) → IsSilent s → SendsIn message lifecycle is_interleaved (state_of s) (queue_of s) x
         → OffersOut message lifecycle is_interleaved x (accepted_by call s) (calm (called call s.end))
 
     pub offered_out : (call : Call) → Rules g call → is_offer call ≡ true → SenderPremises message lifecycle is_interleaved g call x
         → AreOffered message lifecycle (transfer_of x).sender.accepted (accepted_by call s) → (transfer_of x).sender.accepted + length (accepted_by call s) < 2 ^ 32
-        → HasNoEnd (calm (called call s.end)) → InvAt g (calm s.end) → IsSilent s → SendsIn message lifecycle is_interleaved (state_of s) (queue_of s) x → AsksSoon x
+        → HasNoEnd (calm (called call s.end)) → InvAt g (calm s.end) → IsSilent s → SendsIn message lifecycle is_interleaved (state_of s) (queue_of s) x
         → OffersOut message lifecycle is_interleaved x (accepted_by call s) (calm (called call s.end))
     offered_out call r offer =
         each_offer GoesOut
-        (λ m how r p are few none inv q shown soon.
-        behind_offers (Send m how) q p shown soon (m ∷ []) how are few (λ mid k. then_one g k s.end m how r none inv))
-        (λ ms how r p are few none inv q shown soon.
-        behind_offers (SendMany ms how) q p shown soon ms how are few (λ mid k. then_many g k s.end ms how r none inv)) call offer r
+        (λ m how r p are few none inv q shown.
+        behind_offers (Send m how) q p shown (m ∷ []) how are few (λ mid k. then_one g k s.end m how r none inv))
+        (λ ms how r p are few none inv q shown.
+        behind_offers (SendMany ms how) q p shown ms how are few (λ mid k. then_many g k s.end ms how r none inv)) call offer r
 
   -- ---- the receiver
 
@@ -246,6 +234,7 @@ module _ (message : ℕ → Message) (lifecycle : ℕ → Option ℕ) (is_interl
       windows = p.windows;
       few = p.few;
       short = p.short;
+      soon = p.soon;
       receives = data_of_none message is_interleaved call (first_out g.beside) x p.receives;
     }
 
@@ -261,7 +250,7 @@ module _ (message : ℕ → Message) (lifecycle : ℕ → Option ℕ) (is_interl
           stay = c.stay;
           shown = c.shown;
           performed = λ k. performed_so k (z.rules.performed k) (x.rules.performed k) before emitted (offers_resets ms how (shown_state (state_of s)) s.end.endpoint_state.context) (c.performed k);
-          emitted = subst (λ (ps : List Carried). All (λ (p : Carried). All (SaysIn (first_in (state_of s)) (transfer_of x).acknowledged (count (transfer_of x).sender) z) p.chunks) ps)
+          emitted = subst (λ (ps : List Carried). All (λ (p : Carried). All (SaysIn (first_in (state_of s)) (transfer_of x).acknowledged z) p.chunks) ps)
               (sym (offers_packets ms how (shown_state (state_of s)) s.end.endpoint_state.context)) c.emitted;
           made = c.made;
         }

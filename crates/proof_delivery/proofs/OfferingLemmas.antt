@@ -16,11 +16,11 @@ use Rattle.proof_protocol.specs.Invariant.{Invariant}
 use Rattle.proof_protocol.specs.Resets.{transfers, goes}
 use Rattle.proof_protocol.proofs.BasedLemmas.{keeps_epochs}
 use Rattle.proof_protocol.proofs.ToolsLemmas.{put_at, put_off}
-use Rattle.proof_tx_refines.specs.Reachable.{recorded_places, delivered_ids}
-use Rattle.proof_tx_refines.specs.Rows.{offered_entry}
-use Rattle.proof_tx_refines.proofs.AcceptLemmas.{accept_row}
-use Rattle.proof_tx_refines.proofs.AskedLemmas.{calls_keep_asked}
-use Rattle.proof_tx_refines.proofs.FollowLemmas.{beginning_follows, accepting_follows}
+use Rattle.proof_refines.specs.Reachable.{recorded_places, delivered_ids}
+use Rattle.proof_refines.specs.Rows.{offered_entry}
+use Rattle.proof_refines.proofs.AcceptLemmas.{accept_row}
+use Rattle.proof_refines.proofs.AskedLemmas.{calls_keep_asked}
+use Rattle.proof_refines.proofs.FollowLemmas.{beginning_follows, accepting_follows}
 use Rattle.spec_endpoint.specs.Association.{State, Closed, CookieWait, Open, Context}
 use Rattle.spec_endpoint.specs.Calls.{shown_state, send_refusal, queue_entry, offer, offer_all}
 use Rattle.spec_endpoint.specs.Calls as calls

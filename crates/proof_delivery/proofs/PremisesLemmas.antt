@@ -1,5 +1,5 @@
 -- What an action begins with: the claim that nothing is done yet, and what is received, of packets that are under way.
-use Rattle.std.proofs.Common.{◌≡◌, ℕ, ◌+◌, ◌-◌, ◌^◌, ◌<◌, ◌≤◌, Bool, Option, Some, inl, inr, List, [], ◌∷◌, length, map, slice_get, All, refl, sym, ap, subst, ◌∙◌, arith}
+use Rattle.std.proofs.Common.{◌≡◌, ℕ, ◌+◌, ◌*◌, ◌-◌, ◌^◌, ◌<◌, ◌≤◌, Bool, Option, Some, inl, inr, List, [], ◌∷◌, length, map, slice_get, All, refl, sym, ap, subst, ◌∙◌, arith}
 use Rattle.std.specs.Prelude.{option_map}
 use Rattle.std.proofs.lemmas.Bool.{cases_lt}
 use Rattle.std.proofs.lemmas.List.Elements.{All-nil, All-cons, All-head, All-tail}
@@ -16,7 +16,7 @@ use Rattle.proof_protocol.specs.Based.{EpochWindows}
 use Rattle.sctp_tx_queue.specs.SendQueue.{Queue}
 use Rattle.spec_endpoint.specs.Association.{State, Closed, CookieWait, Open}
 use Rattle.spec_endpoint.specs.ResetRequests.{Request}
-use Rattle.proof_tx_refines.specs.Reachable.{recorded_places, delivered_ids}
+use Rattle.proof_refines.specs.Reachable.{recorded_places, delivered_ids}
 use Rattle.spec_endpoint.specs.Laws.{Call, ReceivePacket}
 use Rattle.proof_endpoint.specs.Mapped.{Carried}
 use Rattle.proof_endpoint.specs.Acts.{calm, BringsChunk}
@@ -27,8 +27,8 @@ use Rattle.proof_delivery.specs.Answered.{waiting_number, IsAnswered, performed_
 use Rattle.proof_delivery.specs.Asks.{ResetRequest, number_of}
 use Rattle.proof_delivery.specs.StreamEpochs.{shut_streams, reopen, performed_of, resets_emitted, failed_in}
 use Rattle.proof_delivery.specs.Windows.{Stamp, IsWithin, queue_of}
-use Rattle.proof_delivery.proofs.ClaimLemmas.{Direction, transfer_of, goes_out, goes_in, SaysOut, SaysIn, first_out, first_in, WasSaid, AreSo, SendsIn, SenderClaim, ReceiverClaim, ReceivesSacks, ReceivesData, SenderPremises, ReceiverPremises}
-use Rattle.proof_delivery.proofs.SenderToolLemmas.{goes_none, reports_none, IsNear}
+use Rattle.proof_delivery.proofs.ClaimLemmas.{Direction, transfer_of, goes_out, goes_in, SaysOut, SaysIn, first_out, first_in, WasSaid, AreSo, SendsIn, SenderClaim, ReceiverClaim, ReceivesSacks, ReceivesData, AsksSoon, SenderPremises, ReceiverPremises}
+use Rattle.proof_delivery.proofs.SenderToolLemmas.{goes_none, reports_none}
 use Rattle.proof_delivery.proofs.WithinLemmas.{numbered_is, Holds, within}
 use Rattle.proof_delivery.proofs.FilledLemmas.{short_index}
 use Rattle.proof_delivery.proofs.DirectionLemmas.{IsUnderWay, says_out, says_in, Stands, none_stands, same_out, SoFar, Flows, IsSilent}
@@ -64,43 +64,35 @@ module _ (message : ℕ → Message) (is_interleaved : Bool) (first : ℕ) (x : 
   pub receives_no_sacks : (call : Call) → IsNoPacket call → EpochWindows message x.rules → ReceivesSacks call first x
   receives_no_sacks call not w = record {
     least = (transfer_of x).acknowledged;
-    most = count (transfer_of x).sender;
     past = omega arith;
     near = in_window message x w;
-    young = omega arith;
+    young = let n = in_window message x w in omega (arith, n);
     says = λ tag chunk h. absurd (not h.packet h.given);
   }
 
   pub receives_no_data : (call : Call) → IsNoPacket call → EpochWindows message x.rules → ReceivesData message is_interleaved call first x
   receives_no_data call not w = record {
     least = (transfer_of x).acknowledged;
-    most = count (transfer_of x).sender;
-    near = in_window message x w;
-    below = omega arith;
-    young = omega arith;
+    young = let n = in_window message x w in omega (arith, n);
     says = λ tag chunk h. absurd (not h.packet h.given);
   }
 
-  pub receives_sacks : (most : ℕ) (p : Carried) (checksum : ℕ) → IsUnderWay (says_in message is_interleaved first) x most p → count (transfer_of x).sender < most + 2 ^ 30
-      → ReceivesSacks (ReceivePacket (as_received p checksum)) first x
-  receives_sacks most p checksum u young = record {
-    least = u.least;
-    most = most;
+  pub receives_sacks : (least : ℕ) (p : Carried) (checksum : ℕ) → IsUnderWay (says_in message is_interleaved first) x least p → EpochWindows message x.rules
+      → count (transfer_of x).sender < least + 2 ^ 31 → ReceivesSacks (ReceivePacket (as_received p checksum)) first x
+  receives_sacks least p checksum u w young = record {
+    least = least;
     past = u.past;
-    near = u.near;
+    near = in_window message x w;
     young = young;
-    says = received_was_said (SaysIn first u.least most x) p checksum u.says;
+    says = received_was_said (SaysIn first least x) p checksum u.says;
   }
 
-  pub receives_data : (most : ℕ) (p : Carried) (checksum : ℕ) → IsUnderWay (says_out message is_interleaved first) x most p → count (transfer_of x).sender < most + 2 ^ 30
+  pub receives_data : (least : ℕ) (p : Carried) (checksum : ℕ) → IsUnderWay (says_out message is_interleaved first) x least p → count (transfer_of x).sender < least + 3 * 2 ^ 30
       → ReceivesData message is_interleaved (ReceivePacket (as_received p checksum)) first x
-  receives_data most p checksum u young = record {
-    least = u.least;
-    most = most;
-    near = u.near;
-    below = u.below;
+  receives_data least p checksum u young = record {
+    least = least;
     young = young;
-    says = received_was_said (SaysOut message is_interleaved first u.least most x) p checksum u.says;
+    says = received_was_said (SaysOut message is_interleaved first least x) p checksum u.says;
   }
 
 -- ---- an own request that waits
@@ -138,10 +130,6 @@ module _ (message : ℕ → Message) (lifecycle : ℕ → Option ℕ) (is_interl
   waits_again (Open phase t) (CookieWait tag first t1) q r x y a h k f there = absurd (none_stands (f _ refl))
   waits_again (Open phase t) (Open next u) q r x y a h k f there = same_out message lifecycle is_interleaved phase t next u q r x y h k f
 
--- it goes out soon
-abbrev pub AsksSoon : Direction → Type 0
-AsksSoon x = IsNear x x
-
 -- ---- both ends
 
 module _ (message : ℕ → Message) (lifecycle : ℕ → Option ℕ) (is_interleaved : Bool) (of : Stamp → ℕ) (own other : Options) (s r : Side)
@@ -177,9 +165,9 @@ module _ (message : ℕ → Message) (lifecycle : ℕ → Option ℕ) (is_interl
   }
 
   pub receiver_premises : (asked : Bool) (call : Call) → AreValidOptions other → is_interleaved ≡ (agreed other own).message_interleaving → performed_in s.emitted < 2 ^ 32 - 1
-      → Holds message lifecycle is_interleaved x (queue_of s) f.kept → ReceivesData message is_interleaved call (first_out (state_of s)) x
+      → IsAnswered (state_of s) so_far.asked → Holds message lifecycle is_interleaved x (queue_of s) f.kept → ReceivesData message is_interleaved call (first_out (state_of s)) x
       → ReceiverPremises message lifecycle is_interleaved (setting other own r s asked) call x
-  receiver_premises asked call given mode few holds receives = record {
+  receiver_premises asked call given mode few soon holds receives = record {
     kept = f.kept;
     own = given;
     mode = mode;
@@ -189,24 +177,24 @@ module _ (message : ℕ → Message) (lifecycle : ℕ → Option ℕ) (is_interl
     windows = holds.windows;
     few = holds.few;
     short = short_index message (2 ^ 32) (transfer_of x).sender f.filled (λ t below. f.short (place_of (transfer_of x).sender t));
+    soon = asks_soon soon;
     receives = receives;
   }
 
   -- nothing is done yet
-  pub begins_out : IsSilent s → IsAnswered (state_of s) so_far.asked → SenderClaim message lifecycle is_interleaved x [] (calm s.end) x
-  begins_out q soon = record {
+  pub begins_out : IsSilent s → SenderClaim message lifecycle is_interleaved x [] (calm s.end) x
+  begins_out q = record {
     kept = f.kept;
     goes = goes_none message is_interleaved goes_out x;
     done = refl;
     shown = f.sends;
-    near = asks_soon soon;
     since = λ a there. inl there;
     given_up = ap (λ (t : Emitted Carried). recorded_places t) q.emitted;
     reported = reports_none lifecycle (transfer_of x) (transfer_of x) [] s.end.endpoint_state.context.emitted.events refl (ap (λ (t : Emitted Carried). delivered_ids t.events) q.emitted);
     performed = let none = ap (λ (t : Emitted Carried). performed_in t.events) q.emitted in omega (arith, none);
     epochs = λ g so. subst (λ (t : Emitted Carried). AreSo (reopen (performed_of t.events) (shut_streams [] g)) x.rules) (sym q.emitted) so;
     none_failed = ap (λ (t : Emitted Carried). failed_in t.events) q.emitted;
-    emitted = subst (λ (t : Emitted Carried). All (λ (p : Carried). All (SaysOut message is_interleaved (first_out (state_of s)) (transfer_of x).acknowledged (count (transfer_of x).sender) x) p.chunks) (packets_in t.events))
+    emitted = subst (λ (t : Emitted Carried). All (λ (p : Carried). All (SaysOut message is_interleaved (first_out (state_of s)) (transfer_of x).acknowledged x) p.chunks) (packets_in t.events))
         (sym q.emitted) (All-nil _);
     made = All-nil _;
   }
@@ -218,7 +206,7 @@ module _ (message : ℕ → Message) (lifecycle : ℕ → Option ℕ) (is_interl
     stay = (refl, refl);
     shown = f.refines;
     performed = λ k. let none = ap (λ (t : Emitted Carried). resets_emitted k t.events) q.emitted in omega (arith, none);
-    emitted = subst (λ (t : Emitted Carried). All (λ (p : Carried). All (SaysIn (first_in (state_of r)) (transfer_of x).acknowledged (count (transfer_of x).sender) x) p.chunks) (packets_in t.events))
+    emitted = subst (λ (t : Emitted Carried). All (λ (p : Carried). All (SaysIn (first_in (state_of r)) (transfer_of x).acknowledged x) p.chunks) (packets_in t.events))
         (sym q.emitted) (All-nil _);
     made = All-nil _;
   }

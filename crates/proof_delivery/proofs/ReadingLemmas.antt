@@ -1,10 +1,10 @@
 -- What an end receives of the other as sender is read as it was meant: fragments, forward points, and the last TSNs of requests.
-use Rattle.std.proofs.Common.{◌≡◌, ℕ, suc, ◌+◌, ◌-◌, ◌%◌, ◌^◌, ◌<◌, ◌≤◌, max, Bool, true, false, cond, inl, inr, List, [], ◌∷◌, map, All, leb, ◌||◌, refl, sym, ap, ◌∙◌, subst, arith}
-use Rattle.std.specs.Prelude.{not}
-use Rattle.std.proofs.lemmas.Bool.{cond-true, cond-false, cases_lt}
+use Rattle.std.proofs.Common.{◌≡◌, ℕ, suc, ◌+◌, ◌*◌, ◌-◌, ◌%◌, ◌^◌, ◌<◌, ◌≤◌, Bool, true, false, cond, inl, inr, List, [], ◌∷◌, map, All, leb, ltb, ◌||◌, refl, sym, ap, ◌∙◌, subst, arith}
+use Rattle.std.specs.Prelude.{not, nat_le, nat_lt, ◌&&◌}
+use Rattle.std.proofs.lemmas.Bool.{cond-true, cond-false, cases_lt, and_parts, lt-ltb, le-ltb, leb-true}
 use Rattle.std.proofs.lemmas.Bool.Decides.{nat_tests}
 use Rattle.sctp_serial.specs.Messages as messages
-use Rattle.sctp_serial.specs.Unwrapped.{origin, u32_space, halves, wire}
+use Rattle.sctp_serial.specs.Unwrapped.{origin, u32_space, halves, wire, nearest}
 use Rattle.sctp_serial.specs.declared.types.StreamKey.TheVariants.{Ordered, Unordered}
 use Rattle.sctp_wire.specs.Parameter.{ParameterTree}
 use Rattle.sctp_packet.specs.Chunk.{ChunkTree, FragmentTree, data_chunk, idata_chunk, re_config_chunk, forward_tsn_chunk, i_forward_tsn_chunk}
@@ -16,20 +16,20 @@ use Rattle.sctp_rx.specs.DataTracker as tracker
 use Rattle.sctp_rx.specs.Seen.{in_runs}
 use Rattle.sctp_rx.specs.DataTracker.{DataTracker, Tracker, IsTracker}
 use Rattle.sctp_rx.specs.ReassemblyQueue.{Reassembly}
-use Rattle.sctp_tracker.proofs.SeenRunsLemmas.{next_is_new}
+use Rattle.sctp_rx.proofs.SeenRunsLemmas.{next_is_new}
 use Rattle.proof_protocol.specs.State.{Message, Entry, ForwardPoint, Transfer, IsAmong, fragment, place_of, count, ordered_of}
 use Rattle.proof_protocol.specs.Rules.{covers}
 use Rattle.proof_protocol.specs.Invariant.{Invariant}
 use Rattle.proof_protocol.specs.Points.{AreApart}
 use Rattle.proof_protocol.proofs.ToolsLemmas.{not_both, among_covers}
 use Rattle.proof_protocol.proofs.WindowsLemmas.{front_window}
-use Rattle.proof_tx_refines.specs.Refinement.{tree_of}
-use Rattle.proof_tx_refines.specs.Points.{skip_of, chunk_of}
-use Rattle.proof_rx_refines.specs.View.{was_seen}
-use Rattle.proof_rx_refines.specs.Read.{Carries}
-use Rattle.proof_rx_refines.specs.Refinement.{ReceiverRefines}
-use Rattle.proof_rx_refines.specs.Near.{IsWritten, IsEntry, AreEntries, IsInWindow}
-use Rattle.proof_rx_refines.proofs.NearTsnLemmas.{tracker_reads, words_near}
+use Rattle.proof_refines.specs.SenderRefinement.{tree_of}
+use Rattle.proof_refines.specs.Points.{skip_of, chunk_of}
+use Rattle.proof_refines.specs.View.{was_seen}
+use Rattle.proof_refines.specs.Read.{Carries}
+use Rattle.proof_refines.specs.ReceiverRefinement.{ReceiverRefines}
+use Rattle.proof_refines.specs.Near.{IsWritten, IsEntry, AreEntries, IsInWindow}
+use Rattle.proof_refines.proofs.NearTsnLemmas.{words_near}
 use Rattle.proof_delivery.specs.Asks.{SaysOutgoing}
 use Rattle.proof_delivery.proofs.ClaimLemmas.{Direction, transfer_of, SaysData, SaysPoint, SaysOut, WasSaid, AreShort}
 
@@ -51,7 +51,7 @@ plain_part f = record f { mid = 0; fsn = 0 }
 abbrev interleaved_part : FragmentTree → FragmentTree
 interleaved_part f = record f { ssn = 0; ppid = cond f.is_beginning f.ppid 0; fsn = cond f.is_beginning 0 f.fsn }
 
-module _ (message : ℕ → Message) (is_interleaved : Bool) (d : Direction) (first least most : ℕ) where
+module _ (message : ℕ → Message) (is_interleaved : Bool) (d : Direction) (first least : ℕ) where
   abbrev x : Transfer
   x = transfer_of d
 
@@ -120,7 +120,7 @@ module _ (message : ℕ → Message) (is_interleaved : Bool) (d : Direction) (fi
         }
 
   said_plain : (tsn : ℕ) (is_immediate : Bool) (f : FragmentTree) (said : ChunkTree) → data_chunk tsn is_immediate f ≡ carried said
-      → SaysOut message is_interleaved first least most d said → DataSaid message is_interleaved first least x tsn f
+      → SaysOut message is_interleaved first least d said → DataSaid message is_interleaved first least x tsn f
   said_plain tsn is_immediate f (data_chunk other more g) e h =
       subst (λ n. DataSaid message is_interleaved first least x n f) (tsn_same e) (plain_said other f g h.1 (part_same e) h.0)
     where
@@ -132,7 +132,7 @@ module _ (message : ℕ → Message) (is_interleaved : Bool) (d : Direction) (fi
   said_plain tsn is_immediate f said e h = cc
 
   said_interleaved : AreShort x.sender → (tsn : ℕ) (is_immediate : Bool) (f : FragmentTree) (said : ChunkTree)
-      → idata_chunk tsn is_immediate f ≡ carried said → SaysOut message is_interleaved first least most d said → DataSaid message is_interleaved first least x tsn f
+      → idata_chunk tsn is_immediate f ≡ carried said → SaysOut message is_interleaved first least d said → DataSaid message is_interleaved first least x tsn f
   said_interleaved short tsn is_immediate f (idata_chunk other more g) e h =
       subst (λ n. DataSaid message is_interleaved first least x n f) (tsn_same e) (interleaved_said short other f g h.1 (part_same e) h.0)
     where
@@ -144,23 +144,23 @@ module _ (message : ℕ → Message) (is_interleaved : Bool) (d : Direction) (fi
   said_interleaved short tsn is_immediate f said e h = cc
 
   plain_mode : (tsn : ℕ) (is_immediate : Bool) (f : FragmentTree) (said : ChunkTree) → data_chunk tsn is_immediate f ≡ carried said
-      → SaysOut message is_interleaved first least most d said → is_interleaved ≡ false
+      → SaysOut message is_interleaved first least d said → is_interleaved ≡ false
   plain_mode tsn is_immediate f (data_chunk other more g) e h = h.0
   plain_mode tsn is_immediate f said e h = cc
 
   interleaved_mode : (tsn : ℕ) (is_immediate : Bool) (f : FragmentTree) (said : ChunkTree) → idata_chunk tsn is_immediate f ≡ carried said
-      → SaysOut message is_interleaved first least most d said → is_interleaved ≡ true
+      → SaysOut message is_interleaved first least d said → is_interleaved ≡ true
   interleaved_mode tsn is_immediate f (idata_chunk other more g) e h = h.0
   interleaved_mode tsn is_immediate f said e h = cc
 
   -- DATA is received of a sender without interleaving, I-DATA of one with it
-  pub data_was_said : (tsn : ℕ) (is_immediate : Bool) (f : FragmentTree) → WasSaid (SaysOut message is_interleaved first least most d) (data_chunk tsn is_immediate f)
+  pub data_was_said : (tsn : ℕ) (is_immediate : Bool) (f : FragmentTree) → WasSaid (SaysOut message is_interleaved first least d) (data_chunk tsn is_immediate f)
       → (is_interleaved ≡ false) × DataSaid message is_interleaved first least x tsn f
   data_was_said tsn is_immediate f h =
       (plain_mode tsn is_immediate f h.said h.is h.says, said_plain tsn is_immediate f h.said h.is h.says)
 
   pub idata_was_said : AreShort x.sender → (tsn : ℕ) (is_immediate : Bool) (f : FragmentTree)
-      → WasSaid (SaysOut message is_interleaved first least most d) (idata_chunk tsn is_immediate f) → (is_interleaved ≡ true) × DataSaid message is_interleaved first least x tsn f
+      → WasSaid (SaysOut message is_interleaved first least d) (idata_chunk tsn is_immediate f) → (is_interleaved ≡ true) × DataSaid message is_interleaved first least x tsn f
   idata_was_said short tsn is_immediate f h =
       let both : is_interleaved ≡ true = interleaved_mode tsn is_immediate f h.said h.is h.says in
       (both, said_interleaved short tsn is_immediate f h.said h.is h.says)
@@ -222,7 +222,7 @@ module _ (first : ℕ) (tsn : ℕ) (skipped : List SkippedStream) (f : ForwardPo
       skipped_same : i_forward_tsn_chunk tsn skipped ≡ chunk_of true first f → skipped ≡ map mid_skip (map (skip_of true) f.entries)
       skipped_same e = cc
 
-module _ (message : ℕ → Message) (is_interleaved : Bool) (d : Direction) (kept : Invariant message is_interleaved (transfer_of d)) (first least most : ℕ) where
+module _ (message : ℕ → Message) (is_interleaved : Bool) (d : Direction) (kept : Invariant message is_interleaved (transfer_of d)) (first least : ℕ) where
   -- without interleaving each entry is of an ordered stream
   are_ordered : is_interleaved ≡ false → (f : ForwardPoint) → IsAmong f (transfer_of d).forward_points → (e : Entry) → IsAmong e f.entries → e.ordered ≡ true
   are_ordered plain f sent e a = go e.ordered refl
@@ -269,20 +269,20 @@ module _ (message : ℕ → Message) (is_interleaved : Bool) (d : Direction) (ke
       (c.0, point_said tsn skipped h.point h.sent h.apart h.ahead c.1 written)
 
   -- a point is received as it was sent
-  pub point_was_said : (tsn : ℕ) (skipped : List SkippedStream) → WasSaid (SaysOut message is_interleaved first least most d) (forward_tsn_chunk tsn skipped)
+  pub point_was_said : (tsn : ℕ) (skipped : List SkippedStream) → WasSaid (SaysOut message is_interleaved first least d) (forward_tsn_chunk tsn skipped)
       → (is_interleaved ≡ false) × PointSaid is_interleaved first least (transfer_of d) tsn skipped
   point_was_said tsn skipped h = go h.said h.is h.says
     where
-      go : (said : ChunkTree) → forward_tsn_chunk tsn skipped ≡ carried said → SaysOut message is_interleaved first least most d said
+      go : (said : ChunkTree) → forward_tsn_chunk tsn skipped ≡ carried said → SaysOut message is_interleaved first least d said
           → (is_interleaved ≡ false) × PointSaid is_interleaved first least (transfer_of d) tsn skipped
       go (forward_tsn_chunk other more) e s = plain_point tsn skipped (subst (λ (c : ChunkTree). SaysPoint is_interleaved first least (transfer_of d) c) (sym e) s)
       go said e s = cc
 
-  pub ipoint_was_said : (tsn : ℕ) (skipped : List SkippedStream) → WasSaid (SaysOut message is_interleaved first least most d) (i_forward_tsn_chunk tsn skipped)
+  pub ipoint_was_said : (tsn : ℕ) (skipped : List SkippedStream) → WasSaid (SaysOut message is_interleaved first least d) (i_forward_tsn_chunk tsn skipped)
       → (is_interleaved ≡ true) × PointSaid is_interleaved first least (transfer_of d) tsn skipped
   ipoint_was_said tsn skipped h = go h.said h.is h.says
     where
-      go : (said : ChunkTree) → i_forward_tsn_chunk tsn skipped ≡ carried said → SaysOut message is_interleaved first least most d said
+      go : (said : ChunkTree) → i_forward_tsn_chunk tsn skipped ≡ carried said → SaysOut message is_interleaved first least d said
           → (is_interleaved ≡ true) × PointSaid is_interleaved first least (transfer_of d) tsn skipped
       go (i_forward_tsn_chunk other more) e s = interleaved_point tsn skipped (subst (λ (c : ChunkTree). SaysPoint is_interleaved first least (transfer_of d) c) (sym e) s)
       go said e s = cc
@@ -290,12 +290,12 @@ module _ (message : ℕ → Message) (is_interleaved : Bool) (d : Direction) (ke
 -- ---- requests and answers
 
 -- each parameter was said
-pub parameters_were_said : (message : ℕ → Message) (is_interleaved : Bool) (d : Direction) (first least most : ℕ) (ps : List ParameterTree)
-    → WasSaid (SaysOut message is_interleaved first least most d) (re_config_chunk ps) → All (SaysOutgoing first most d.asks) ps
-parameters_were_said message is_interleaved d first least most ps h = go h.said h.is h.says
+pub parameters_were_said : (message : ℕ → Message) (is_interleaved : Bool) (d : Direction) (first least : ℕ) (ps : List ParameterTree)
+    → WasSaid (SaysOut message is_interleaved first least d) (re_config_chunk ps) → All (SaysOutgoing first d.asks) ps
+parameters_were_said message is_interleaved d first least ps h = go h.said h.is h.says
   where
-    go : (said : ChunkTree) → re_config_chunk ps ≡ carried said → SaysOut message is_interleaved first least most d said → All (SaysOutgoing first most d.asks) ps
-    go (re_config_chunk qs) e s = subst (λ (z : List ParameterTree). All (SaysOutgoing first most d.asks) z) (sym (same e)) s
+    go : (said : ChunkTree) → re_config_chunk ps ≡ carried said → SaysOut message is_interleaved first least d said → All (SaysOutgoing first d.asks) ps
+    go (re_config_chunk qs) e s = subst (λ (z : List ParameterTree). All (SaysOutgoing first d.asks) z) (sym (same e)) s
       where
         same : re_config_chunk ps ≡ re_config_chunk qs → ps ≡ qs
         same e = cc
@@ -331,22 +331,54 @@ module _ (message : ℕ → Message) (is_interleaved : Bool) (base : Bool → �
 
 -- ---- numbers as the tracker reads them
 
--- the tracker reads the number that was written, in a packet that is not older than 2^30 fragments
-pub number_is_read : (message : ℕ → Message) (is_interleaved : Bool) (base : Bool → ℕ → ℕ) (shift : ℕ) (x : Transfer) (handed : List messages.Message) (d : DataTracker) (r : Reassembly) (k least most tsn : ℕ)
-    → Invariant message is_interleaved x → IsInWindow x → ReceiverRefines message is_interleaved base shift x handed d.tracker r → IsTracker d.tracker → k < count x.sender → least ≤ k
-    → most ≤ least + 2 ^ 30 → most ≤ count x.sender → count x.sender < most + 2 ^ 30 → tsn ≡ wire u32_space d.first (origin + k)
-    → tracker.number_of d tsn ≡ origin + k
-number_is_read message is_interleaved base shift x handed d r k least most tsn kept window receives is_tracker below from near past young tsn_is =
-    let n : ℕ = max most (suc k) in
-    ap (λ (w : ℕ). tracker.number_of d w) tsn_is
-    ∙ tracker_reads message is_interleaved base shift x handed d r k n kept window receives is_tracker (omega arith) (omega (arith, from, near)) (omega (arith, below, past), omega (arith, young))
+far_over : (m near more n : ℕ) → m ≤ near + 100000 → m ≡ near + more → near + more ≡ n + 2 ^ 32 → near ≤ n + 3 * 2 ^ 30 → ⊥
+far_over m near more n valid read e past = omega (arith, valid, read, e, past)
 
--- and the last TSN of a request that goes out before 2^30 fragments more are numbered: where it is the one before the first, too
-pub last_is_read : (message : ℕ → Message) (is_interleaved : Bool) (base : Bool → ℕ → ℕ) (shift : ℕ) (x : Transfer) (handed : List messages.Message) (d : DataTracker) (r : Reassembly) (upto most tsn : ℕ)
+-- a number that lies behind, and is read as one that is valid, is read as it was meant
+words_valid : (first near n : ℕ) → near ≤ n + 3 * 2 ^ 30 → n < near + 2 ^ 31 → 2 ^ 31 ≤ near → nearest (2 ^ 32) first near (wire (2 ^ 32) first n) ≤ near + 100000
+    → nearest (2 ^ 32) first near (wire (2 ^ 32) first n) ≡ n
+words_valid first near n past ahead far valid = elim (cases_lt near (n + 2 ^ 31)) [ inl l ↦ words_near first near n (l, ahead) far | inr behind ↦ go behind ]
+  where
+    go : n + 2 ^ 31 ≤ near → nearest (2 ^ 32) first near (wire (2 ^ 32) first n) ≡ n
+    go behind =
+        let more = (wire (2 ^ 32) first n + 2 ^ 32 - wire (2 ^ 32) first near) % 2 ^ 32 in
+        elim (cases_lt more (2 ^ 31)) [
+          | inl p ↦
+              let e : near + more ≡ n + 2 ^ 32 = omega (arith, past, behind, far, p) in
+              absurd (far_over (nearest (2 ^ 32) first near (wire (2 ^ 32) first n)) near more n valid (cond-true (ltb more (2 ^ 31)) (near + more) ((near + more) - 2 ^ 32) (lt-ltb more (2 ^ 31) p)) e past)
+          | inr p ↦
+              let e : (near + more) - 2 ^ 32 ≡ n = omega (arith, past, behind, far, p) in
+              cond-false (ltb more (2 ^ 31)) (near + more) ((near + more) - 2 ^ 32) (le-ltb more (2 ^ 31) p) ∙ e
+        ]
+
+-- where fewer than 3 * 2^30 are numbered from there on, a number that the tracker takes for valid is the one that was written
+pub number_is_read : (message : ℕ → Message) (is_interleaved : Bool) (base : Bool → ℕ → ℕ) (shift : ℕ) (x : Transfer) (handed : List messages.Message) (d : DataTracker) (r : Reassembly) (k tsn : ℕ)
+    → Invariant message is_interleaved x → IsInWindow x → ReceiverRefines message is_interleaved base shift x handed d.tracker r → IsTracker d.tracker → k < count x.sender
+    → count x.sender < k + 3 * 2 ^ 30 → tsn ≡ wire u32_space d.first (origin + k) → tracker.is_valid d.tracker (tracker.number_of d tsn) ≡ true → tracker.number_of d tsn ≡ origin + k
+number_is_read message is_interleaved base shift x handed d r k tsn kept window receives is_tracker below young tsn_is valid =
+    let f : ℕ = front_of d.tracker in
+    let m : ℕ = tracker.number_of d tsn in
+    let front : ℕ = d.tracker.seen.front in
+    let e : origin + f ≡ suc front = front_at message is_interleaved base shift x kept handed d.tracker r receives is_tracker in
+    let w = front_between message is_interleaved base shift x kept handed d.tracker r receives is_tracker in
+    let lo = w.0 in
+    let hi = w.1 in
+    let ahead : k < f + 2 ^ 30 =
+    elim (cases_lt x.acknowledged (count x.sender)) [
+      | inl l ↦ let i = window l in omega (arith, below, lo, i)
+      | inr h ↦ omega (arith, below, lo, h)
+    ] in
+    let near = and_parts (nat_le front (m + tracker.window)) (nat_le m (front + tracker.window) && nat_lt m (d.tracker.begin + tracker.bound)) valid in
+    let upper = leb-true m (front + tracker.window) (and_parts (nat_le m (front + tracker.window)) (nat_lt m (d.tracker.begin + tracker.bound)) near.1).0 in
+    ap (λ (w : ℕ). tracker.number_of d w) tsn_is
+    ∙ words_valid d.first front (origin + k) (omega (arith, e, hi, young)) (omega (arith, e, ahead)) (omega (arith, e)) (subst (λ (w : ℕ). tracker.number_of d w ≤ front + tracker.window) tsn_is upper)
+
+-- it reads the last TSN of a request: where it is the one before the first, too
+pub last_is_read : (message : ℕ → Message) (is_interleaved : Bool) (base : Bool → ℕ → ℕ) (shift : ℕ) (x : Transfer) (handed : List messages.Message) (d : DataTracker) (r : Reassembly) (upto tsn : ℕ)
     → Invariant message is_interleaved x → IsInWindow x → ReceiverRefines message is_interleaved base shift x handed d.tracker r → IsTracker d.tracker → upto ≤ count x.sender
-    → most < upto + 2 ^ 30 → count x.sender < most + 2 ^ 30 → tsn ≡ wire u32_space d.first (origin + upto - 1)
+    → count x.sender < upto + 2 ^ 31 → tsn ≡ wire u32_space d.first (origin + upto - 1)
     → suc (tracker.number_of d tsn) ≡ origin + upto
-last_is_read message is_interleaved base shift x handed d r upto most tsn kept window receives is_tracker within near young tsn_is =
+last_is_read message is_interleaved base shift x handed d r upto tsn kept window receives is_tracker within soon tsn_is =
     let f : ℕ = front_of d.tracker in
     let e : origin + f ≡ suc d.tracker.seen.front = front_at message is_interleaved base shift x kept handed d.tracker r receives is_tracker in
     let w = front_between message is_interleaved base shift x kept handed d.tracker r receives is_tracker in
@@ -359,5 +391,5 @@ last_is_read message is_interleaved base shift x handed d r upto most tsn kept w
     ] in
     let n : ℕ = origin + upto - 1 in
     let read : tracker.number_of d tsn ≡ n =
-    ap (λ (w : ℕ). tracker.number_of d w) tsn_is ∙ words_near d.first d.tracker.seen.front n (omega (arith, e, hi, near, young), omega (arith, e, ahead)) (omega (arith, e)) in
+    ap (λ (w : ℕ). tracker.number_of d w) tsn_is ∙ words_near d.first d.tracker.seen.front n (omega (arith, e, hi, soon), omega (arith, e, ahead)) (omega (arith, e)) in
     omega (arith, read)

@@ -22,16 +22,16 @@ use Rattle.proof_pair.proofs.JoinActsLemmas.{Setting, InvAt}
 use Rattle.proof_pair.proofs.JoinLemmas.{Draw, view_of, own_draw, Faces}
 use Rattle.proof_delivery.specs.Asks.{SaysDone, SaysIncoming}
 use Rattle.proof_delivery.proofs.ClaimLemmas.{Direction, transfer_of, IsKept, SaysSack, SaysIn, WasSaid, IsFresh, IsSending, ReceivesIn, first_in, SenderPremises}
-use Rattle.proof_rx_refines.proofs.NearTsnLemmas.{words_near}
+use Rattle.proof_refines.proofs.NearTsnLemmas.{words_near}
 
 -- ---- the point of a SACK
 
 -- it was sent
-pub sack_was_said : (first least most : ℕ) (x : Direction) (k : SackTree) → WasSaid (SaysIn first least most x) (sack_chunk k) → SaysSack first least most (transfer_of x) k
-sack_was_said first least most x k h = go h.said h.is h.says
+pub sack_was_said : (first least : ℕ) (x : Direction) (k : SackTree) → WasSaid (SaysIn first least x) (sack_chunk k) → SaysSack first least (transfer_of x) k
+sack_was_said first least x k h = go h.said h.is h.says
   where
-    go : (said : ChunkTree) → sack_chunk k ≡ carried said → SaysIn first least most x said → SaysSack first least most (transfer_of x) k
-    go (sack_chunk other) e s = subst (SaysSack first least most (transfer_of x)) (same e) s
+    go : (said : ChunkTree) → sack_chunk k ≡ carried said → SaysIn first least x said → SaysSack first least (transfer_of x) k
+    go (sack_chunk other) e s = subst (SaysSack first least (transfer_of x)) (same e) s
       where
         same : sack_chunk k ≡ sack_chunk other → other ≡ k
         same e = cc
@@ -59,24 +59,31 @@ module _ (message : ℕ → Message) (is_interleaved : Bool) (from x : Transfer)
     | inr g ↦ g
   ]
 
-  pub sack_is_read : (first least most : ℕ) (d : Outstanding) (k : SackTree) → d.first ≡ first → d.items.acked + 1 ≡ origin + x.acknowledged → from.acknowledged ≤ x.acknowledged
-      → least ≤ from.acknowledged → most ≤ least + 2 ^ 30 → count from.sender < most + 2 ^ 30
-      → (s : SaysSack first least most from k) → number_of d k.cumulative_tsn_ack + 1 ≡ origin + s.point
-  sack_is_read first least most d k first_is point grows past near young s =
+  -- nor what was acknowledged
+  sent_were_numbered : (c : ℕ) → IsAmong c from.sacks → c ≤ count from.sender
+  sent_were_numbered c sent = elim (cases_lt (count from.sender) c) [
+    | inl l ↦ let below = before.incoming.seen_below (count from.sender) ((before.sacks_true c sent).all_seen (count from.sender) l) in absurd (omega (arith, below))
+    | inr g ↦ g
+  ]
+
+  pub sack_is_read : (first least : ℕ) (d : Outstanding) (k : SackTree) → d.first ≡ first → d.items.acked + 1 ≡ origin + x.acknowledged → from.acknowledged ≤ x.acknowledged
+      → count from.sender ≤ from.acknowledged + 2 ^ 30 → count from.sender < least + 2 ^ 31
+      → (s : SaysSack first least from k) → number_of d k.cumulative_tsn_ack + 1 ≡ origin + s.point
+  sack_is_read first least d k first_is point grows near young s =
       let left = left_were_numbered in
       let c : ℕ = s.point in
       let from_is : least ≤ c = s.from in
-      let to_is : c ≤ most = s.to in
+      let to_is = sent_were_numbered c s.sent in
       let tsn_is : k.cumulative_tsn_ack ≡ wire u32_space d.first (origin + c - 1) = s.written ∙ ap (λ (z : ℕ). wire u32_space z (origin + c - 1)) (sym first_is) in
-      sack_number d x.acknowledged c k.cumulative_tsn_ack point tsn_is (omega (arith, left, young, near, from_is)) (omega (arith, to_is, near, past, grows))
+      sack_number d x.acknowledged c k.cumulative_tsn_ack point tsn_is (omega (arith, left, young, from_is)) (omega (arith, to_is, near, grows))
 
 -- ---- answers
 
 -- what each answer of a RE-CONFIG says
-answers_were_said : (first least most : ℕ) (x : Direction) (ps : List ParameterTree) → WasSaid (SaysIn first least most x) (re_config_chunk ps) → All (SaysIncoming first x.done (length x.asks)) ps
-answers_were_said first least most x ps h = go h.said h.is h.says
+answers_were_said : (first least : ℕ) (x : Direction) (ps : List ParameterTree) → WasSaid (SaysIn first least x) (re_config_chunk ps) → All (SaysIncoming first x.done (length x.asks)) ps
+answers_were_said first least x ps h = go h.said h.is h.says
   where
-    go : (said : ChunkTree) → re_config_chunk ps ≡ carried said → SaysIn first least most x said → All (SaysIncoming first x.done (length x.asks)) ps
+    go : (said : ChunkTree) → re_config_chunk ps ≡ carried said → SaysIn first least x said → All (SaysIncoming first x.done (length x.asks)) ps
     go (re_config_chunk qs) e s = subst (All (SaysIncoming first x.done (length x.asks))) (same e) s
       where
         same : re_config_chunk ps ≡ re_config_chunk qs → qs ≡ ps
@@ -112,14 +119,14 @@ module _ (message : ℕ → Message) (lifecycle : ℕ → Option ℕ) (is_interl
       → (tag : ℕ) (k : SackTree) → BringsChunk call tag (sack_chunk k) → SackReceived (transfer_of x) t k
   sack_is_received q x kept shown receiver sacks grows tag k is_received =
       let h = premises.receives in
-      let said = sack_was_said (first_in g.beside) h.least h.most from k (h.says tag (sack_chunk k) is_received) in
-      let s : SaysSack t.identity.my_first h.least h.most (transfer_of from) k =
-      said_of_my_first (λ n. SaysSack n h.least h.most (transfer_of from) k) (λ fresh s. subst (IsAmong s.point) fresh.no_sacks s.sent) said in
+      let said = sack_was_said (first_in g.beside) h.least from k (h.says tag (sack_chunk k) is_received) in
+      let s : SaysSack t.identity.my_first h.least (transfer_of from) k =
+      said_of_my_first (λ n. SaysSack n h.least (transfer_of from) k) (λ fresh s. subst (IsAmong s.point) fresh.no_sacks s.sent) said in
       record {
         point = s.point;
         sent = subst (IsAmong s.point) (sym sacks) s.sent;
-        number_is = sack_is_read message is_interleaved (transfer_of from) (transfer_of x) premises.kept.epochs.order.kept kept.epochs.order.kept receiver t.identity.my_first h.least h.most
-            t.sender.outstanding k shown.first shown.refines.items.point grows h.past h.near h.young s;
+        number_is = sack_is_read message is_interleaved (transfer_of from) (transfer_of x) premises.kept.epochs.order.kept kept.epochs.order.kept receiver t.identity.my_first h.least
+            t.sender.outstanding k shown.first shown.refines.items.point grows h.near h.young s;
       }
 
   -- an answer that is final
@@ -128,7 +135,7 @@ module _ (message : ℕ → Message) (lifecycle : ℕ → Option ℕ) (is_interl
   answer_is_received number result sender receiver asked final =
       let h = premises.receives in
       let p : ParameterTree = reset_response number result sender receiver in
-      let said = answers_were_said (first_in g.beside) h.least h.most from asked.parameters (h.says asked.tag (re_config_chunk asked.parameters) asked.received) in
+      let said = answers_were_said (first_in g.beside) h.least from asked.parameters (h.says asked.tag (re_config_chunk asked.parameters) asked.received) in
       let one : SaysIncoming (first_in g.beside) from.done (length from.asks) p =
       all_at (SaysIncoming (first_in g.beside) from.done (length from.asks)) asked.among.before asked.among.behind p
       (subst (All (SaysIncoming (first_in g.beside) from.done (length from.asks))) asked.among.split said) in

@@ -1,5 +1,5 @@
 -- Each action of the receiver's end leaves the direction at a later state of the rules.
-use Rattle.std.proofs.Common.{◌≡◌, ℕ, ◌+◌, ◌-◌, ◌^◌, ◌<◌, ◌≤◌, ◌==◌, ◌||◌, Bool, true, Option, Some, None, List, [], ◌∷◌, ◌++◌, take, slice_get, All, refl, sym, ap, subst, ◌∙◌, append-nil, arith}
+use Rattle.std.proofs.Common.{◌≡◌, ℕ, ◌+◌, ◌-◌, ◌^◌, ◌<◌, ◌==◌, ◌||◌, Bool, true, Option, Some, None, List, [], ◌∷◌, ◌++◌, take, slice_get, All, refl, sym, ap, subst, ◌∙◌, append-nil, arith}
 use Rattle.std.proofs.lemmas.List.Elements.{All-nil}
 use Rattle.std.proofs.lemmas.Bool.{or_left}
 use Rattle.sctp_serial.specs.Messages as messages
@@ -10,7 +10,7 @@ use Rattle.sctp_state.specs.Options.{Options}
 use Rattle.sctp_capabilities.specs.Capabilities.{agreed}
 use Rattle.sctp_state.specs.declared.api.errors.ResetStreamsError.{ResetStreamsError}
 use Rattle.sctp_state.specs.Events.{Event, Emitted, OnError}
-use Rattle.proof_protocol.specs.State.{Message, count}
+use Rattle.proof_protocol.specs.State.{Message}
 use Rattle.spec_endpoint.specs.Association.{Endpoint}
 use Rattle.spec_endpoint.specs.Calls.{ready_in, message_taken_in}
 use Rattle.spec_endpoint.specs.Opening.{emit_parse_error}
@@ -26,7 +26,7 @@ use Rattle.proof_pair.proofs.JoinKeepsLemmas.{Rules}
 use Rattle.proof_pair.proofs.TraceLemmas.{setting, begins, rules_call, rules_given, Halves, swapped, none_of}
 use Rattle.proof_pair.proofs.HandingLemmas.{hands}
 use Rattle.proof_pair.proofs.AskedLemmas.{is_offer}
-use Rattle.proof_delivery.specs.Windows.{Stamp, IsYoung, IsTimely, IsWithin, queue_of, numbered_count, stamp_packets}
+use Rattle.proof_delivery.specs.Windows.{Stamp, IsYoung, IsTimely, IsWithin, queue_of, numbered_count, left_count, stamp_packets}
 use Rattle.proof_delivery.specs.Answered.{IsAnswered, performed_in}
 use Rattle.proof_delivery.specs.StreamEpochs.{resets_emitted}
 use Rattle.proof_delivery.proofs.ClaimLemmas.{Direction, transfer_of, goes_in, SaysIn, first_out, first_in, ReceivesIn, ReceiverClaim, ReceivesData, ReceiverGoes, ReceiverPremises}
@@ -34,33 +34,31 @@ use Rattle.proof_delivery.proofs.FrameLemmas.{is_other, joined_call}
 use Rattle.proof_delivery.proofs.SenderToolLemmas.{goes_none}
 use Rattle.proof_delivery.proofs.ResetEventsLemmas.{resets_in, emitted_counts}
 use Rattle.proof_delivery.proofs.ResetCallLemmas as calls
-use Rattle.proof_delivery.proofs.WithinLemmas.{Holds}
-use Rattle.proof_delivery.proofs.DirectionLemmas.{AtStamp, each_at, IsUnderWay, says_out, Stands, SoFar, Flows, IsSilent}
+use Rattle.proof_delivery.proofs.WithinLemmas.{left_is, Holds}
+use Rattle.proof_delivery.proofs.DirectionLemmas.{least_out, AtStamp, each_at, IsUnderWay, says_out, Stands, SoFar, Flows, IsSilent}
 use Rattle.proof_delivery.proofs.PremisesLemmas.{IsNoPacket, receives_no_data, receives_data, receiver_premises, begins_in}
 use Rattle.proof_delivery.proofs.ActionLemmas.{after_action, ends_in}
 use Rattle.proof_delivery.proofs.AccountLemmas.{accounts_still, accounts_in}
-use Rattle.proof_delivery.proofs.SenderActionLemmas.{goes_bracketed, none_more, PreservedByActs, DirectionAfterAction, holds, counted, near, mode_back, young_now}
+use Rattle.proof_delivery.proofs.SenderActionLemmas.{goes_bracketed, none_more, PreservedByActs, DirectionAfterAction, holds, mode_back, young_now}
 
 module _ (message : ℕ → Message) (lifecycle : ℕ → Option ℕ) (is_interleaved : Bool) (of : Stamp → ℕ) (parts : PreservedByActs message lifecycle is_interleaved) (o q : Options) (own : AreValidOptions o)
     (other : AreValidOptions q) (mode : is_interleaved ≡ (agreed o q).message_interleaving) (s r : Side) (h : Halves o q s r) (quiet_s : IsSilent s) (quiet_r : IsSilent r)
     (within : IsWithin (state_of s) (queue_of s)) (accepted : ℕ) (handed : List messages.Message) (stamps_s stamps_r : List Stamp) (so_far : SoFar) (x : Direction)
     (f : Flows message lifecycle is_interleaved of s r accepted handed stamps_s stamps_r so_far x) (soon : IsAnswered (state_of s) so_far.asked) (few_performed : performed_in s.emitted < 2 ^ 32 - 1)
-    (now : Stamp) (at_now : of now ≡ numbered_count (state_of s)) (young : (old : Stamp) → IsYoung now old → of now < of old + 2 ^ 30) where
+    (now left later : Stamp) (at_now : of now ≡ numbered_count (state_of s)) (at_left : of left ≡ left_count (state_of s) + 2 ^ 30)
+    (at_later : of later ≡ left_count (state_of s)) (young : (old : Stamp) → IsYoung now old → of now < of old + 2 ^ 31) where
   hold : Holds message lifecycle is_interleaved x (queue_of s) f.kept
-  hold = holds message lifecycle is_interleaved of parts o q own other mode s r h quiet_s quiet_r within accepted handed stamps_s stamps_r so_far x f soon few_performed now at_now young
+  hold = holds message lifecycle is_interleaved of parts o q own other mode s r h quiet_s quiet_r within accepted handed stamps_s stamps_r so_far x f few_performed now left at_now at_left young
 
   back : is_interleaved ≡ (agreed q o).message_interleaving
-  back = mode_back message lifecycle is_interleaved of parts o q own other mode s r h quiet_s quiet_r within accepted handed stamps_s stamps_r so_far x f soon few_performed now at_now young
+  back = mode_back message lifecycle is_interleaved of parts o q own other mode s r h quiet_s quiet_r within accepted handed stamps_s stamps_r so_far x f few_performed now left at_now at_left young
 
-  numbered_now : of now ≡ count (transfer_of x).sender
-  numbered_now = counted message lifecycle is_interleaved of parts o q own other mode s r h quiet_s quiet_r within accepted handed stamps_s stamps_r so_far x f soon few_performed now at_now young
-
-  in_near : count (transfer_of x).sender ≤ (transfer_of x).acknowledged + 2 ^ 30
-  in_near = near message lifecycle is_interleaved of parts o q own other mode s r h quiet_s quiet_r within accepted handed stamps_s stamps_r so_far x f soon few_performed now at_now young
+  left_now : of later ≡ (transfer_of x).acknowledged
+  left_now = at_later ∙ left_is message lifecycle is_interleaved (state_of s) (queue_of s) x f.sends
 
   -- hands out these
   abbrev pub In : Side → List messages.Message → Type 0
-  In t out = DirectionAfterAction message lifecycle is_interleaved of s t accepted (handed ++ out) stamps_s (stamp_packets r t now stamps_r) so_far x s []
+  In t out = DirectionAfterAction message lifecycle is_interleaved of s t accepted (handed ++ out) stamps_s (stamp_packets r t later stamps_r) so_far x s []
 
   same_handed : handed ++ [] ≡ handed
   same_handed = append-nil handed
@@ -68,7 +66,7 @@ module _ (message : ℕ → Message) (lifecycle : ℕ → Option ℕ) (is_interl
   still_in : In r []
   still_in = record {
     to = x;
-    flows = subst (λ (ss : List Stamp). Flows message lifecycle is_interleaved of s r accepted (handed ++ []) stamps_s ss so_far x) (sym (none_more (emitted_packets r) now stamps_r))
+    flows = subst (λ (ss : List Stamp). Flows message lifecycle is_interleaved of s r accepted (handed ++ []) stamps_s ss so_far x) (sym (none_more (emitted_packets r) later stamps_r))
         (subst (λ (ms : List messages.Message). Flows message lifecycle is_interleaved of s r accepted ms stamps_s stamps_r so_far x) (sym same_handed) f);
     bracketed = goes_bracketed message is_interleaved goes_in x x f.kept.epochs (goes_none message is_interleaved goes_in x);
     accounts = λ abandoned a. accounts_still lifecycle s abandoned x a;
@@ -78,7 +76,7 @@ module _ (message : ℕ → Message) (lifecycle : ℕ → Option ℕ) (is_interl
       → Stands (state_of r) e.endpoint_state.state → In (after_action asked e r) out
   claim_in asked out e y c stands = record {
     to = y;
-    flows = ends_in message lifecycle is_interleaved of parts.stay s r accepted handed stamps_s stamps_r so_far x f now numbered_now in_near asked out y e c stands;
+    flows = ends_in message lifecycle is_interleaved of parts.stay s r accepted handed stamps_s stamps_r so_far x f later asked left_now out y e c stands;
     bracketed = goes_bracketed message is_interleaved goes_in x y f.kept.epochs c.goes;
     accounts = λ abandoned a. accounts_in message lifecycle is_interleaved s abandoned x a y c.goes;
   }
@@ -97,7 +95,7 @@ module _ (message : ℕ → Message) (lifecycle : ℕ → Option ℕ) (is_interl
       claim_in asked [] (called call r.end) c.0 (none_handed (calm (called call r.end)) c.0 c.1) stands
 
   premises : (asked : Bool) (call : Call) → ReceivesData message is_interleaved call (first_out (state_of s)) x → ReceiverPremises message lifecycle is_interleaved (setting q o r s asked) call x
-  premises asked call receives = receiver_premises message lifecycle is_interleaved of o q s r accepted handed stamps_s stamps_r so_far x f asked call other back few_performed hold receives
+  premises asked call receives = receiver_premises message lifecycle is_interleaved of o q s r accepted handed stamps_s stamps_r so_far x f asked call other back few_performed soon hold receives
 
   joined_in : (asked : Bool) (call : Call) → Rules (setting q o r s asked) call → is_other call ≡ true → (r.got_init ≡ true → asked ≡ true)
       → HasNoEnd (calm (called call r.end)) → ReceivesData message is_interleaved call (first_out (state_of s)) x → Stands (state_of r) (called call r.end).endpoint_state.state
@@ -123,8 +121,8 @@ module _ (message : ℕ → Message) (lifecycle : ℕ → Option ℕ) (is_interl
     stay = (refl, refl);
     shown = shown;
     performed = λ k. let none = sym (emitted_counts k m.context.emitted.events) ∙ ap (λ (es : List (Event Carried)). resets_emitted k es) resets in omega (arith, none);
-    emitted = subst (λ (ps : List Carried). All (λ (p : Carried). All (SaysIn (first_in m.state) (transfer_of x).acknowledged (count (transfer_of x).sender) x) p.chunks) ps) (sym emitted) (All-nil _);
-    made = subst (λ (cs : List ChunkTree). All (SaysIn (first_in m.state) (transfer_of x).acknowledged (count (transfer_of x).sender) x) cs) (sym made) (All-nil _);
+    emitted = subst (λ (ps : List Carried). All (λ (p : Carried). All (SaysIn (first_in m.state) (transfer_of x).acknowledged x) p.chunks) ps) (sym emitted) (All-nil _);
+    made = subst (λ (cs : List ChunkTree). All (SaysIn (first_in m.state) (transfer_of x).acknowledged x) cs) (sym made) (All-nil _);
   }
 
   taken_action : Stands (state_of r) (message_taken_in r.end.endpoint_state.context.options (state_of r)) → In (act (Calls TakeMessage) r s) (take 1 (ready_in (state_of r)))
@@ -189,12 +187,12 @@ module _ (message : ℕ → Message) (lifecycle : ℕ → Option ℕ) (is_interl
       → endings (give_carried p checksum r).emitted ≡ 0 → Stands (state_of r) (state_of (give_carried p checksum r)) → In (give_carried p checksum r) []
   given_in None checksum n there timely none stands = still_in
   given_in (Some p) checksum n there timely none stands =
-      let a : AtStamp (λ stamp p. IsUnderWay (says_out message is_interleaved (first_out (state_of s))) x (of stamp) p) stamps_s n p =
-      each_at (λ stamp p. IsUnderWay (says_out message is_interleaved (first_out (state_of s))) x (of stamp) p) (emitted_packets s) stamps_s n p there f.out in
+      let a : AtStamp (λ stamp p. IsUnderWay (says_out message is_interleaved (first_out (state_of s))) x (least_out of stamp) p) stamps_s n p =
+      each_at (λ stamp p. IsUnderWay (says_out message is_interleaved (first_out (state_of s))) x (least_out of stamp) p) (emitted_packets s) stamps_s n p there f.out in
       joined_in (r.got_init || (p.header.verification_tag == 0)) (ReceivePacket (as_received p checksum)) (rules_given q o r s other own p checksum n there) refl
       (or_left r.got_init (p.header.verification_tag == 0)) (none_of r.emitted (called (ReceivePacket (as_received p checksum)) r.end).endpoint_state.context.emitted.events none)
-      (receives_data message is_interleaved (first_out (state_of s)) x (of a.stamp) p checksum a.holds
-      (young_now message lifecycle is_interleaved of parts o q own other mode s r h quiet_s quiet_r within accepted handed stamps_s stamps_r so_far x f soon few_performed now at_now young a.stamp (timely a.stamp a.there))) stands
+      (receives_data message is_interleaved (first_out (state_of s)) x (least_out of a.stamp) p checksum a.holds
+      (let l = young_now message lifecycle is_interleaved of parts o q own other mode s r h quiet_s quiet_r within accepted handed stamps_s stamps_r so_far x f few_performed now left at_now at_left young a.stamp (timely a.stamp a.there) in omega (arith, l))) stands
 
   foreign_in : (text : Option (List ℕ)) (p : PacketTree) → packet_refusal p.header.verification_tag p.chunks (state_of r) ≡ text → In (foreign_if text p r) []
   foreign_in None p is = still_in

@@ -14,11 +14,11 @@ use Rattle.sctp_rx.specs.DataTracker as tracker
 use Rattle.sctp_rx.specs.DataTracker.{is_valid}
 use Rattle.sctp_rx.specs.ReassemblyQueue.{reassembly}
 use Rattle.sctp_rx.specs.Sack.{clear_duplicates}
-use Rattle.proof_protocol.specs.State.{Message, Sender, count}
+use Rattle.proof_protocol.specs.State.{Message}
 use Rattle.proof_protocol.specs.Based.{EpochWindows}
-use Rattle.proof_rx_refines.specs.Refinement.{ReceiverRefines}
-use Rattle.proof_rx_refines.specs.Near.{AreFew}
-use Rattle.proof_rx_refines.specs.Resets.{base_now}
+use Rattle.proof_refines.specs.ReceiverRefinement.{ReceiverRefines}
+use Rattle.proof_refines.specs.Near.{AreFew}
+use Rattle.proof_refines.specs.Resets.{base_now}
 use Rattle.spec_endpoint.specs.Association.{Identity, Tcb, most_fragments, tcb, Phase, CookieEchoed, ShutdownPending, State, Closed, CookieWait, Open}
 use Rattle.spec_endpoint.specs.Data.{has_room, accepts_tsn, take_fragment, handle_forward_tsn}
 use Rattle.spec_endpoint.specs.Sending.{selective_ack, without_duplicates}
@@ -77,7 +77,7 @@ module _ (message : ℕ → Message) (lifecycle : ℕ → Option ℕ) (is_interl
   pub goes_packets : (act : PacketAct Carried call) → InvAt g (before_packets act) → Goes (before_packets act) (after_packets act)
   goes_packets (begins packet m new summed to) inv = goes_begun message lifecycle is_interleaved from handed packet m new
   goes_packets (adds_plain chunk m plain others fair) inv =
-      goes_adding message lifecycle is_interleaved from handed m chunk (λ x claim. plain_says (first_in m.state) (transfer_of from).acknowledged (count (transfer_of from).sender) x chunk plain)
+      goes_adding message lifecycle is_interleaved from handed m chunk (λ x claim. plain_says (first_in m.state) (transfer_of from).acknowledged x chunk plain)
   goes_packets (emits m some bundled) inv = goes_emitted message lifecycle is_interleaved from handed m inv.packing
   goes_packets (emits_error kind text m) inv =
       goes_same message lifecycle is_interleaved from handed m (after_packets {call = call} (emits_error kind text m)) (λ x h. h) refl
@@ -96,11 +96,10 @@ module _ (message : ℕ → Message) (lifecycle : ℕ → Option ℕ) (is_interl
       let one : ℕ = first_in a.state in
       let other : ℕ = first_in b.state in
       let least : ℕ = (transfer_of from).acknowledged in
-      let most : ℕ = count (transfer_of from).sender in
       stays_by message lifecycle is_interleaved from handed a b x claim (shown x fresh) (λ s. emitted_same s a.context.emitted.events b.context.emitted.events resets)
-      (λ h. subst (λ (ps : List Carried). All (λ (q : Carried). All (SaysIn other least most x) q.chunks) ps) (sym packets)
-      (no_packets_said x fresh.no_sacks fresh.none_done one other least most (packets_in a.context.emitted.events) h))
-      (λ h. subst (λ (cs : List ChunkTree). All (SaysIn other least most x) cs) (sym chunks) (no_chunks_said x fresh.no_sacks fresh.none_done one other least most a.packet.chunks h))
+      (λ h. subst (λ (ps : List Carried). All (λ (q : Carried). All (SaysIn other least x) q.chunks) ps) (sym packets)
+      (no_packets_said x fresh.no_sacks fresh.none_done one other least (packets_in a.context.emitted.events) h))
+      (λ h. subst (λ (cs : List ChunkTree). All (SaysIn other least x) cs) (sym chunks) (no_chunks_said x fresh.no_sacks fresh.none_done one other least a.packet.chunks h))
 
   -- in the mode that was agreed on
   mode_is : (k : Capabilities) → k ≡ agreed g.own g.other → is_interleaved ≡ k.message_interleaving
@@ -203,10 +202,9 @@ module _ (message : ℕ → Message) (lifecycle : ℕ → Option ℕ) (is_interl
     ack_leads =
         let made = sack_made message is_interleaved x claim.kept handed t claim.shown in
         let l : Leads message is_interleaved handed x t = made.0 in
-        let says : SaysIn t.tracker.first (transfer_of x).acknowledged (count (transfer_of x).sender) l.to (selective_ack t) = made.1 in
-        let there : SaysIn t.tracker.first (transfer_of from).acknowledged (count (transfer_of from).sender) l.to (selective_ack t) =
-        subst (λ (o : Sender). SaysIn t.tracker.first (transfer_of from).acknowledged (count o) l.to (selective_ack t)) same.sender
-        (subst (λ (n : ℕ). SaysIn t.tracker.first n (count (transfer_of x).sender) l.to (selective_ack t)) same.acknowledged says) in (
+        let says : SaysIn t.tracker.first (transfer_of x).acknowledged l.to (selective_ack t) = made.1 in
+        let there : SaysIn t.tracker.first (transfer_of from).acknowledged l.to (selective_ack t) =
+        subst (λ (n : ℕ). SaysIn t.tracker.first n l.to (selective_ack t)) same.acknowledged says in (
           l.to,
           step_claims message lifecycle is_interleaved from handed (in_open phase t m) (with_chunk (selective_ack t) (in_open phase (without_duplicates t) m)) x l.to claim
               (record {
@@ -216,7 +214,7 @@ module _ (message : ℕ → Message) (lifecycle : ℕ → Option ℕ) (is_interl
                 shown = acknowledging_changes message is_interleaved handed t (clear_duplicates t.tracker.tracker) l.to refl (tracker_emitted t.tracker.tracker claim.shown.is_tracker) l.shown;
                 performed = λ s. let e = l.performed s in omega (arith, e);
                 emitted = λ h. h;
-                made = λ h. holds_added (λ tag. SaysIn t.tracker.first (transfer_of from).acknowledged (count (transfer_of from).sender) l.to) m.packet (selective_ack t) h there;
+                made = λ h. holds_added (λ tag. SaysIn t.tracker.first (transfer_of from).acknowledged l.to) m.packet (selective_ack t) h there;
               }),
         )
 

@@ -17,15 +17,15 @@ use Rattle.proof_protocol.specs.Based.{EpochWindows}
 use Rattle.proof_protocol.proofs.BasedLemmas.{unseen_is_now}
 use Rattle.proof_protocol.proofs.EpochLawsLemmas.{epoch_number_window, epoch_named_window}
 use Rattle.proof_protocol.proofs.ToolsLemmas.{among_covers}
-use Rattle.proof_rx_refines.specs.View.{was_seen}
-use Rattle.proof_rx_refines.specs.Read.{Carries, is_behind, shift_after}
-use Rattle.proof_rx_refines.specs.Refinement.{ReceiverRefines}
-use Rattle.proof_rx_refines.specs.Near.{IsWritten, AreEntries, AreFew, IsNearNext, AreNearNext, ReadsNear}
-use Rattle.proof_rx_refines.specs.Resets.{base_now, IsWaitingFor, Comes}
-use Rattle.proof_rx_refines.proofs.DeferralRowLemmas.{held_while, late_while, point_while}
-use Rattle.proof_rx_refines.proofs.NearNumberLemmas.{greatest}
-use Rattle.proof_rx_refines.proofs.NearTsnLemmas.{not_acknowledged, front, front_unseen, front_below}
-use Rattle.proof_rx_refines.proofs.RowLemmas.{old_point, again}
+use Rattle.proof_refines.specs.View.{was_seen}
+use Rattle.proof_refines.specs.Read.{Carries, is_behind, shift_after}
+use Rattle.proof_refines.specs.ReceiverRefinement.{ReceiverRefines}
+use Rattle.proof_refines.specs.Near.{IsWritten, AreEntries, AreFew, IsNearNext, AreNearNext, ReadsNear}
+use Rattle.proof_refines.specs.Resets.{base_now, IsWaitingFor, Comes}
+use Rattle.proof_refines.proofs.DeferralRowLemmas.{held_while, late_while, point_while}
+use Rattle.proof_refines.proofs.NearNumberLemmas.{greatest}
+use Rattle.proof_refines.proofs.NearTsnLemmas.{not_acknowledged, front, front_unseen, front_below}
+use Rattle.proof_refines.proofs.RowLemmas.{old_point, again}
 use Rattle.spec_endpoint.specs.Association.{Tcb}
 use Rattle.spec_endpoint.specs.ResetRequests.{Requests}
 use Rattle.spec_endpoint.specs.Data.{added_unless, skipped_if, take_fragment, handle_forward_tsn}
@@ -224,13 +224,13 @@ module _ (message : ℕ → Message) (is_interleaved : Bool) (handed : List mess
       → is_valid t.tracker.tracker (tracker.number_of t.tracker tsn) ≡ true → Leads message is_interleaved handed x (take_fragment tsn now f t)
   taken_leads tsn now f h valid =
       let n : ℕ = origin + h.at in
-      let there : is_valid t.tracker.tracker n ≡ true = subst (λ (m : ℕ). is_valid t.tracker.tracker m ≡ true) h.number_is valid in
+      let there : is_valid t.tracker.tracker n ≡ true = subst (λ (m : ℕ). is_valid t.tracker.tracker m ≡ true) (h.number_is valid) valid in
       let a = fragment_arrives message is_interleaved t.tracker.first handed x kept windows few shown.shift t.tracker.tracker t.reassembly shown.refines shown.near
       shown.is_tracker shown.waiting h.at tsn f h.tsn_is h.carries h.written now there in
       let l : Leads message is_interleaved handed x (taken_at n tsn now f) =
       leads_to (observe n now t.tracker.tracker) (added_unless (has_seen t.tracker.tracker n) tsn f t.reassembly)
       (added_same (has_seen t.tracker.tracker n) tsn f t.reassembly) a in
-      subst (λ (m : ℕ). Leads message is_interleaved handed x (taken_at m tsn now f)) (sym h.number_is) l
+      subst (λ (m : ℕ). Leads message is_interleaved handed x (taken_at m tsn now f)) (sym (h.number_is valid)) l
 
   abbrev passed_at : (n tsn : ℕ) → List SkippedStream → Tcb
   passed_at n tsn skipped = record t {
@@ -242,10 +242,10 @@ module _ (message : ℕ → Message) (is_interleaved : Bool) (handed : List mess
       → is_valid t.tracker.tracker (tracker.number_of t.tracker tsn) ≡ true → Leads message is_interleaved handed x (handle_forward_tsn tsn skipped t)
   passed_leads tsn skipped h valid =
       let n : ℕ = origin + h.at in
-      let there : is_valid t.tracker.tracker n ≡ true = subst (λ (m : ℕ). is_valid t.tracker.tracker m ≡ true) h.number_is valid in
+      let there : is_valid t.tracker.tracker n ≡ true = subst (λ (m : ℕ). is_valid t.tracker.tracker m ≡ true) (h.number_is valid) valid in
       let a = point_arrives message is_interleaved t.tracker.first handed x kept windows few shown.shift t.tracker.tracker t.reassembly shown.refines shown.near
       shown.is_tracker shown.waiting h.at tsn skipped h.point h.sent h.upto h.tsn_is h.apart h.entries there in
       let l : Leads message is_interleaved handed x (passed_at n tsn skipped) =
       leads_to (tracker.forward n t.tracker.tracker) (skipped_if (moves_on n t.tracker.tracker) tsn skipped t.reassembly)
       (skipped_same (moves_on n t.tracker.tracker) tsn skipped t.reassembly) a in
-      subst (λ (m : ℕ). Leads message is_interleaved handed x (passed_at m tsn skipped)) (sym h.number_is) l
+      subst (λ (m : ℕ). Leads message is_interleaved handed x (passed_at m tsn skipped)) (sym (h.number_is valid)) l

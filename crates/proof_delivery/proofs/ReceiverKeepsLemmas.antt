@@ -13,7 +13,7 @@ use Rattle.sctp_tx.specs.RetransmissionQueue.{Sender}
 use Rattle.sctp_tx.specs.ForwardPoints.{chunk_if, forward_chunk}
 use Rattle.sctp_tx.specs.Resent.{resent_fast}
 use Rattle.sctp_rx.specs.DataTracker.{update_rto, take_ack, force_ack, packet_end, ack_timeout}
-use Rattle.proof_protocol.specs.State.{Message, count}
+use Rattle.proof_protocol.specs.State.{Message}
 use Rattle.proof_protocol.specs.Based.{EpochWindows}
 use Rattle.sctp_rx.specs.ReassemblyQueue.{defer}
 use Rattle.spec_endpoint.specs.Sack.{clean_blocks}
@@ -30,9 +30,9 @@ use Rattle.proof_pair.proofs.JoinActsLemmas.{Setting, InvAt}
 use Rattle.proof_endpoint.proofs.CallActsLemmas.{answers_leave}
 use Rattle.proof_delivery.specs.Asks.{ResetRequest, SaysIncoming}
 use Rattle.proof_delivery.specs.StreamEpochs.{are_named, resets_emitted}
-use Rattle.proof_delivery.proofs.ClaimLemmas.{Direction, transfer_of, SaysIn, ReceiverClaim, ReceiverPremises, ReceiverGoes}
+use Rattle.proof_delivery.proofs.ClaimLemmas.{Direction, transfer_of, SaysIn, ReceiverClaim, AsksSoon, ReceiverPremises, ReceiverGoes}
 use Rattle.proof_delivery.proofs.FrameLemmas.{IsSetting, IsReceivedReset, KeepsJoined}
-use Rattle.proof_delivery.proofs.ReadingDataLemmas.{RequestReceived, windows_stay, request_is_received, none_incoming, has_ask}
+use Rattle.proof_delivery.proofs.ReadingDataLemmas.{RequestReceived, windows_stay, soon_stays, request_is_received, none_incoming, has_ask}
 use Rattle.proof_delivery.proofs.TrackerStaysLemmas.{tracker_timed, tracker_asked, tracker_forced, tracker_ends_packet, tracker_waited}
 use Rattle.proof_delivery.proofs.ResetEventsLemmas.{resets_sack, resets_expired, resets_timed_out, resets_sent, resets_threshold, resets_refused}
 use Rattle.proof_delivery.proofs.SenderToolLemmas.{same_packets}
@@ -43,27 +43,27 @@ use Rattle.proof_delivery.proofs.ReceiverActsLemmas.{one_more, goes_packets, goe
 
 -- ---- chunks of no weight here
 
-module _ (first least most : ℕ) (x : Direction) where
-  forward_says : (b : Bool) (s : Sender) → SaysIn first least most x (chunk_if b s)
+module _ (first least : ℕ) (x : Direction) where
+  forward_says : (b : Bool) (s : Sender) → SaysIn first least x (chunk_if b s)
   forward_says true s = tt
   forward_says false s = tt
 
-  data_says_of : (is_interleaved is_immediate : Bool) (c : ℕ × FragmentTree) → SaysIn first least most x (data_chunk_of is_interleaved is_immediate c)
+  data_says_of : (is_interleaved is_immediate : Bool) (c : ℕ × FragmentTree) → SaysIn first least x (data_chunk_of is_interleaved is_immediate c)
   data_says_of true is_immediate c = tt
   data_says_of false is_immediate c = tt
 
-  data_says_by : (is_interleaved is_immediate : Bool) (cs : List (ℕ × FragmentTree)) → All (SaysIn first least most x) (map (data_chunk_of is_interleaved is_immediate) cs)
-  data_says_by is_interleaved is_immediate [] = All-nil (SaysIn first least most x)
+  data_says_by : (is_interleaved is_immediate : Bool) (cs : List (ℕ × FragmentTree)) → All (SaysIn first least x) (map (data_chunk_of is_interleaved is_immediate) cs)
+  data_says_by is_interleaved is_immediate [] = All-nil (SaysIn first least x)
   data_says_by is_interleaved is_immediate (c ∷ cs) =
-      All-cons (SaysIn first least most x) (data_chunk_of is_interleaved is_immediate c) (map (data_chunk_of is_interleaved is_immediate) cs)
+      All-cons (SaysIn first least x) (data_chunk_of is_interleaved is_immediate c) (map (data_chunk_of is_interleaved is_immediate) cs)
       (data_says_of is_interleaved is_immediate c) (data_says_by is_interleaved is_immediate cs)
 
-  data_says : (t : Tcb) (is_immediate : Bool) (cs : List (ℕ × FragmentTree)) → All (SaysIn first least most x) (data_chunks t is_immediate cs)
+  data_says : (t : Tcb) (is_immediate : Bool) (cs : List (ℕ × FragmentTree)) → All (SaysIn first least x) (data_chunks t is_immediate cs)
   data_says t is_immediate cs = data_says_by t.capabilities.message_interleaving is_immediate cs
 
 -- an own request answers nothing
-request_says : (first least most : ℕ) (x : Direction) (r : Request) → SaysIn first least most x (request_chunk r)
-request_says first least most x r =
+request_says : (first least : ℕ) (x : Direction) (r : Request) → SaysIn first least x (request_chunk r)
+request_says first least x r =
     All-cons (SaysIncoming first x.done (length x.asks)) (outgoing_reset_request r.number r.number (record { 0 = r.last_tsn }) (ids r.streams)) [] tt
     (All-nil (SaysIncoming first x.done (length x.asks)))
 
@@ -119,7 +119,7 @@ module _ (message : ℕ → Message) (lifecycle : ℕ → Option ℕ) (is_interl
       (resets_expired m.context.now t.sender.outstanding.items m.context.emitted) refl
   goes_sending (adds_forward phase t m due) inv =
       goes_adding message lifecycle is_interleaved from handed (in_open phase t m) (forward_chunk t.sender)
-      (λ x claim. forward_says t.tracker.first (transfer_of from).acknowledged (count (transfer_of from).sender) x _ t.sender)
+      (λ x claim. forward_says t.tracker.first (transfer_of from).acknowledged x _ t.sender)
   goes_sending (forwards_later n m) inv =
       goes_same message lifecycle is_interleaved from handed m (after_sending {call = call} (forwards_later n m)) (λ x h. h) refl refl refl refl
   goes_sending (asks_no_reset most m none) inv =
@@ -129,7 +129,7 @@ module _ (message : ℕ → Message) (lifecycle : ℕ → Option ℕ) (is_interl
       goes_same message lifecycle is_interleaved from handed (in_open phase t m) (after_sending act) (λ x h. rest_changes message is_interleaved handed t _ t.rtt _ x refl refl h) refl refl refl refl
   goes_sending (adds_request r phase t m is) inv =
       goes_adding message lifecycle is_interleaved from handed (in_open phase t m) (request_chunk r)
-      (λ x claim. request_says t.tracker.first (transfer_of from).acknowledged (count (transfer_of from).sender) x r)
+      (λ x claim. request_says t.tracker.first (transfer_of from).acknowledged x r)
   goes_sending (sends phase t m) inv =
       let act : SendingAct Carried call = sends phase t m in
       let f = fragments_of t m in
@@ -137,7 +137,7 @@ module _ (message : ℕ → Message) (lifecycle : ℕ → Option ℕ) (is_interl
       let filled : EndWithPacket Carried = with_packet (add_all chunks m.packet) (in_open phase t m) in
       goes_through message lifecycle is_interleaved from handed (in_open phase t m) filled (after_sending act)
       (goes_adding_all message lifecycle is_interleaved from handed (in_open phase t m) chunks
-      (λ x. data_says t.tracker.first (transfer_of from).acknowledged (count (transfer_of from).sender) x t (is_small m.context.options f.sender) f.chunks))
+      (λ x. data_says t.tracker.first (transfer_of from).acknowledged x t (is_small m.context.options f.sender) f.chunks))
       (goes_same message lifecycle is_interleaved from handed filled (after_sending act)
       (λ x h. rest_changes message is_interleaved handed t f.sender t.rtt t.requests x refl refl h) refl (same_packets m.context.emitted (after_sending act).context.emitted (sending_act_emits_no_packet_or_status act))
       (resets_sent m.context.now (room m.packet) t.sender m.context.queue m.context.emitted) refl)
@@ -147,7 +147,7 @@ module _ (message : ℕ → Message) (lifecycle : ℕ → Option ℕ) (is_interl
       let filled : EndWithPacket Carried = with_packet (add_all (data_chunks t false resent) m.packet) (in_open phase t m) in
       goes_through message lifecycle is_interleaved from handed (in_open phase t m) filled (after_sending act)
       (goes_adding_all message lifecycle is_interleaved from handed (in_open phase t m) (data_chunks t false resent)
-      (λ x. data_says t.tracker.first (transfer_of from).acknowledged (count (transfer_of from).sender) x t false resent))
+      (λ x. data_says t.tracker.first (transfer_of from).acknowledged x t false resent))
       (goes_same message lifecycle is_interleaved from handed filled (after_sending act) (λ x h. rest_changes message is_interleaved handed t _ t.rtt t.requests x refl refl h) refl refl refl refl)
 
   -- ---- time and calls
@@ -204,6 +204,9 @@ module _ (message : ℕ → Message) (lifecycle : ℕ → Option ℕ) (is_interl
     windows : EpochWindows message x.rules
     windows = windows_stay message lifecycle is_interleaved g call from p handed phase t m inv x claim.kept claim.shown same claim.stay.0
 
+    soon : AsksSoon x
+    soon = soon_stays message lifecycle is_interleaved g call from p handed phase t m inv x claim.kept claim.shown same claim.stay.0 claim.stay.1
+
     few : length x.asks < 2 ^ 32
     few = subst (λ (l : List ResetRequest). length l < 2 ^ 32) (sym claim.stay.0) p.few_asks
 
@@ -216,7 +219,7 @@ module _ (message : ℕ → Message) (lifecycle : ℕ → Option ℕ) (is_interl
     no_incoming = none_incoming message lifecycle is_interleaved g call from p handed phase t m inv x claim.kept claim.shown same claim.stay.0
 
     responses_true : (responses : List ParameterTree) → All (Answers call t.requests) responses
-        → SaysIn t.tracker.first (transfer_of from).acknowledged (count (transfer_of from).sender) x (re_config_chunk responses)
+        → SaysIn t.tracker.first (transfer_of from).acknowledged x (re_config_chunk responses)
     responses_true responses answers =
         responses_say message is_interleaved handed x claim.kept t claim.shown few call no_incoming
         (has_ask message lifecycle is_interleaved g call from p handed phase t m inv x claim.kept claim.shown same claim.stay.0) responses answers
@@ -226,7 +229,7 @@ module _ (message : ℕ → Message) (lifecycle : ℕ → Option ℕ) (is_interl
         → (y : Direction) × ReceiverClaim message is_interleaved from handed (after_reset {call = call} (performs n response last_tsn streams phase t m asked due there)) y
     performs_claims n response last_tsn streams asked due there =
         let act : ResetAct Carried call = performs n response last_tsn streams phase t m asked due there in
-        let r = performed_on message is_interleaved handed x claim.kept t claim.shown few n last_tsn.0 streams (asked_is n response last_tsn streams asked) due windows.items there in
+        let r = performed_on message is_interleaved handed x claim.kept t claim.shown few n last_tsn.0 streams (asked_is n response last_tsn streams asked) due windows.items soon there in
         let e : Event Carried = OnIncomingStreamReset (numbers_of streams) in (
           r.to,
           step_claims message lifecycle is_interleaved from handed (in_open phase t m) (after_reset act) x r.to claim
@@ -236,7 +239,7 @@ module _ (message : ℕ → Message) (lifecycle : ℕ → Option ℕ) (is_interl
                 stay = r.stay;
                 shown = r.shown;
                 performed = λ s. r.performed s m.context.emitted.events;
-                emitted = λ h. subst (λ (ps : List Carried). All (λ (q : Carried). All (SaysIn t.tracker.first (transfer_of from).acknowledged (count (transfer_of from).sender) r.to) q.chunks) ps)
+                emitted = λ h. subst (λ (ps : List Carried). All (λ (q : Carried). All (SaysIn t.tracker.first (transfer_of from).acknowledged r.to) q.chunks) ps)
                     (sym (one_more m.context.emitted.events e refl)) h;
                 made = λ h. h;
               }),
@@ -247,7 +250,7 @@ module _ (message : ℕ → Message) (lifecycle : ℕ → Option ℕ) (is_interl
   goes_resets (defers n response last_tsn streams phase t m asked due ahead) received inv =
       goes_led message lifecycle is_interleaved from handed phase phase t (record t { reassembly = defer last_tsn.0 streams t.reassembly; requests = set_last_request n in_progress t.requests }) m refl
       (λ x claim. deferred_leads message is_interleaved handed x claim.kept t claim.shown (few phase t m inv x claim) n last_tsn.0 streams
-      (asked_is phase t m inv x claim n response last_tsn streams asked) due (windows phase t m inv x claim).items ahead)
+      (asked_is phase t m inv x claim n response last_tsn streams asked) due (windows phase t m inv x claim).items (soon phase t m inv x claim) ahead)
   goes_resets (performs n response last_tsn streams phase t m asked due there) received inv =
       λ x claim. performs_claims phase t m inv x claim n response last_tsn streams asked due there
   goes_resets (processes n streams phase t m asked known) received inv = λ x claim. absurd (no_incoming phase t m inv x claim n streams asked)
@@ -258,7 +261,7 @@ module _ (message : ℕ → Message) (lifecycle : ℕ → Option ℕ) (is_interl
       stays_by message lifecycle is_interleaved from handed (in_open phase t m) (after_reset act) x claim
       (rest_changes message is_interleaved handed t t.sender t.rtt _ x same.0 same.1 claim.shown)
       (λ s. outcome_emits s (outcome n result t.requests.current) m.context)
-      (λ h. subst (λ (ps : List Carried). All (λ (q : Carried). All (SaysIn t.tracker.first (transfer_of from).acknowledged (count (transfer_of from).sender) x) q.chunks) ps)
+      (λ h. subst (λ (ps : List Carried). All (λ (q : Carried). All (SaysIn t.tracker.first (transfer_of from).acknowledged x) q.chunks) ps)
       (sym (same_packets m.context.emitted (after_reset act).context.emitted (reset_act_emits_no_packet_or_status act))) h)
       (λ h. h)
   goes_resets (adds_responses responses phase t m are answers) received inv =

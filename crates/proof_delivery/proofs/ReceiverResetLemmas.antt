@@ -19,11 +19,11 @@ use Rattle.proof_protocol.specs.State.{Message, has, count}
 use Rattle.proof_protocol.specs.Resets as rules
 use Rattle.proof_protocol.specs.Resets.{ResetEvent, perform, go_all}
 use Rattle.proof_protocol.proofs.BasedLemmas.{all_in_epochs}
-use Rattle.proof_rx_refines.specs.Read.{shift_after}
-use Rattle.proof_rx_refines.specs.Near.{IsInWindow}
-use Rattle.proof_rx_refines.specs.Resets.{base_now, AreNextTo, AreNext, performs, named_by, Performs, Comes}
-use Rattle.proof_rx_refines.proofs.DeferralRowLemmas.{next_once_seen, waits_none, none_waits, deferred_row, deferred_again}
-use Rattle.proof_rx_refines.proofs.ResetRowLemmas.{reset_row}
+use Rattle.proof_refines.specs.Read.{shift_after}
+use Rattle.proof_refines.specs.Near.{IsInWindow}
+use Rattle.proof_refines.specs.Resets.{base_now, AreNextTo, AreNext, performs, named_by, Performs, Comes}
+use Rattle.proof_refines.proofs.DeferralRowLemmas.{next_once_seen, waits_none, none_waits, deferred_row, deferred_again}
+use Rattle.proof_refines.proofs.ResetRowLemmas.{reset_row}
 use Rattle.spec_endpoint.specs.Association.{Tcb}
 use Rattle.spec_endpoint.specs.ResetRequests.{Requests, ids, in_progress, performed, is_final, is_last_request, is_next_request, is_known_request, set_last_request}
 use Rattle.spec_endpoint.specs.StreamReset.{is_ahead}
@@ -36,10 +36,10 @@ use Rattle.proof_delivery.specs.StreamEpochs.{are_named, resets_emitted}
 use Rattle.proof_delivery.proofs.AsksLemmas.{named_next, ask_is_performed}
 use Rattle.proof_delivery.proofs.AskedNextLemmas.{requests_of, next_ask, next_names}
 use Rattle.proof_delivery.proofs.AnswersLemmas.{number_once, next_is_ask, last_is_ask, other_is_older}
-use Rattle.proof_delivery.proofs.ClaimLemmas.{Direction, transfer_of, goes_in, IsKept, GoesOn, AsksStay, IsReceiving}
+use Rattle.proof_delivery.proofs.ClaimLemmas.{Direction, transfer_of, goes_in, IsKept, GoesOn, AsksStay, IsReceiving, AsksSoon}
 use Rattle.proof_delivery.proofs.SenderToolLemmas.{goes_none}
 use Rattle.proof_delivery.proofs.ReadingDataLemmas.{RequestReceived}
-use Rattle.proof_delivery.proofs.ReadingLemmas.{front_of, front_at, front_unseen, below_front}
+use Rattle.proof_delivery.proofs.ReadingLemmas.{front_of, front_at, front_unseen, below_front, last_is_read}
 use Rattle.proof_delivery.proofs.ReceiverDataLemmas.{Leads}
 
 -- ---- what is emitted
@@ -223,13 +223,29 @@ module _ (message : ℕ → Message) (is_interleaved : Bool) (handed : List mess
               (inr (record { ask = d.ask; there = d.there; last = number_now; result = refl; reset = d.reset; is = d.is; streams = d.streams }));
         }))
 
-    module _ (window : IsInWindow (transfer_of x)) where
+    module _ (window : IsInWindow (transfer_of x)) (soon : AsksSoon x) where
+      -- it waits for its answer
+      waits_now : slice_get x.asks x.answered ≡ Some h.ask
+      waits_now =
+          let l = slice_get_within x.asks x.done h.ask there in
+          let o = kept.asked.order in
+          let a = o.0 in
+          let b = o.2 in
+          let same : x.answered ≡ x.done = omega (arith, l, a, b) in
+          ap (λ (k : ℕ). slice_get x.asks k) same ∙ there
+
+      -- so its last TSN is read as it was meant
+      last_is : suc (number_of t.tracker last_tsn) ≡ origin + h.ask.upto
+      last_is =
+          last_is_read message is_interleaved (base_now x.rules) shown.shift (transfer_of x) handed t.tracker t.reassembly h.ask.upto last_tsn kept.epochs.order.kept window shown.refines shown.is_tracker
+          h.within (soon h.ask waits_now) h.tsn_is
+
       module _ (ahead : is_ahead last_tsn t ≡ true) where
         front_before : front_of t.tracker.tracker < h.ask.upto
         front_before =
             let l = ltb-true t.tracker.tracker.seen.front (number_of t.tracker last_tsn) ahead in
             let e = front_is in
-            let last = h.last_is in
+            let last = last_is in
             omega (arith, l, e, last)
 
         -- the fragment with its last TSN
@@ -293,7 +309,7 @@ module _ (message : ℕ → Message) (is_interleaved : Bool) (handed : List mess
         all_seen k l =
             let m = ltb-false t.tracker.tracker.seen.front (number_of t.tracker last_tsn) come in
             let e = front_is in
-            let last = h.last_is in
+            let last = last_is in
             sym (shown.refines.seen k)
             ∙ below_front message is_interleaved (base_now x.rules) shown.shift (transfer_of x) kept.epochs.order.kept handed t.tracker.tracker t.reassembly shown.refines shown.is_tracker k (omega (arith, l, m, e, last))
 

@@ -2,12 +2,12 @@
 use Rattle.std.proofs.Common.{◌≡◌, ℕ, ◌+◌, ◌-◌, Bool, inl, List, [], ◌∷◌, refl, ap, arith}
 use Rattle.sctp_serial.specs.Messages as messages
 use Rattle.sctp_serial.specs.Unwrapped.{origin, u32_space, wire}
-use Rattle.proof_protocol.specs.State.{Message, count}
+use Rattle.proof_protocol.specs.State.{Message}
 use Rattle.proof_protocol.specs.Rules.{IsAllowed, send_sack}
-use Rattle.proof_rx_refines.specs.Resets.{base_now}
-use Rattle.proof_rx_refines.proofs.RowLemmas.{sack_allowed, sender_goes}
-use Rattle.proof_rx_refines.proofs.NearRowLemmas.{sender_keeps}
-use Rattle.proof_rx_refines.proofs.NearKeptLemmas.{sender_keeps_mids}
+use Rattle.proof_refines.specs.Resets.{base_now}
+use Rattle.proof_refines.proofs.RowLemmas.{sack_allowed, sender_goes}
+use Rattle.proof_refines.proofs.NearRowLemmas.{sender_keeps}
+use Rattle.proof_refines.proofs.NearKeptLemmas.{sender_keeps_mids}
 use Rattle.spec_endpoint.specs.Association.{Tcb}
 use Rattle.spec_endpoint.specs.Sending.{selective_ack}
 use Rattle.proof_delivery.proofs.ClaimLemmas.{Direction, transfer_of, IsKept, IsReceiving, SaysIn}
@@ -49,7 +49,7 @@ module _ (message : ℕ → Message) (is_interleaved : Bool) (x : Direction) (ke
     };
   }
 
-  sack_says : SaysIn t.tracker.first (transfer_of x).acknowledged (count (transfer_of x).sender) sack_sent (selective_ack t)
+  sack_says : SaysIn t.tracker.first (transfer_of x).acknowledged sack_sent (selective_ack t)
   sack_says =
       let at = front_at message is_interleaved (base_now x.rules) shown.shift (transfer_of x) kept.epochs.order.kept handed t.tracker.tracker t.reassembly shown.refines shown.is_tracker in
       let between = front_between message is_interleaved (base_now x.rules) shown.shift (transfer_of x) kept.epochs.order.kept handed t.tracker.tracker t.reassembly shown.refines shown.is_tracker in
@@ -59,9 +59,8 @@ module _ (message : ℕ → Message) (is_interleaved : Bool) (x : Direction) (ke
         sent = inl refl;
         written = ap (λ n. wire u32_space t.tracker.first n) front;
         from = between.0;
-        to = between.1;
       }
 
   -- it leads on, and says what is true then
-  pub sack_made : (l : Leads message is_interleaved handed x t) × SaysIn t.tracker.first (transfer_of x).acknowledged (count (transfer_of x).sender) l.to (selective_ack t)
+  pub sack_made : (l : Leads message is_interleaved handed x t) × SaysIn t.tracker.first (transfer_of x).acknowledged l.to (selective_ack t)
   sack_made = (sack_leads, sack_says)

@@ -11,7 +11,7 @@ use Rattle.sctp_tx.specs.RetransmissionQueue.{Sender}
 use Rattle.sctp_rx.specs.Seen.{Seen, contains}
 use Rattle.sctp_rx.specs.ReassemblyQueue.{Deferred}
 use Rattle.sctp_rx.specs.DataTracker.{Tracker, IsTracker}
-use Rattle.proof_protocol.specs.State.{Message, count}
+use Rattle.proof_protocol.specs.State.{Message}
 use Rattle.spec_endpoint.specs.Association.{Tcb, Phase, Packing}
 use Rattle.spec_endpoint.specs.Packets.{PacketDraft, add_all, header_to, emit_if}
 use Rattle.spec_endpoint.specs.ResetRequests.{Requests}
@@ -28,10 +28,10 @@ use Rattle.proof_delivery.proofs.SenderToolLemmas.{goes_none, goes_on, all_in_st
 use Rattle.proof_delivery.proofs.ReceiverDataLemmas.{Leads}
 
 -- chunks of no weight here
-pub plain_says : (first least most : ℕ) (x : Direction) (chunk : ChunkTree) → is_plain chunk ≡ true → SaysIn first least most x chunk
-plain_says first least most x (sack_chunk k) e = cc
-plain_says first least most x (re_config_chunk parameters) e = cc
-plain_says first least most x chunk e = tt
+pub plain_says : (first least : ℕ) (x : Direction) (chunk : ChunkTree) → is_plain chunk ≡ true → SaysIn first least x chunk
+plain_says first least x (sack_chunk k) e = cc
+plain_says first least x (re_config_chunk parameters) e = cc
+plain_says first least x chunk e = tt
 
 -- with the same last request of the peer
 answers_by : (first done : ℕ) (asks : List ResetRequest) (q r : Requests) (d : Option Deferred) → q.last ≡ r.last → q.result ≡ r.result → IsAnswering first done asks r d → IsAnswering first done asks q d
@@ -80,14 +80,11 @@ module _ (message : ℕ → Message) (lifecycle : ℕ → Option ℕ) (is_interl
   abbrev least : ℕ
   least = (transfer_of from).acknowledged
 
-  abbrev most : ℕ
-  most = count (transfer_of from).sender
-
   abbrev Says : (first : ℕ) → Direction → List ChunkTree → Type 0
-  Says first x chunks = All (SaysIn first least most x) chunks
+  Says first x chunks = All (SaysIn first least x) chunks
 
   abbrev SaysAll : (first : ℕ) → Direction → List Carried → Type 0
-  SaysAll first x ps = All (λ (p : Carried). All (SaysIn first least most x) p.chunks) ps
+  SaysAll first x ps = All (λ (p : Carried). All (SaysIn first least x) p.chunks) ps
 
   abbrev Claim : EndWithPacket Carried → Direction → Type 0
   Claim m x = ReceiverClaim message is_interleaved from handed m x
@@ -115,8 +112,8 @@ module _ (message : ℕ → Message) (lifecycle : ℕ → Option ℕ) (is_interl
         stay = (s.stay.0 ∙ c.stay.0, s.stay.1 ∙ c.stay.1);
         shown = s.shown;
         performed = λ n. let p = c.performed n in let q = s.performed n in omega (arith, p, q);
-        emitted = s.emitted (emitted_in_stays message is_interleaved goes_in x y c.kept.epochs s.goes first least most (packets_in a.context.emitted.events) c.emitted);
-        made = s.made (all_in_stay message is_interleaved goes_in x y c.kept.epochs s.goes first least most a.packet.chunks c.made);
+        emitted = s.emitted (emitted_in_stays message is_interleaved goes_in x y c.kept.epochs s.goes first least (packets_in a.context.emitted.events) c.emitted);
+        made = s.made (all_in_stay message is_interleaved goes_in x y c.kept.epochs s.goes first least a.packet.chunks c.made);
       }
 
   pub goes_through : (a b c : EndWithPacket Carried) → Goes a b → Goes b c → Goes a c
@@ -170,21 +167,21 @@ module _ (message : ℕ → Message) (lifecycle : ℕ → Option ℕ) (is_interl
   -- ---- packets
 
   pub goes_adding : (m : EndWithPacket Carried) (chunk : ChunkTree)
-      → ((x : Direction) → Claim m x → SaysIn (first_in m.state) least most x chunk) → Goes m (with_chunk chunk m)
+      → ((x : Direction) → Claim m x → SaysIn (first_in m.state) least x chunk) → Goes m (with_chunk chunk m)
   goes_adding m chunk says x claim =
       stays_by m (with_chunk chunk m) x claim claim.shown (λ s. refl) (λ h. h)
-      (λ h. holds_added (λ tag. SaysIn (first_in m.state) least most x) m.packet chunk h (says x claim))
+      (λ h. holds_added (λ tag. SaysIn (first_in m.state) least x) m.packet chunk h (says x claim))
 
   pub goes_adding_all : (m : EndWithPacket Carried) (chunks : List ChunkTree)
       → ((x : Direction) → Says (first_in m.state) x chunks) → Goes m (with_packet (add_all chunks m.packet) m)
   goes_adding_all m chunks says x claim =
       stays_by m (with_packet (add_all chunks m.packet) m) x claim claim.shown (λ s. refl) (λ h. h)
-      (λ h. holds_all_added (λ tag. SaysIn (first_in m.state) least most x) chunks m.packet h (λ tag. says x))
+      (λ h. holds_all_added (λ tag. SaysIn (first_in m.state) least x) chunks m.packet h (λ tag. says x))
 
   pub goes_begun : (p : PacketDraft) (m : EndWithPacket Carried) → p.chunks ≡ [] → Goes m (with_packet p m)
   goes_begun p m new x claim =
       stays_by m (with_packet p m) x claim claim.shown (λ s. refl) (λ h. h)
-      (λ h. subst (Says (first_in m.state) x) (sym new) (All-nil (SaysIn (first_in m.state) least most x)))
+      (λ h. subst (Says (first_in m.state) x) (sym new) (All-nil (SaysIn (first_in m.state) least x)))
 
   pub goes_emitted : (m : EndWithPacket Carried) → m.context.pack ≡ as_carried
       → Goes m (record m { context = emit_if true m.packet m.context; packet = record m.packet { chunks = [] } })
@@ -198,4 +195,4 @@ module _ (message : ℕ → Message) (lifecycle : ℕ → Option ℕ) (is_interl
       stays_by m (record m { context = emit_if true m.packet m.context; packet = record m.packet { chunks = [] } }) x claim claim.shown
       (λ s. emitted_same s m.context.emitted.events (m.context.emitted.events ++ SendPacket p ∷ []) (none_behind m.context.emitted.events (SendPacket p ∷ []) refl))
       (λ h. subst (SaysAll first x) (sym (packets_both m.context.emitted.events (SendPacket p ∷ []))) (All-push Q (packets_in m.context.emitted.events) p h says))
-      (λ h. All-nil (SaysIn first least most x))
+      (λ h. All-nil (SaysIn first least x))

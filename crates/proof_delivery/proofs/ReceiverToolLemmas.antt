@@ -12,7 +12,7 @@ use Rattle.proof_protocol.specs.Rules.{TransferEvent, accept, begin, number, end
 use Rattle.proof_protocol.specs.Resets.{Request, Epochs, ResetEvent, transfers, reset_stream, send_request, perform, commit, goes, MayAll, go_all}
 use Rattle.proof_protocol.specs.Based.{InEpochs}
 use Rattle.proof_protocol.proofs.BasedLemmas.{keeps_epochs, all_in_epochs}
-use Rattle.proof_rx_refines.specs.Resets.{AreNextTo, IsWaitingFor}
+use Rattle.proof_refines.specs.Resets.{AreNextTo, IsWaitingFor}
 use Rattle.proof_endpoint.specs.Mapped.{Carried}
 use Rattle.proof_delivery.specs.Asks.{ResetRequest, AreRequested, SaysIncoming}
 use Rattle.proof_delivery.proofs.AsksLemmas.{asks_stay}
@@ -145,21 +145,21 @@ module _ (x y : Epochs) (performed : y.performed ≡ x.performed) (sent : (r : R
 
 -- ---- where no SACK was sent and nothing performed, none was said, whatever the first TSN is
 
-module _ (x : Direction) (none : (transfer_of x).sacks ≡ []) (none_done : x.done ≡ 0) (one other least most : ℕ) where
+module _ (x : Direction) (none : (transfer_of x).sacks ≡ []) (none_done : x.done ≡ 0) (one other least : ℕ) where
   none_answered : (p : ParameterTree) → SaysIncoming one x.done (length x.asks) p → SaysIncoming other x.done (length x.asks) p
   none_answered (reset_response n result sender receiver) h = λ final. let l = (h final).below in absurd (omega (arith, l, none_done))
   none_answered p h = h
 
-  none_said : (chunk : ChunkTree) → SaysIn one least most x chunk → SaysIn other least most x chunk
+  none_said : (chunk : ChunkTree) → SaysIn one least x chunk → SaysIn other least x chunk
   none_said (sack_chunk k) s = absurd (subst (IsAmong s.point) none s.sent)
   none_said (re_config_chunk parameters) s = All-weaker (SaysIncoming one x.done (length x.asks)) (SaysIncoming other x.done (length x.asks)) none_answered parameters s
   none_said chunk s = s
 
-  pub no_chunks_said : (chunks : List ChunkTree) → All (SaysIn one least most x) chunks → All (SaysIn other least most x) chunks
-  no_chunks_said chunks a = All-weaker (SaysIn one least most x) (SaysIn other least most x) none_said chunks a
+  pub no_chunks_said : (chunks : List ChunkTree) → All (SaysIn one least x) chunks → All (SaysIn other least x) chunks
+  no_chunks_said chunks a = All-weaker (SaysIn one least x) (SaysIn other least x) none_said chunks a
 
-  pub no_packets_said : (ps : List Carried) → All (λ (p : Carried). All (SaysIn one least most x) p.chunks) ps
-      → All (λ (p : Carried). All (SaysIn other least most x) p.chunks) ps
+  pub no_packets_said : (ps : List Carried) → All (λ (p : Carried). All (SaysIn one least x) p.chunks) ps
+      → All (λ (p : Carried). All (SaysIn other least x) p.chunks) ps
   no_packets_said ps a =
-      All-weaker (λ (p : Carried). All (SaysIn one least most x) p.chunks) (λ (p : Carried). All (SaysIn other least most x) p.chunks)
+      All-weaker (λ (p : Carried). All (SaysIn one least x) p.chunks) (λ (p : Carried). All (SaysIn other least x) p.chunks)
       (λ p s. no_chunks_said p.chunks s) ps a

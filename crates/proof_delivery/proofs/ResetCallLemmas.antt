@@ -4,7 +4,7 @@ use Rattle.rand_core.specs.Stream.{Stream}
 use Rattle.sctp_serial.specs.Messages as messages
 use Rattle.sctp_state.specs.declared.api.errors.ResetStreamsError.{ResetStreamsError}
 use Rattle.sctp_state.specs.Events.{Emitted, nothing_emitted}
-use Rattle.proof_protocol.specs.State.{Message, count}
+use Rattle.proof_protocol.specs.State.{Message}
 use Rattle.spec_endpoint.specs.Association.{Phase, Tcb, State, Closed, CookieWait, Open, Context, EndpointState, Endpoint, with_context}
 use Rattle.spec_endpoint.specs.Sending.{send_in}
 use Rattle.spec_endpoint.specs.Input.{in_endpoint_state}
@@ -109,7 +109,7 @@ module _ (message : ℕ → Message) (is_interleaved : Bool) (from : Direction) 
     stay = c.stay;
     shown = c.shown;
     performed = λ s. c.performed s ∙ ap (λ (n : ℕ). from.rules.performed s + n) (sym (prepared_emitted s ids e.endpoint_state.context));
-    emitted = subst (λ (ps : List Carried). All (λ (p : Carried). All (SaysIn (first_in e.endpoint_state.state) (transfer_of from).acknowledged (count (transfer_of from).sender) x) p.chunks) ps)
+    emitted = subst (λ (ps : List Carried). All (λ (p : Carried). All (SaysIn (first_in e.endpoint_state.state) (transfer_of from).acknowledged x) p.chunks) ps)
         (sym (prepared_packets ids e.endpoint_state.context)) c.emitted;
     made = c.made;
   }

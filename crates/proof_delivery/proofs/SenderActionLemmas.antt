@@ -17,7 +17,7 @@ use Rattle.proof_protocol.specs.State.{Message, count}
 use Rattle.proof_protocol.specs.Resets.{Epochs, ResetEvent}
 use Rattle.proof_protocol.specs.Based.{InEpochs, Bracketed}
 use Rattle.proof_protocol.proofs.EpochLawsLemmas.{bracketed}
-use Rattle.proof_tx_refines.specs.Reachable.{recorded_places, delivered_ids}
+use Rattle.proof_refines.specs.Reachable.{recorded_places, delivered_ids}
 use Rattle.spec_endpoint.specs.Association.{State, Closed, CookieWait, Open, Context, Endpoint, where_open}
 use Rattle.spec_endpoint.specs.Calls.{ready_in, message_taken_in, send_refusal_of, sent_if}
 use Rattle.spec_endpoint.specs.Opening.{emit_parse_error}
@@ -39,9 +39,9 @@ use Rattle.proof_pair.proofs.HandingLemmas.{hands}
 use Rattle.proof_pair.proofs.AskedLemmas.{is_offer}
 use Rattle.proof_delivery.specs.Accepted.{AcceptedMessage, accepted_by, accepted_in}
 use Rattle.proof_delivery.specs.GivenUp.{pending_emitted, emitted_given, emitted_foreign, emitted_by, given_up_by}
-use Rattle.proof_delivery.specs.Windows.{Stamp, IsYoung, IsTimely, IsWithin, queue_of, numbered_count, stamp_packets}
+use Rattle.proof_delivery.specs.Windows.{Stamp, IsYoung, IsTimely, IsWithin, queue_of, numbered_count, left_count, stamp_packets}
 use Rattle.proof_delivery.specs.Justified.{reset_unless, reset_by}
-use Rattle.proof_delivery.specs.Answered.{numbered_before, IsAnswered, performed_in}
+use Rattle.proof_delivery.specs.Answered.{numbered_before, performed_in}
 use Rattle.proof_delivery.specs.StreamEpochs.{shut_streams, reopen, performed_of, epochs_of, failed_in}
 use Rattle.proof_delivery.proofs.ClaimLemmas.{Direction, transfer_of, goes_out, GoesOn, SaysOut, first_out, first_in, AreSo, SendsIn, ReceivesIn, SenderClaim, ReceivesSacks, SenderGoes, SenderPremises, ReceiverGoes, ReceiverPremises}
 use Rattle.proof_delivery.proofs.FrameLemmas.{is_other, KeepsJoined, Joined, not_other, frame, joined_call}
@@ -49,9 +49,9 @@ use Rattle.proof_delivery.proofs.SenderToolLemmas.{goes_none, goes_on, reports_n
 use Rattle.proof_delivery.proofs.ResetEventsLemmas.{resets_in, performed_counts, performed_names, failed_still}
 use Rattle.proof_delivery.proofs.TraceResetLemmas.{emitted_turned, asked_again}
 use Rattle.proof_delivery.proofs.ResetCallLemmas as calls
-use Rattle.proof_delivery.proofs.WithinLemmas.{numbered_is, Holds}
-use Rattle.proof_delivery.proofs.DirectionLemmas.{AtStamp, each_at, IsUnderWay, says_in, Stands, SoFar, Flows, IsSilent}
-use Rattle.proof_delivery.proofs.PremisesLemmas.{AsksSoon, in_window, IsNoPacket, receives_no_sacks, receives_sacks, holds_of, sender_premises, begins_out}
+use Rattle.proof_delivery.proofs.WithinLemmas.{numbered_is, left_is, Holds}
+use Rattle.proof_delivery.proofs.DirectionLemmas.{least_out, AtStamp, each_at, IsUnderWay, says_in, Stands, SoFar, Flows, IsSilent}
+use Rattle.proof_delivery.proofs.PremisesLemmas.{IsNoPacket, receives_no_sacks, receives_sacks, holds_of, sender_premises, begins_out}
 use Rattle.proof_delivery.proofs.ActionLemmas.{AreOffered, Offers, offers_none, Stay, is_outgoing, outgoing, so_again, after_action, so_far_then, ends_out}
 use Rattle.proof_delivery.proofs.AccountLemmas.{Accounted, accounts_still, accounts_out}
 
@@ -85,7 +85,7 @@ pub record PreservedByActs (message : ℕ → Message) (lifecycle : ℕ → Opti
   -- messages are offered
   pub offered_out : (g : Setting) (call : Call) (x : Direction) (s : Side) → Rules g call → is_offer call ≡ true → SenderPremises message lifecycle is_interleaved g call x
       → AreOffered message lifecycle (transfer_of x).sender.accepted (accepted_by call s) → (transfer_of x).sender.accepted + length (accepted_by call s) < 2 ^ 32
-      → HasNoEnd (calm (called call s.end)) → InvAt g (calm s.end) → IsSilent s → SendsIn message lifecycle is_interleaved (state_of s) (queue_of s) x → AsksSoon x
+      → HasNoEnd (calm (called call s.end)) → InvAt g (calm s.end) → IsSilent s → SendsIn message lifecycle is_interleaved (state_of s) (queue_of s) x
       → OffersOut message lifecycle is_interleaved x (accepted_by call s) (calm (called call s.end))
   pub offered_in : (g : Setting) (call : Call) (x : Direction) (s : Side) (handed : List messages.Message) → Rules g call → is_offer call ≡ true
       → ReceiverPremises message lifecycle is_interleaved g call x → HasNoEnd (calm (called call s.end)) → InvAt g (calm s.end)
@@ -214,31 +214,31 @@ none_fails es none = sym (failed_still es) ∙ ap (λ (fs : List (Event Carried)
 module _ (message : ℕ → Message) (lifecycle : ℕ → Option ℕ) (is_interleaved : Bool) (of : Stamp → ℕ) (parts : PreservedByActs message lifecycle is_interleaved) (o q : Options) (own : AreValidOptions o)
     (other : AreValidOptions q) (mode : is_interleaved ≡ (agreed o q).message_interleaving) (s r : Side) (h : Halves o q s r) (quiet_s : IsSilent s) (quiet_r : IsSilent r)
     (within : IsWithin (state_of s) (queue_of s)) (accepted : ℕ) (handed : List messages.Message) (stamps_s stamps_r : List Stamp) (so_far : SoFar) (x : Direction)
-    (f : Flows message lifecycle is_interleaved of s r accepted handed stamps_s stamps_r so_far x) (soon : IsAnswered (state_of s) so_far.asked) (few_performed : performed_in s.emitted < 2 ^ 32 - 1)
-    (now : Stamp) (at_now : of now ≡ numbered_count (state_of s)) (young : (old : Stamp) → IsYoung now old → of now < of old + 2 ^ 30) where
+    (f : Flows message lifecycle is_interleaved of s r accepted handed stamps_s stamps_r so_far x) (few_performed : performed_in s.emitted < 2 ^ 32 - 1)
+    (now left : Stamp) (at_now : of now ≡ numbered_count (state_of s)) (at_left : of left ≡ left_count (state_of s) + 2 ^ 30) (young : (old : Stamp) → IsYoung now old → of now < of old + 2 ^ 31) where
   pub holds : Holds message lifecycle is_interleaved x (queue_of s) f.kept
   holds = holds_of message lifecycle is_interleaved of o q s r accepted handed stamps_s stamps_r so_far x f within
 
   pub counted : of now ≡ count (transfer_of x).sender
   counted = at_now ∙ numbered_is message lifecycle is_interleaved (state_of s) (queue_of s) x f.sends
 
-  pub near : count (transfer_of x).sender ≤ (transfer_of x).acknowledged + 2 ^ 30
-  near = in_window message x holds.windows
+  acknowledged : least_out of left ≡ (transfer_of x).acknowledged
+  acknowledged = let l = left_is message lifecycle is_interleaved (state_of s) (queue_of s) x f.sends in omega (arith, at_left, l)
 
   pub mode_back : is_interleaved ≡ (agreed q o).message_interleaving
   mode_back = mode ∙ sym (ap (λ c. c.message_interleaving) (agreed_exchanged o q))
 
-  pub young_now : (old : Stamp) → IsYoung now old → count (transfer_of x).sender < of old + 2 ^ 30
+  pub young_now : (old : Stamp) → IsYoung now old → count (transfer_of x).sender < of old + 2 ^ 31
   young_now old y = let l = young old y in omega (arith, counted, l)
 
   -- ---- the sender's action
 
   abbrev pub Out : Side → List AcceptedMessage → SoFar → List ℕ → Type 0
-  Out t os then by = DirectionAfterAction message lifecycle is_interleaved of t r (accepted + length os) handed (stamp_packets s t now stamps_s) stamps_r then x s by
+  Out t os then by = DirectionAfterAction message lifecycle is_interleaved of t r (accepted + length os) handed (stamp_packets s t left stamps_s) stamps_r then x s by
 
   -- nothing is done yet
   start : SenderClaim message lifecycle is_interleaved x [] (calm s.end) x
-  start = begins_out message lifecycle is_interleaved of o q s r accepted handed stamps_s stamps_r so_far x f quiet_s soon
+  start = begins_out message lifecycle is_interleaved of o q s r accepted handed stamps_s stamps_r so_far x f quiet_s
 
   premises_out : (asked : Bool) (call : Call) → ReceivesSacks call (first_in (state_of r)) x → SenderPremises message lifecycle is_interleaved (setting o q s r asked) call x
   premises_out asked call receives = sender_premises message lifecycle is_interleaved of o q s r accepted handed stamps_s stamps_r so_far x f asked call own mode few_performed receives
@@ -249,9 +249,9 @@ module _ (message : ℕ → Message) (lifecycle : ℕ → Option ℕ) (is_interl
   still_out : (n : ℕ) → n ≡ so_far.asked → Out s [] (record { streams = reopen [] (shut_streams [] so_far.streams); epochs = so_far.epochs ++ []; asked = n }) []
   still_out n same = record {
     to = x;
-    flows = flows_again message lifecycle is_interleaved of s r (accepted + 0) handed (stamp_packets s s now stamps_s) stamps_r so_far
+    flows = flows_again message lifecycle is_interleaved of s r (accepted + 0) handed (stamp_packets s s left stamps_s) stamps_r so_far
         (record { streams = reopen [] (shut_streams [] so_far.streams); epochs = so_far.epochs ++ []; asked = n }) x (λ k. refl) (append-nil so_far.epochs) same
-        (subst (λ (ss : List Stamp). Flows message lifecycle is_interleaved of s r (accepted + 0) handed ss stamps_r so_far x) (sym (none_more (emitted_packets s) now stamps_s))
+        (subst (λ (ss : List Stamp). Flows message lifecycle is_interleaved of s r (accepted + 0) handed ss stamps_r so_far x) (sym (none_more (emitted_packets s) left stamps_s))
         (subst (λ (n : ℕ). Flows message lifecycle is_interleaved of s r n handed stamps_s stamps_r so_far x) (plus_none accepted) f));
     bracketed = goes_bracketed message is_interleaved is_outgoing x x f.kept.epochs (goes_none message is_interleaved is_outgoing x);
     accounts = λ abandoned a. accounts_still lifecycle s abandoned x a;
@@ -267,7 +267,7 @@ module _ (message : ℕ → Message) (lifecycle : ℕ → Option ℕ) (is_interl
       let none : Offers message is_interleaved 0 x x = offers_none message is_interleaved x f.kept in
       record {
         to = y;
-        flows = ends_out message lifecycle is_interleaved of parts.stay s r accepted handed stamps_s stamps_r so_far x f now counted near asked [] prepared x y e none tt c stands;
+        flows = ends_out message lifecycle is_interleaved of parts.stay s r accepted handed stamps_s stamps_r so_far x f left asked acknowledged [] prepared x y e none tt c stands;
         bracketed = goes_bracketed message is_interleaved goes_out x y f.kept.epochs c.goes;
         accounts = λ abandoned a. accounts_out message lifecycle is_interleaved s abandoned x a 0 prepared x y e asked none c;
       }
@@ -292,10 +292,10 @@ module _ (message : ℕ → Message) (lifecycle : ℕ → Option ℕ) (is_interl
       let c : OffersOut message lifecycle is_interleaved x os (calm (called call s.end)) =
       parts.offered_out g call x s rules offer (premises_out s.got_init call (none_received call plain))
       (subst (λ (n : ℕ). AreOffered message lifecycle n os) (sym f.accepted_is) are) (subst (λ (n : ℕ). n + length os < 2 ^ 32) (sym f.accepted_is) few)
-      none (begins o q s r s.got_init (λ z. z) h.own h.other) quiet_s f.sends start.near in
+      none (begins o q s r s.got_init (λ z. z) h.own h.other) quiet_s f.sends in
       record {
         to = c.to;
-        flows = ends_out message lifecycle is_interleaved of parts.stay s r accepted handed stamps_s stamps_r so_far x f now counted near s.got_init os [] c.mid c.to (called call s.end)
+        flows = ends_out message lifecycle is_interleaved of parts.stay s r accepted handed stamps_s stamps_r so_far x f left s.got_init acknowledged os [] c.mid c.to (called call s.end)
             c.offers are c.claim stands;
         bracketed = goes_bracketed message is_interleaved is_outgoing x c.to f.kept.epochs (goes_on message is_interleaved is_outgoing x c.mid c.to c.offers.goes (outgoing message is_interleaved c.mid c.to c.claim.goes));
         accounts = λ abandoned a. accounts_out message lifecycle is_interleaved s abandoned x a (length os) [] c.mid c.to (called call s.end) s.got_init c.offers c.claim;
@@ -309,15 +309,14 @@ module _ (message : ℕ → Message) (lifecycle : ℕ → Option ℕ) (is_interl
     goes = goes_none message is_interleaved goes_out x;
     done = refl;
     shown = shown;
-    near = start.near;
     since = start.since;
     given_up = given_up_is;
     reported = reports_none lifecycle (transfer_of x) (transfer_of x) [] m.context.emitted.events refl reports;
     performed = let none = none_performed m.context.emitted.events resets in omega (arith, none);
     epochs = λ k so. subst (λ (ns : List ℕ). AreSo (reopen ns (shut_streams [] k)) x.rules) (sym (none_named m.context.emitted.events resets)) so;
     none_failed = none_fails m.context.emitted.events resets;
-    emitted = subst (λ (ps : List Carried). All (λ (p : Carried). All (SaysOut message is_interleaved (first_out m.state) (transfer_of x).acknowledged (count (transfer_of x).sender) x) p.chunks) ps) (sym emitted) (All-nil _);
-    made = subst (λ (cs : List ChunkTree). All (SaysOut message is_interleaved (first_out m.state) (transfer_of x).acknowledged (count (transfer_of x).sender) x) cs) (sym made) (All-nil _);
+    emitted = subst (λ (ps : List Carried). All (λ (p : Carried). All (SaysOut message is_interleaved (first_out m.state) (transfer_of x).acknowledged x) p.chunks) ps) (sym emitted) (All-nil _);
+    made = subst (λ (cs : List ChunkTree). All (SaysOut message is_interleaved (first_out m.state) (transfer_of x).acknowledged x) cs) (sym made) (All-nil _);
   }
 
   taken_out : Stands (state_of s) (message_taken_in s.end.endpoint_state.context.options (state_of s)) → Out (act (Calls TakeMessage) s r) [] (so_far_after_action (Calls TakeMessage) s r so_far) (given_up_by (Calls TakeMessage) s r)
@@ -404,7 +403,7 @@ module _ (message : ℕ → Message) (lifecycle : ℕ → Option ℕ) (is_interl
       each_at (λ stamp p. IsUnderWay (says_in message is_interleaved (first_in (state_of r))) x (of stamp) p) (emitted_packets r) stamps_r n p there f.answers in
       joined_out (s.got_init || (p.header.verification_tag == 0)) (ReceivePacket (as_received p checksum)) (rules_given o q s r own other p checksum n there) refl
       (or_left s.got_init (p.header.verification_tag == 0)) (none_of s.emitted (called (ReceivePacket (as_received p checksum)) s.end).endpoint_state.context.emitted.events none)
-      (receives_sacks message is_interleaved (first_in (state_of r)) x (of a.stamp) p checksum a.holds (young_now a.stamp (timely a.stamp a.there))) stands
+      (receives_sacks message is_interleaved (first_in (state_of r)) x (of a.stamp) p checksum a.holds holds.windows (young_now a.stamp (timely a.stamp a.there))) stands
 
   foreign_out : (text : Option (List ℕ)) (p : PacketTree) → packet_refusal p.header.verification_tag p.chunks (state_of s) ≡ text
       → Out (foreign_if text p s) [] (so_emitted (foreign_if text p s) (emitted_foreign text p s)) (recorded_places (emitted_foreign text p s))
@@ -437,7 +436,6 @@ module _ (message : ℕ → Message) (lifecycle : ℕ → Option ℕ) (is_interl
     goes = c.goes;
     done = c.done;
     shown = c.shown;
-    near = c.near;
     since = c.since;
     given_up = c.given_up;
     reported = c.reported;
@@ -525,7 +523,7 @@ module _ (message : ℕ → Message) (lifecycle : ℕ → Option ℕ) (is_interl
           each_at (λ stamp p. IsUnderWay (says_in message is_interleaved (first_in (state_of r))) x (of stamp) p) (emitted_packets r) stamps_r n p there f.answers in
           joined_until (s.got_init || (p.header.verification_tag == 0)) (ReceivePacket (as_received p checksum)) (rules_given o q s r own other p checksum n there) refl
           (or_left s.got_init (p.header.verification_tag == 0))
-          (receives_sacks message is_interleaved (first_in (state_of r)) x (of a.stamp) p checksum a.holds (young_now a.stamp (timely a.stamp a.there))) early late is none
+          (receives_sacks message is_interleaved (first_in (state_of r)) x (of a.stamp) p checksum a.holds holds.windows (young_now a.stamp (timely a.stamp a.there))) early late is none
 
       by_foreign : (text : Option (List ℕ)) (p : PacketTree) → packet_refusal p.header.verification_tag p.chunks (state_of s) ≡ text → endings (emitted_foreign text p s).events ≡ 0
       by_foreign None p is = refl

@@ -9,7 +9,7 @@ use Rattle.std.proofs.Math.Bool.{or-true, or-false}
 use Rattle.sctp_tx_queue.specs.SendQueue.{Queue}
 use Rattle.proof_protocol.specs.State.{has}
 use Rattle.proof_protocol.specs.Resets.{Epochs}
-use Rattle.proof_tx_refines.specs.Asked.{AreSameAsked}
+use Rattle.proof_refines.specs.Asked.{AreSameAsked}
 use Rattle.spec_endpoint.specs.ResetRequests.{Request, Requests, Unsettled, Done, outcome, outcome_by, outcome_if, is_final, is_success, without_deferral, clear_deferral, defer_request, end_or_defer, response_if, handle_response_in}
 use Rattle.spec_endpoint.specs.ResetRequests as requests
 use Rattle.proof_delivery.specs.Asks.{ResetRequest, named_in, IsRequestOf, IsAsking}

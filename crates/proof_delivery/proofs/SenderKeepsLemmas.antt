@@ -4,7 +4,7 @@ use Rattle.sctp_packet.specs.Chunk.{re_config_chunk}
 use Rattle.sctp_tx_queue.specs.declared.send_queue.stream.ResetStep.TheVariants.{Requested}
 use Rattle.sctp_tx_queue.specs.SendQueue.{Queue}
 use Rattle.sctp_tx_queue.specs.Resets.{each_stepped, streams_to_request, request_resets}
-use Rattle.proof_protocol.specs.State.{Message, count}
+use Rattle.proof_protocol.specs.State.{Message}
 use Rattle.spec_endpoint.specs.Association.{CookieEchoed, CookieWait}
 use Rattle.spec_endpoint.specs.Sack.{timed_by}
 use Rattle.spec_endpoint.specs.ResetRequests.{clear_deferral}
@@ -14,7 +14,7 @@ use Rattle.proof_endpoint.specs.Mapped.{Carried}
 use Rattle.sctp_rx.specs.DataTracker.{ack_timeout}
 use Rattle.proof_endpoint.specs.Acts.{EndWithPacket, in_open, in_state, with_chunk, with_context, SackAct, takes_sack, samples, counts_errors, before_sack, after_sack, SendingAct, asks, forces_ack, adds_ack, expires, adds_forward, forwards_later, asks_no_reset, asks_reset, adds_request, sends, sends_fast, before_sending, after_sending, TimeAct, advances, delay_ends, times_out, beats, times_init, times_cookie, times_request, times_items, wakes_request, before_time, after_time, ResetAct, prepares, defers, performs, processes, takes_response, adds_responses, before_reset, after_reset}
 use Rattle.proof_pair.proofs.JoinActsLemmas.{Setting, InvAt}
-use Rattle.proof_delivery.proofs.ClaimLemmas.{Direction, transfer_of, SendsIn, SenderGoes, SenderPremises}
+use Rattle.proof_delivery.proofs.ClaimLemmas.{Direction, SendsIn, SenderGoes, SenderPremises}
 use Rattle.proof_delivery.proofs.FrameLemmas.{IsReceivedReset, KeepsJoined}
 use Rattle.proof_delivery.proofs.SenderAsksLemmas.{asking_reads, asking_woken}
 use Rattle.proof_delivery.proofs.SenderStaysLemmas.{emits_nothing, responses_ask_nothing, goes_through, goes_same, goes_saying, goes_adding, goes_open, packet_act_goes, closing_act_goes, data_act_goes, call_act_goes, defers_goes, performs_goes, processes_goes, input_act_goes}
@@ -46,7 +46,7 @@ module _ (message : ℕ → Message) (lifecycle : ℕ → Option ℕ) (is_interl
     keeps_sending (adds_ack phase t m) inv later =
         goes_through message lifecycle is_interleaved from (in_open phase t m) (in_open phase (without_duplicates t) m) (with_chunk (selective_ack t) (in_open phase (without_duplicates t) m))
         (goes_open message lifecycle is_interleaved from phase phase t (without_duplicates t) m refl refl refl (λ x h. h))
-        (goes_adding message lifecycle is_interleaved from (in_open phase (without_duplicates t) m) (selective_ack t) (λ first least most x. tt))
+        (goes_adding message lifecycle is_interleaved from (in_open phase (without_duplicates t) m) (selective_ack t) (λ first least x. tt))
     keeps_sending (expires phase t m) inv later = expires_keeps message lifecycle is_interleaved from call phase t m
     keeps_sending (adds_forward phase t m due) inv later = adds_forward_keeps message lifecycle is_interleaved from call p.kept phase t m due
     keeps_sending (forwards_later n m) inv later =
@@ -86,7 +86,7 @@ module _ (message : ℕ → Message) (lifecycle : ℕ → Option ℕ) (is_interl
         takes_response_keeps message lifecycle is_interleaved from g call p rto number result sender receiver phase t m asked inv
     keeps_reset (adds_responses responses phase t m are answers) on inv =
         goes_saying message lifecycle is_interleaved from (in_open phase t m) (re_config_chunk responses)
-        (λ prepared x claim. responses_ask_nothing t.sender.outstanding.first (count (transfer_of from).sender) x.asks responses are)
+        (λ prepared x claim. responses_ask_nothing t.sender.outstanding.first x.asks responses are)
 
     pub sender_keeps : KeepsJoined g call (SenderGoes message lifecycle is_interleaved from)
     sender_keeps = record {

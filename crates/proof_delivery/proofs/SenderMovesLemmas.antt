@@ -20,23 +20,23 @@ use Rattle.sctp_tx.specs.RetransmissionQueue.{Sender, handle_sack, step_of, time
 use Rattle.sctp_tx.specs.Resent.{resent_fast, send_fast}
 use Rattle.sctp_tx.specs.ForwardPoints.{abandon_expired, forward_chunk}
 use Rattle.sctp_tx.specs.Sending.{send}
-use Rattle.proof_protocol.specs.State.{Message, ForwardPoint, Transfer, count}
+use Rattle.proof_protocol.specs.State.{Message, ForwardPoint, Transfer}
 use Rattle.proof_protocol.specs.Rules.{TransferEvent, acknowledge_next, send_forward}
 use Rattle.proof_protocol.specs.Joints.{reports_of}
-use Rattle.proof_tx_refines.specs.Asked.{AreSameAsked}
-use Rattle.proof_tx_refines.specs.Refinement.{SenderRefines}
-use Rattle.proof_tx_refines.specs.Following.{FollowsEpochs, LeadsInEpochs}
-use Rattle.proof_tx_refines.specs.Reachable.{given_up_places, recorded_places, is_sending, SenderLeadsTo, delivered_ids}
-use Rattle.proof_tx_refines.specs.Points.{chunk_of}
-use Rattle.proof_tx_refines.specs.Rows.{AllCarry}
-use Rattle.proof_tx_refines.proofs.AskedLemmas.{send_asked}
-use Rattle.proof_tx_refines.proofs.BreakLemmas.{nacks_keep, expiries_keep, points_end}
-use Rattle.proof_tx_refines.proofs.FollowLemmas.{others_follow}
-use Rattle.proof_tx_refines.proofs.FollowPacketLemmas.{items_follow, sending_follows, fast_follows, receiving_follows, leaves_send as all_leaves}
-use Rattle.proof_tx_refines.proofs.LedLemmas.{given_more}
-use Rattle.proof_tx_refines.proofs.PointLemmas.{point_row}
-use Rattle.proof_tx_refines.proofs.SendLemmas.{fast_row, send_row}
-use Rattle.proof_tx_refines.proofs.WholeLemmas.{timeout_row, expiry_row, received_row, shown_again}
+use Rattle.proof_refines.specs.Asked.{AreSameAsked}
+use Rattle.proof_refines.specs.SenderRefinement.{SenderRefines}
+use Rattle.proof_refines.specs.Following.{FollowsEpochs, LeadsInEpochs}
+use Rattle.proof_refines.specs.Reachable.{given_up_places, recorded_places, is_sending, SenderLeadsTo, delivered_ids}
+use Rattle.proof_refines.specs.Points.{chunk_of}
+use Rattle.proof_refines.specs.Rows.{AllCarry}
+use Rattle.proof_refines.proofs.AskedLemmas.{send_asked}
+use Rattle.proof_refines.proofs.BreakLemmas.{nacks_keep, expiries_keep, points_end}
+use Rattle.proof_refines.proofs.FollowLemmas.{others_follow}
+use Rattle.proof_refines.proofs.FollowPacketLemmas.{items_follow, sending_follows, fast_follows, receiving_follows, leaves_send as all_leaves}
+use Rattle.proof_refines.proofs.LedLemmas.{given_more}
+use Rattle.proof_refines.proofs.PointLemmas.{point_row}
+use Rattle.proof_refines.proofs.SendLemmas.{fast_row, send_row}
+use Rattle.proof_refines.proofs.WholeLemmas.{timeout_row, expiry_row, received_row, shown_again}
 use Rattle.spec_endpoint.specs.Association.{Tcb, Phase, Context}
 use Rattle.spec_endpoint.specs.Packets.{PacketDraft, room, add, add_all}
 use Rattle.spec_endpoint.specs.Sending.{data_chunk_of, data_chunks, is_small, fast_most}
@@ -58,16 +58,16 @@ use Rattle.proof_delivery.proofs.SenderToolLemmas.{with_transfer, transfers_go, 
 
 -- ---- chunks that are put into a packet
 
-module _ (message : ℕ → Message) (is_interleaved : Bool) (first least most : ℕ) (x : Direction) where
+module _ (message : ℕ → Message) (is_interleaved : Bool) (first least : ℕ) (x : Direction) where
   abbrev Says : ChunkTree → Type 0
-  Says chunk = SaysOut message is_interleaved first least most x chunk
+  Says chunk = SaysOut message is_interleaved first least x chunk
 
-  says_added : (p : PacketDraft) (chunk : ChunkTree) → All (SaysOut message is_interleaved first least most x) p.chunks → Says chunk → All (SaysOut message is_interleaved first least most x) (add chunk p).chunks
-  says_added p chunk a s = holds_added (λ tag. SaysOut message is_interleaved first least most x) p chunk a s
+  says_added : (p : PacketDraft) (chunk : ChunkTree) → All (SaysOut message is_interleaved first least x) p.chunks → Says chunk → All (SaysOut message is_interleaved first least x) (add chunk p).chunks
+  says_added p chunk a s = holds_added (λ tag. SaysOut message is_interleaved first least x) p chunk a s
 
-  says_all_added : (p : PacketDraft) (chunks : List ChunkTree) → All (SaysOut message is_interleaved first least most x) p.chunks → All (SaysOut message is_interleaved first least most x) chunks
-      → All (SaysOut message is_interleaved first least most x) (add_all chunks p).chunks
-  says_all_added p chunks a s = holds_all_added (λ tag. SaysOut message is_interleaved first least most x) chunks p a (λ tag. s)
+  says_all_added : (p : PacketDraft) (chunks : List ChunkTree) → All (SaysOut message is_interleaved first least x) p.chunks → All (SaysOut message is_interleaved first least x) chunks
+      → All (SaysOut message is_interleaved first least x) (add_all chunks p).chunks
+  says_all_added p chunks a s = holds_all_added (λ tag. SaysOut message is_interleaved first least x) chunks p a (λ tag. s)
 
   -- what carries a fragment that is kept
   says_one : (m is_immediate : Bool) → is_interleaved ≡ m → (c : ℕ × FragmentTree) → SaysData message first least (transfer_of x).sender c.0 c.1 → Says (data_chunk_of m is_immediate c)
@@ -75,18 +75,18 @@ module _ (message : ℕ → Message) (is_interleaved : Bool) (first least most :
   says_one false is_immediate e c s = (e, s)
 
   says_data : (m is_immediate : Bool) → is_interleaved ≡ m → (kept : ℕ) → least ≤ kept → (cs : List (ℕ × FragmentTree)) → AllCarry message first kept (transfer_of x).sender cs
-      → All (SaysOut message is_interleaved first least most x) (map (data_chunk_of m is_immediate) cs)
-  says_data m is_immediate e kept l [] a = All-nil (SaysOut message is_interleaved first least most x)
+      → All (SaysOut message is_interleaved first least x) (map (data_chunk_of m is_immediate) cs)
+  says_data m is_immediate e kept l [] a = All-nil (SaysOut message is_interleaved first least x)
   says_data m is_immediate e kept l (c ∷ cs) a =
       let from = a.0.1 in
-      All-cons (SaysOut message is_interleaved first least most x) (data_chunk_of m is_immediate c) (map (data_chunk_of m is_immediate) cs)
+      All-cons (SaysOut message is_interleaved first least x) (data_chunk_of m is_immediate c) (map (data_chunk_of m is_immediate) cs)
       (says_one m is_immediate e c (record { carries = a.0.0; from = omega (arith, from, l) })) (says_data m is_immediate e kept l cs a.1)
 
 -- a point in its chunk
-says_written : (message : ℕ → Message) (is_interleaved : Bool) (first least most : ℕ) (x : Direction) (f : ForwardPoint) → SaysPoint is_interleaved first least (transfer_of x) (chunk_of is_interleaved first f)
-    → SaysOut message is_interleaved first least most x (chunk_of is_interleaved first f)
-says_written message true first least most x f s = s
-says_written message false first least most x f s = s
+says_written : (message : ℕ → Message) (is_interleaved : Bool) (first least : ℕ) (x : Direction) (f : ForwardPoint) → SaysPoint is_interleaved first least (transfer_of x) (chunk_of is_interleaved first f)
+    → SaysOut message is_interleaved first least x (chunk_of is_interleaved first f)
+says_written message true first least x f s = s
+says_written message false first least x f s = s
 
 -- ---- SACKs are sending rules, and give nothing up
 
@@ -164,7 +164,6 @@ module _ (message : ℕ → Message) (lifecycle : ℕ → Option ℕ) (is_interl
           done = refl;
           shown = subst (λ (r : Queue). IsSending message lifecycle is_interleaved (record t { sender = s }) r y) (sym queue_is)
               (shown_on message lifecycle is_interleaved t q q s x l.after a.shown e l.refines f.follows (same_queue message lifecycle is_interleaved q));
-          near = λ n. n;
           since = λ n. n;
           given_up = ap recorded_places emitted_is ∙ recorded_given message lifecycle is_interleaved x l.after l.leads.events r (recorded_places later) (recorded_places m.context.emitted) l.places l.leads.given_up l.recorded;
           reported = reports_none lifecycle (transfer_of x) l.after es c.emitted.events (ap (λ (z : Transfer). z.reports) l.leads.rest_stays)
@@ -215,11 +214,10 @@ module _ (message : ℕ → Message) (lifecycle : ℕ → Option ℕ) (is_interl
       let r = moves message lifecycle is_interleaved x z (send_forward s.point ∷ []) q items a.kept refl leads in
       let first = t.sender.outstanding.first in
       let least = (transfer_of from).acknowledged in
-      let most = count (transfer_of from).sender in
       let left = left_more message lifecycle is_interleaved from prepared (in_open phase t m) x kept a in
       let ahead = s.allowed.ahead in
-      let says : SaysOut message is_interleaved first least most y (forward_chunk t.sender) =
-      subst (SaysOut message is_interleaved first least most y) (sym s.chunk) (says_written message is_interleaved first least most y s.point (record {
+      let says : SaysOut message is_interleaved first least y (forward_chunk t.sender) =
+      subst (SaysOut message is_interleaved first least y) (sym s.chunk) (says_written message is_interleaved first least y s.point (record {
         point = s.point;
         sent = inl refl;
         written = refl;
@@ -239,14 +237,13 @@ module _ (message : ℕ → Message) (lifecycle : ℕ → Option ℕ) (is_interl
             room = a.shown.room;
             asks = a.shown.asks;
           };
-          near = λ n. n;
           since = λ n. n;
           given_up = recorded_given message lifecycle is_interleaved x z (send_forward s.point ∷ []) r (recorded_places m.context.emitted) (recorded_places m.context.emitted) [] refl (sym (append-nil (recorded_places m.context.emitted)));
           reported = reports_none lifecycle (transfer_of x) z es es refl refl;
           resets = emits_no_answer prepared es es x y (no_answer es es refl) refl refl refl;
           first = refl;
           packets = refl;
-          made = λ h. says_added message is_interleaved first least most y m.packet (forward_chunk t.sender) h says;
+          made = λ h. says_added message is_interleaved first least y m.packet (forward_chunk t.sender) h says;
         }),
       )
 
@@ -268,10 +265,9 @@ module _ (message : ℕ → Message) (lifecycle : ℕ → Option ℕ) (is_interl
       let follows = fast_follows message lifecycle is_interleaved x.rules q t.sender a.kept.epochs.order.kept a.shown.refines a.shown.follows now most in
       let first = t.sender.outstanding.first in
       let least = (transfer_of from).acknowledged in
-      let numbered = count (transfer_of from).sender in
       let stays = send_fast_same now most t.sender in
       let chunks = (resent_fast most t.sender).chunks in
-      let says = says_data message is_interleaved first least numbered x t.capabilities.message_interleaving false (interleaves phase t m inv) (transfer_of x).acknowledged
+      let says = says_data message is_interleaved first least x t.capabilities.message_interleaving false (interleaves phase t m inv) (transfer_of x).acknowledged
       (left_more message lifecycle is_interleaved from prepared (in_open phase t m) x premises.kept a) chunks s.1 in
       let b : EndWithPacket Carried = after_sending {call = call} (sends_fast phase t m some) in (
         x,
@@ -280,14 +276,13 @@ module _ (message : ℕ → Message) (lifecycle : ℕ → Option ℕ) (is_interl
           asked = a.kept.asked;
           done = refl;
           shown = shown_on message lifecycle is_interleaved t q q (send_fast now most t.sender) x (transfer_of x) a.shown stays s.0 follows (same_queue message lifecycle is_interleaved q);
-          near = λ n. n;
           since = λ n. n;
           given_up = sym (append-nil (recorded_places m.context.emitted));
           reported = reports_none lifecycle (transfer_of x) (transfer_of x) es es refl refl;
           resets = emits_no_answer prepared es es x x (no_answer es es refl) refl refl refl;
           first = stays.first;
           packets = refl;
-          made = λ h. says_all_added message is_interleaved first least numbered x m.packet (data_chunks t false chunks) h says;
+          made = λ h. says_all_added message is_interleaved first least x m.packet (data_chunks t false chunks) h says;
         }),
       )
 
@@ -306,10 +301,9 @@ module _ (message : ℕ → Message) (lifecycle : ℕ → Option ℕ) (is_interl
       let r = moves message lifecycle is_interleaved x z s.leads.leads.events f.queue f.sender.outstanding.items a.kept s.leads.leads.sends leads in
       let first = t.sender.outstanding.first in
       let least = (transfer_of from).acknowledged in
-      let numbered = count (transfer_of from).sender in
       let stays = send_same now most t.sender q emitted in
       let is_immediate = is_small m.context.options f.sender in
-      let says = says_data message is_interleaved first least numbered y t.capabilities.message_interleaving is_immediate (interleaves phase t m inv) (transfer_of x).acknowledged
+      let says = says_data message is_interleaved first least y t.capabilities.message_interleaving is_immediate (interleaves phase t m inv) (transfer_of x).acknowledged
       (left_more message lifecycle is_interleaved from prepared (in_open phase t m) x premises.kept a) f.chunks s.carried in
       let b : EndWithPacket Carried = after_sending {call = call} (sends phase t m) in (
         y,
@@ -318,7 +312,6 @@ module _ (message : ℕ → Message) (lifecycle : ℕ → Option ℕ) (is_interl
           asked = r.asked;
           done = refl;
           shown = shown_on message lifecycle is_interleaved t q f.queue f.sender x z a.shown stays s.leads.refines leads.follows (send_asked now most t.sender q emitted);
-          near = λ n. n;
           since = λ n. n;
           given_up = recorded_given message lifecycle is_interleaved x z s.leads.leads.events r (recorded_places f.emitted) (recorded_places emitted) s.leads.places s.leads.leads.given_up s.leads.recorded;
           reported = reports_none lifecycle (transfer_of x) z emitted.events f.emitted.events (ap (λ (z : Transfer). z.reports) s.leads.leads.rest_stays)
@@ -326,7 +319,7 @@ module _ (message : ℕ → Message) (lifecycle : ℕ → Option ℕ) (is_interl
           resets = emits_no_answer prepared emitted.events f.emitted.events x y (no_answer emitted.events f.emitted.events (resets_sent now most t.sender q emitted)) refl refl refl;
           first = stays.first;
           packets = same_packets emitted f.emitted (emits_sent now most t.sender q emitted);
-          made = λ h. says_all_added message is_interleaved first least numbered y m.packet (data_chunks t is_immediate f.chunks) h says;
+          made = λ h. says_all_added message is_interleaved first least y m.packet (data_chunks t is_immediate f.chunks) h says;
         }),
       )
 
@@ -362,7 +355,6 @@ module _ (message : ℕ → Message) (lifecycle : ℕ → Option ℕ) (is_interl
           asked = r.asked;
           done = refl;
           shown = shown_on message lifecycle is_interleaved t q q s x z a.shown stays l.refines leads.follows (same_queue message lifecycle is_interleaved q);
-          near = λ n. n;
           since = λ n. n;
           given_up = recorded_given message lifecycle is_interleaved x z es r (recorded_places later) (recorded_places emitted) l.places (leaves_given message is_interleaved n c.point l.places l.leads.events l.leads.given_up) l.recorded;
           reported = record { places = reports_of (transfer_of x).sender (transfer_of x).acknowledged n; more = ap (λ (z : Transfer). z.reports) l.leads.rest_stays; delivered_are = h.reported };

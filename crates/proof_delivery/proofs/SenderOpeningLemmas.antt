@@ -15,16 +15,16 @@ use Rattle.sctp_tx_queue.specs.SendQueue.{Queue}
 use Rattle.sctp_tx_queue.specs.Settings.{set_mode}
 use Rattle.sctp_tx_queue.specs.Restarted.{reset}
 use Rattle.sctp_tx_outstanding.specs.OutstandingData.{no_items}
-use Rattle.proof_protocol.specs.State.{Message, ForwardPoint, IsAmong, count}
-use Rattle.proof_tx_refines.specs.Refinement.{SenderRefines}
-use Rattle.proof_tx_refines.specs.Following.{FollowsEpochs}
-use Rattle.proof_tx_refines.specs.Reachable.{recorded_places, delivered_ids}
-use Rattle.proof_tx_refines.specs.Rows.{waiting}
-use Rattle.proof_tx_refines.proofs.AskedLemmas.{calls_keep_asked}
-use Rattle.proof_tx_refines.proofs.FollowLemmas.{all_flow, beginning_follows}
-use Rattle.proof_tx_refines.proofs.StartLemmas.{begins_shows, reset_shows}
-use Rattle.proof_tx_refines.proofs.SackLemmas.{delivered_more}
-use Rattle.proof_tx_refines.proofs.WholeLemmas.{shown_again}
+use Rattle.proof_protocol.specs.State.{Message, ForwardPoint, IsAmong}
+use Rattle.proof_refines.specs.SenderRefinement.{SenderRefines}
+use Rattle.proof_refines.specs.Following.{FollowsEpochs}
+use Rattle.proof_refines.specs.Reachable.{recorded_places, delivered_ids}
+use Rattle.proof_refines.specs.Rows.{waiting}
+use Rattle.proof_refines.proofs.AskedLemmas.{calls_keep_asked}
+use Rattle.proof_refines.proofs.FollowLemmas.{all_flow, beginning_follows}
+use Rattle.proof_refines.proofs.StartLemmas.{begins_shows, reset_shows}
+use Rattle.proof_refines.proofs.SackLemmas.{delivered_more}
+use Rattle.proof_refines.proofs.WholeLemmas.{shown_again}
 use Rattle.spec_endpoint.specs.Association.{Identity, Tcb, tcb, Phase, CookieEchoed, Established, State, Closed, CookieWait, Open}
 use Rattle.spec_endpoint.specs.ResetRequests.{requests}
 use Rattle.spec_endpoint.specs.Opening.{long_word, t1_cookie, identity_of_init_ack, agreed_by, identity_of, queue_if, other_mode, enter_connected}
@@ -123,31 +123,31 @@ module _ (message : ℕ → Message) (lifecycle : ℕ → Option ℕ) (is_interl
   no_ask [] at a e f = cc
   no_ask (b ∷ asks) at a e f = cc
 
-  asks_anew : (x : Direction) (q : Queue) (first later most : ℕ) (p : ParameterTree) → IsWaiting message lifecycle is_interleaved q x → SaysOutgoing first most x.asks p → SaysOutgoing later most x.asks p
-  asks_anew x q first later most (outgoing_reset_request number response last_tsn streams) h s = absurd (no_ask x.asks s.at s.ask h.none_asked s.there)
-  asks_anew x q first later most (incoming_reset_request number streams) h s = s
-  asks_anew x q first later most p h s = tt
+  asks_anew : (x : Direction) (q : Queue) (first later : ℕ) (p : ParameterTree) → IsWaiting message lifecycle is_interleaved q x → SaysOutgoing first x.asks p → SaysOutgoing later x.asks p
+  asks_anew x q first later (outgoing_reset_request number response last_tsn streams) h s = absurd (no_ask x.asks s.at s.ask h.none_asked s.there)
+  asks_anew x q first later (incoming_reset_request number streams) h s = s
+  asks_anew x q first later p h s = tt
 
-  says_anew : (x : Direction) (q : Queue) (first later least most : ℕ) (chunk : ChunkTree) → IsWaiting message lifecycle is_interleaved q x → SaysOut message is_interleaved first least most x chunk
-      → SaysOut message is_interleaved later least most x chunk
-  says_anew x q first later least most (data_chunk tsn is_immediate f) h s = absurd (data_none x q first least tsn f h s.1)
-  says_anew x q first later least most (idata_chunk tsn is_immediate f) h s = absurd (data_none x q first least tsn f h s.1)
-  says_anew x q first later least most (forward_tsn_chunk tsn skipped) h s = absurd (point_none x q first least (forward_tsn_chunk tsn skipped) h s)
-  says_anew x q first later least most (i_forward_tsn_chunk tsn skipped) h s = absurd (point_none x q first least (i_forward_tsn_chunk tsn skipped) h s)
-  says_anew x q first later least most (re_config_chunk ps) h s =
-      All-weaker (SaysOutgoing first most x.asks) (SaysOutgoing later most x.asks) (λ p s. asks_anew x q first later most p h s) ps s
-  says_anew x q first later least most chunk h s = s
+  says_anew : (x : Direction) (q : Queue) (first later least : ℕ) (chunk : ChunkTree) → IsWaiting message lifecycle is_interleaved q x → SaysOut message is_interleaved first least x chunk
+      → SaysOut message is_interleaved later least x chunk
+  says_anew x q first later least (data_chunk tsn is_immediate f) h s = absurd (data_none x q first least tsn f h s.1)
+  says_anew x q first later least (idata_chunk tsn is_immediate f) h s = absurd (data_none x q first least tsn f h s.1)
+  says_anew x q first later least (forward_tsn_chunk tsn skipped) h s = absurd (point_none x q first least (forward_tsn_chunk tsn skipped) h s)
+  says_anew x q first later least (i_forward_tsn_chunk tsn skipped) h s = absurd (point_none x q first least (i_forward_tsn_chunk tsn skipped) h s)
+  says_anew x q first later least (re_config_chunk ps) h s =
+      All-weaker (SaysOutgoing first x.asks) (SaysOutgoing later x.asks) (λ p s. asks_anew x q first later p h s) ps s
+  says_anew x q first later least chunk h s = s
 
-  all_anew : (x : Direction) (q : Queue) (first later least most : ℕ) (chunks : List ChunkTree) → IsWaiting message lifecycle is_interleaved q x
-      → All (SaysOut message is_interleaved first least most x) chunks → All (SaysOut message is_interleaved later least most x) chunks
-  all_anew x q first later least most chunks h a =
-      All-weaker (SaysOut message is_interleaved first least most x) (SaysOut message is_interleaved later least most x) (λ chunk s. says_anew x q first later least most chunk h s) chunks a
+  all_anew : (x : Direction) (q : Queue) (first later least : ℕ) (chunks : List ChunkTree) → IsWaiting message lifecycle is_interleaved q x
+      → All (SaysOut message is_interleaved first least x) chunks → All (SaysOut message is_interleaved later least x) chunks
+  all_anew x q first later least chunks h a =
+      All-weaker (SaysOut message is_interleaved first least x) (SaysOut message is_interleaved later least x) (λ chunk s. says_anew x q first later least chunk h s) chunks a
 
-  emitted_anew : (x : Direction) (q : Queue) (first later least most : ℕ) (packets : List Carried) → IsWaiting message lifecycle is_interleaved q x
-      → All (λ (p : Carried). All (SaysOut message is_interleaved first least most x) p.chunks) packets → All (λ (p : Carried). All (SaysOut message is_interleaved later least most x) p.chunks) packets
-  emitted_anew x q first later least most packets h a =
-      All-weaker (λ (p : Carried). All (SaysOut message is_interleaved first least most x) p.chunks) (λ (p : Carried). All (SaysOut message is_interleaved later least most x) p.chunks)
-      (λ p s. all_anew x q first later least most p.chunks h s) packets a
+  emitted_anew : (x : Direction) (q : Queue) (first later least : ℕ) (packets : List Carried) → IsWaiting message lifecycle is_interleaved q x
+      → All (λ (p : Carried). All (SaysOut message is_interleaved first least x) p.chunks) packets → All (λ (p : Carried). All (SaysOut message is_interleaved later least x) p.chunks) packets
+  emitted_anew x q first later least packets h a =
+      All-weaker (λ (p : Carried). All (SaysOut message is_interleaved first least x) p.chunks) (λ (p : Carried). All (SaysOut message is_interleaved later least x) p.chunks)
+      (λ p s. all_anew x q first later least p.chunks h s) packets a
 
   waits_in : (s : State) (q : Queue) (x : Direction) → is_opened s ≡ false → SendsIn message lifecycle is_interleaved s q x → IsWaiting message lifecycle is_interleaved q x
   waits_in Closed q x e h = h
@@ -170,7 +170,6 @@ module _ (message : ℕ → Message) (lifecycle : ℕ → Option ℕ) (is_interl
       let now = first_out a.state in
       let later = first_out b.state in
       let acknowledged : ℕ = (transfer_of from).acknowledged in
-      let numbered : ℕ = count (transfer_of from).sender in
       let w : IsWaiting message lifecycle is_interleaved a.context.queue x = waits_in message lifecycle is_interleaved a.state a.context.queue x closed claim.shown in
       let shown : IsSending message lifecycle is_interleaved (tcb o i a_rwnd k) (set_mode k.message_interleaving q) x =
       sends_from message lifecycle is_interleaved o i a_rwnd k q x least small mode claim.kept (waits x w) in
@@ -184,7 +183,6 @@ module _ (message : ℕ → Message) (lifecycle : ℕ → Option ℕ) (is_interl
           done = claim.done;
           shown = subst (λ (s : State). SendsIn message lifecycle is_interleaved s b.context.queue x) (sym state)
               (subst (λ (r : Queue). IsSending message lifecycle is_interleaved (tcb o i a_rwnd k) r x) (sym queue) shown);
-          near = claim.near;
           since = claim.since;
           given_up = given_up_is ∙ claim.given_up;
           reported = reports_then lifecycle (transfer_of from) (transfer_of x) (transfer_of x) [] es fs claim.reported
@@ -193,9 +191,9 @@ module _ (message : ℕ → Message) (lifecycle : ℕ → Option ℕ) (is_interl
           epochs = λ f h. r.epochs f (claim.epochs f h);
           none_failed = r.none_failed claim.none_failed;
           emitted = subst (λ (ps : List Carried). SaysPackets message lifecycle is_interleaved from later x ps) (sym packets)
-              (emitted_anew message lifecycle is_interleaved x a.context.queue now later acknowledged numbered (packets_in es) w claim.emitted);
+              (emitted_anew message lifecycle is_interleaved x a.context.queue now later acknowledged (packets_in es) w claim.emitted);
           made = subst (λ (cs : List ChunkTree). SaysAll message lifecycle is_interleaved from later x cs) (sym chunks)
-              (all_anew message lifecycle is_interleaved x a.context.queue now later acknowledged numbered a.packet.chunks w claim.made);
+              (all_anew message lifecycle is_interleaved x a.context.queue now later acknowledged a.packet.chunks w claim.made);
         },
       )
 
@@ -246,26 +244,26 @@ module _ (message : ℕ → Message) (lifecycle : ℕ → Option ℕ) (is_interl
         → SenderGoes message lifecycle is_interleaved from (before_opening act) (after_opening act)
     opening_act_goes (connects m is) on inv later =
         goes_same message lifecycle is_interleaved from (in_state Closed m) (after_opening {call = call} (connects m is)) (λ x h. h) refl refl refl refl (emits_nothing m.context.emitted.events) refl
-    opening_act_goes (adds_init tag first t1 m to) on inv later = goes_adding message lifecycle is_interleaved from (in_state (CookieWait tag first t1) m) _ (λ first least most x. tt)
+    opening_act_goes (adds_init tag first t1 m to) on inv later = goes_adding message lifecycle is_interleaved from (in_state (CookieWait tag first t1) m) _ (λ first least x. tt)
     opening_act_goes (answers_new tag i m received to) on inv later =
         goes_through message lifecycle is_interleaved from (in_state Closed m) (in_state Closed (drew_two m)) (after_opening {call = call} (answers_new tag i m received to))
         (goes_same message lifecycle is_interleaved from (in_state Closed m) (in_state Closed (drew_two m)) (λ x h. h) refl refl refl refl (emits_nothing m.context.emitted.events) refl)
-        (goes_adding message lifecycle is_interleaved from (in_state Closed (drew_two m)) _ (λ first least most x. tt))
+        (goes_adding message lifecycle is_interleaved from (in_state Closed (drew_two m)) _ (λ first least x. tt))
     opening_act_goes (answers_waiting tag i own first t1 m received to) on inv later =
-        goes_adding message lifecycle is_interleaved from (in_state (CookieWait own first t1) m) _ (λ first least most x. tt)
+        goes_adding message lifecycle is_interleaved from (in_state (CookieWait own first t1) m) _ (λ first least x. tt)
     opening_act_goes (answers_echoed tag i t1 cookie t m received to) on inv later =
-        goes_adding message lifecycle is_interleaved from (in_open (CookieEchoed t1 cookie) t m) _ (λ first least most x. tt)
+        goes_adding message lifecycle is_interleaved from (in_open (CookieEchoed t1 cookie) t m) _ (λ first least x. tt)
     opening_act_goes (answers_again tag i phase t m received late to) on inv later =
         goes_through message lifecycle is_interleaved from (in_open phase t m) (in_open phase t (drew_one m)) (after_opening {call = call} (answers_again tag i phase t m received late to))
         (goes_same message lifecycle is_interleaved from (in_open phase t m) (in_open phase t (drew_one m)) (λ x h. h) refl refl refl refl (emits_nothing m.context.emitted.events) refl)
-        (goes_adding message lifecycle is_interleaved from (in_open phase t (drew_one m)) _ (λ first least most x. tt))
+        (goes_adding message lifecycle is_interleaved from (in_open phase t (drew_one m)) _ (λ first least x. tt))
     opening_act_goes (echoes tag i cookie own first t1 m received brought) on inv later = goes_echoing i cookie own first t1 m inv later
     opening_act_goes (adds_cookie t1 cookie t m to) on inv later =
-        goes_adding message lifecycle is_interleaved from (in_open (CookieEchoed t1 cookie) t m) (cookie_echo_chunk cookie) (λ first least most x. tt)
+        goes_adding message lifecycle is_interleaved from (in_open (CookieEchoed t1 cookie) t m) (cookie_echo_chunk cookie) (λ first least x. tt)
     opening_act_goes (establishes tag t1 cookie t m received) on inv later = goes_late t1 cookie t m
     opening_act_goes (opens tag c m received closed own) on inv later = goes_opened c m closed inv later
     opening_act_goes (restarts tag c phase t m received verdict) on inv later = absurd on
     opening_act_goes (opens_again tag c phase t m received verdict) on inv later = absurd on
     opening_act_goes (maintains tag c t1 cookie t m received verdict) on inv later = goes_late t1 cookie t m
     opening_act_goes (adds_cookie_ack tag back phase t m echoed late) on inv later =
-        goes_adding message lifecycle is_interleaved from (in_open phase t m) cookie_ack_chunk (λ first least most x. tt)
+        goes_adding message lifecycle is_interleaved from (in_open phase t m) cookie_ack_chunk (λ first least x. tt)

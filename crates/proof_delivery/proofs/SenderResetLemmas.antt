@@ -23,19 +23,19 @@ use Rattle.proof_protocol.specs.Rules.{TransferEvent as RuleEvent}
 use Rattle.proof_protocol.specs.Resets.{Epochs, transfers, restarts, send_request, commit, MayAll, go_all}
 use Rattle.proof_protocol.proofs.ToolsLemmas.{not_both, has_from}
 use Rattle.proof_protocol.proofs.CommonLemmas.{get_last}
-use Rattle.proof_tx_refines.specs.Refinement.{SenderRefines}
-use Rattle.proof_tx_refines.specs.Asked.{Raises, AreRequested}
-use Rattle.proof_tx_refines.specs.Following.{FollowsEpochs}
-use Rattle.proof_tx_refines.specs.Reachable.{is_sending, given_up_places, recorded_places, delivered_ids}
-use Rattle.proof_tx_refines.specs.Pauses.{IsPausedAs, unsent_of, give_up_rules, opens_next, prepare_events}
-use Rattle.proof_tx_refines.specs.Rows.{restart_numbers}
-use Rattle.proof_tx_refines.proofs.AskedLemmas.{prepare_asked, each_asked, requested_asked, answered_open}
-use Rattle.proof_tx_refines.proofs.BreakLemmas.{next_counted}
-use Rattle.proof_tx_refines.proofs.FollowLemmas.{preparing_follows, requesting_follows, answering_follows}
-use Rattle.proof_tx_refines.proofs.OpenedLemmas.{prepared_raises, requests_sent, answers_open}
-use Rattle.proof_tx_refines.proofs.RecordedLemmas.{prepares_lead}
-use Rattle.proof_tx_refines.proofs.ResetLemmas.{commits_row}
-use Rattle.proof_tx_refines.proofs.SackLemmas.{delivered_more}
+use Rattle.proof_refines.specs.SenderRefinement.{SenderRefines}
+use Rattle.proof_refines.specs.Asked.{Raises, AreRequested}
+use Rattle.proof_refines.specs.Following.{FollowsEpochs}
+use Rattle.proof_refines.specs.Reachable.{is_sending, given_up_places, recorded_places, delivered_ids}
+use Rattle.proof_refines.specs.Pauses.{IsPausedAs, unsent_of, give_up_rules, opens_next, prepare_events}
+use Rattle.proof_refines.specs.Rows.{restart_numbers}
+use Rattle.proof_refines.proofs.AskedLemmas.{prepare_asked, each_asked, requested_asked, answered_open}
+use Rattle.proof_refines.proofs.BreakLemmas.{next_counted}
+use Rattle.proof_refines.proofs.FollowLemmas.{preparing_follows, requesting_follows, answering_follows}
+use Rattle.proof_refines.proofs.OpenedLemmas.{prepared_raises, requests_sent, answers_open}
+use Rattle.proof_refines.proofs.RecordedLemmas.{prepares_lead}
+use Rattle.proof_refines.proofs.ResetLemmas.{commits_row}
+use Rattle.proof_refines.proofs.SackLemmas.{delivered_more}
 use Rattle.spec_endpoint.specs.Association.{Tcb, Phase}
 use Rattle.spec_endpoint.specs.ResetRequests.{Request, Requests, Outcome, Done, ids, next_number, request_chunk, start_request, outcome, handle_response, is_final}
 use Rattle.spec_endpoint.specs.StreamReset as resets
@@ -216,7 +216,6 @@ module _ (message : ℕ → Message) (lifecycle : ℕ → Option ℕ) (is_interl
             room = a.shown.room;
             asks = asking_stays t.identity.my_first x.answered x.asks q r t.requests (prepare_asked id q emitted) a.shown.asks;
           };
-          near = λ n. n;
           since = λ n. n;
           given_up = l.leads.recorded ∙ ap (λ (ps : List ℕ). recorded_places emitted ++ ps) (sym given);
           reported = reports_none lifecycle (transfer_of x) (transfer_of y) emitted.events later.events (ap (λ (tr : Transfer). tr.reports) (leads ∙ l.leads.leads.rest_stays))
@@ -332,7 +331,6 @@ module _ (message : ℕ → Message) (lifecycle : ℕ → Option ℕ) (is_interl
             asks = subst (λ (n : ℕ). IsAsking first n (x.asks ++ a ∷ []) r u.requests) all
                 (asking_new first m.context.now (rtt.rto t.rtt) (last_assigned (add_reset_breakpoint t.sender)) x.asks a q r t.requests h.asks.next none.1 k last);
           };
-          near = λ n c e. let up : a.upto ≡ c.upto = ap (λ (d : ResetRequest). d.upto) (is_it c e) in omega (arith, up, grown);
           since = λ n c e. let up : a.upto ≡ c.upto = ap (λ (d : ResetRequest). d.upto) (is_it c e) in inr (omega (arith, up, grown));
           given_up = sym (ap (λ (es : List RuleEvent). recorded_places m.context.emitted ++ given_up_places es) (requests_alone (first_of ∷ others)) ∙ append-nil (recorded_places m.context.emitted));
           reported = reports_none lifecycle (transfer_of x) (transfer_of y) es es (ap (λ (tr : Transfer). tr.reports) transfer_is) refl;
@@ -359,12 +357,11 @@ module _ (message : ℕ → Message) (lifecycle : ℕ → Option ℕ) (is_interl
       none_some o e f = cc
 
       says : (prepared : List ℕ) (x : Direction) → SenderClaim message lifecycle is_interleaved from prepared (in_open phase t m) x
-          → SaysOut message is_interleaved t.sender.outstanding.first (transfer_of from).acknowledged (count (transfer_of from).sender) x (request_chunk r)
+          → SaysOut message is_interleaved t.sender.outstanding.first (transfer_of from).acknowledged x (request_chunk r)
       says prepared x claim =
           let first = t.sender.outstanding.first in
-          let most = count (transfer_of from).sender in
           let p : ParameterTree = outgoing_reset_request r.number r.number (record { 0 = r.last_tsn }) (ids r.streams) in
-          let one : SaysOutgoing first most x.asks p = elim claim.shown.asks.current [
+          let one : SaysOutgoing first x.asks p = elim claim.shown.asks.current [
             | inl n ↦ absurd (none_some t.requests.current n.1.none is)
             | inr c ↦
                 let z = c.1 in
@@ -376,10 +373,9 @@ module _ (message : ℕ → Message) (lifecycle : ℕ → Option ℕ) (is_interl
                   number_is = says.number ∙ ap (λ (n : ℕ). number_of n x.answered) (sym claim.shown.first);
                   last_is = says.last_tsn ∙ ap (λ (n : ℕ). last_tsn_of n z.ask) (sym claim.shown.first);
                   streams_are = ap ids says.streams;
-                  near = claim.near z.ask z.there;
                 }
           ] in
-          All-cons (SaysOutgoing first most x.asks) p [] one (All-nil (SaysOutgoing first most x.asks))
+          All-cons (SaysOutgoing first x.asks) p [] one (All-nil (SaysOutgoing first x.asks))
 
 -- ---- the answer
 
@@ -465,7 +461,6 @@ module _ (message : ℕ → Message) (lifecycle : ℕ → Option ℕ) (is_interl
               current = inl (c.0, record { none = ends.1; resetting = λ s f. let o = answered_open ss q s f in not_both (c.2 s o.1) o.0 });
             };
           };
-          near = λ n d f. absurd (over d f);
           since = λ n d f. absurd (over d f);
           given_up = sym (ap (λ (es : List RuleEvent). recorded_places m.context.emitted ++ given_up_places es) (commits_alone ss) ∙ append-nil (recorded_places m.context.emitted));
           reported = reports_none lifecycle (transfer_of x) (transfer_of y) es (es ++ e ∷ []) (ap (λ (tr : Transfer). tr.reports) z.transfer_is ∙ same_reports ss (transfer_of x))

@@ -14,17 +14,17 @@ use Rattle.sctp_tx_queue.specs.Settings.{set_priority, set_low_threshold, with_p
 use Rattle.sctp_tx_outstanding.specs.OutstandingData.{Items, Outstanding, no_items}
 use Rattle.sctp_tx.specs.Windows.{Windows}
 use Rattle.sctp_rx.specs.ReassemblyQueue.{defer, reset}
-use Rattle.proof_protocol.specs.State.{Message, count}
+use Rattle.proof_protocol.specs.State.{Message}
 use Rattle.proof_protocol.specs.Resets.{Epochs}
-use Rattle.proof_tx_refines.specs.Reachable.{recorded_places, delivered_ids}
-use Rattle.proof_tx_refines.specs.Refinement.{SenderRefines}
-use Rattle.proof_tx_refines.specs.Following.{FollowsEpochs}
-use Rattle.proof_tx_refines.proofs.SackLemmas.{delivered_more}
-use Rattle.proof_tx_refines.proofs.AcceptLemmas.{with_settings}
-use Rattle.proof_tx_refines.proofs.AskedLemmas.{calls_keep_asked, watch_asked}
-use Rattle.proof_tx_refines.proofs.KeyLemmas.{written_keyed}
-use Rattle.proof_tx_refines.proofs.LineRowLemmas.{calls_keep_line}
-use Rattle.proof_tx_refines.proofs.PauseRowLemmas.{settings_pause}
+use Rattle.proof_refines.specs.Reachable.{recorded_places, delivered_ids}
+use Rattle.proof_refines.specs.SenderRefinement.{SenderRefines}
+use Rattle.proof_refines.specs.Following.{FollowsEpochs}
+use Rattle.proof_refines.proofs.SackLemmas.{delivered_more}
+use Rattle.proof_refines.proofs.AcceptLemmas.{with_settings}
+use Rattle.proof_refines.proofs.AskedLemmas.{calls_keep_asked, watch_asked}
+use Rattle.proof_refines.proofs.QueueKeyLemmas.{written_keyed}
+use Rattle.proof_refines.proofs.LineRowLemmas.{calls_keep_line}
+use Rattle.proof_refines.proofs.PauseRowLemmas.{settings_pause}
 use Rattle.spec_endpoint.specs.Association.{Identity, Tcb, Phase, ShutdownPending, State, Closed, CookieWait, Open, Packing}
 use Rattle.spec_endpoint.specs.Packets.{PacketDraft, clear_chunks, header_to, emit_event_in, emit_if}
 use Rattle.spec_endpoint.specs.ResetRequests.{nothing_to_do, performed, in_progress, set_last_request}
@@ -67,13 +67,13 @@ incoming_fails (e ∷ es) streams = incoming_fails es streams
 
 -- ---- answers say nothing of what is asked
 
-pub responses_ask_nothing : (first most : ℕ) (asks : List ResetRequest) (ps : List ParameterTree) → list_all is_response ps ≡ true → All (SaysOutgoing first most asks) ps
-responses_ask_nothing first most asks [] h = All-nil (SaysOutgoing first most asks)
-responses_ask_nothing first most asks (p ∷ ps) h =
+pub responses_ask_nothing : (first : ℕ) (asks : List ResetRequest) (ps : List ParameterTree) → list_all is_response ps ≡ true → All (SaysOutgoing first asks) ps
+responses_ask_nothing first asks [] h = All-nil (SaysOutgoing first asks)
+responses_ask_nothing first asks (p ∷ ps) h =
     let hs = and_parts (is_response p) (list_all is_response ps) h in
-    All-cons (SaysOutgoing first most asks) p ps (one p hs.0) (responses_ask_nothing first most asks ps hs.1)
+    All-cons (SaysOutgoing first asks) p ps (one p hs.0) (responses_ask_nothing first asks ps hs.1)
   where
-    one : (p : ParameterTree) → is_response p ≡ true → SaysOutgoing first most asks p
+    one : (p : ParameterTree) → is_response p ≡ true → SaysOutgoing first asks p
     one (reset_response number result sender receiver) e = tt
     one p e = absurd (cc)
 
@@ -101,7 +101,6 @@ module _ (message : ℕ → Message) (lifecycle : ℕ → Option ℕ) (is_interl
           goes = claim.goes;
           done = claim.done;
           shown = shown x claim.shown;
-          near = claim.near;
           since = claim.since;
           given_up = given_up_is ∙ claim.given_up;
           reported = reports_then lifecycle (transfer_of from) (transfer_of x) (transfer_of x) [] es fs claim.reported
@@ -119,20 +118,20 @@ module _ (message : ℕ → Message) (lifecycle : ℕ → Option ℕ) (is_interl
   -- ---- chunks of no weight
 
   abbrev pub SaysNothing : ChunkTree → Type 0
-  SaysNothing chunk = (first least most : ℕ) (x : Direction) → SaysOut message is_interleaved first least most x chunk
+  SaysNothing chunk = (first least : ℕ) (x : Direction) → SaysOut message is_interleaved first least x chunk
 
   says_plain : (chunk : ChunkTree) → is_plain chunk ≡ true → SaysNothing chunk
-  says_plain (data_chunk tsn is_immediate f) e first least most x = cc
-  says_plain (idata_chunk tsn is_immediate f) e first least most x = cc
-  says_plain (forward_tsn_chunk tsn skipped) e first least most x = cc
-  says_plain (i_forward_tsn_chunk tsn skipped) e first least most x = cc
-  says_plain (re_config_chunk parameters) e first least most x = cc
-  says_plain chunk e first least most x = tt
+  says_plain (data_chunk tsn is_immediate f) e first least x = cc
+  says_plain (idata_chunk tsn is_immediate f) e first least x = cc
+  says_plain (forward_tsn_chunk tsn skipped) e first least x = cc
+  says_plain (i_forward_tsn_chunk tsn skipped) e first least x = cc
+  says_plain (re_config_chunk parameters) e first least x = cc
+  says_plain chunk e first least x = tt
 
   -- a chunk that the claim allows
   pub goes_saying : (m : EndWithPacket Carried) (chunk : ChunkTree)
       → ((prepared : List ℕ) (x : Direction) → SenderClaim message lifecycle is_interleaved from prepared m x
-      → SaysOut message is_interleaved (first_out m.state) (transfer_of from).acknowledged (count (transfer_of from).sender) x chunk)
+      → SaysOut message is_interleaved (first_out m.state) (transfer_of from).acknowledged x chunk)
       → SenderGoes message lifecycle is_interleaved from m (with_chunk chunk m)
   goes_saying m chunk says prepared x claim = (
     x,
@@ -141,7 +140,6 @@ module _ (message : ℕ → Message) (lifecycle : ℕ → Option ℕ) (is_interl
       goes = claim.goes;
       done = claim.done;
       shown = claim.shown;
-      near = claim.near;
       since = claim.since;
       given_up = claim.given_up;
       reported = claim.reported;
@@ -149,14 +147,14 @@ module _ (message : ℕ → Message) (lifecycle : ℕ → Option ℕ) (is_interl
       epochs = claim.epochs;
       none_failed = claim.none_failed;
       emitted = claim.emitted;
-      made = holds_added (λ tag. SaysOut message is_interleaved (first_out m.state) (transfer_of from).acknowledged (count (transfer_of from).sender) x) m.packet chunk claim.made
+      made = holds_added (λ tag. SaysOut message is_interleaved (first_out m.state) (transfer_of from).acknowledged x) m.packet chunk claim.made
           (says prepared x claim);
     },
   )
 
   pub goes_adding : (m : EndWithPacket Carried) (chunk : ChunkTree) → SaysNothing chunk → SenderGoes message lifecycle is_interleaved from m (with_chunk chunk m)
   goes_adding m chunk says =
-      goes_saying m chunk (λ prepared x claim. says (first_out m.state) (transfer_of from).acknowledged (count (transfer_of from).sender) x)
+      goes_saying m chunk (λ prepared x claim. says (first_out m.state) (transfer_of from).acknowledged x)
 
   -- ---- the control block
 
@@ -209,7 +207,6 @@ module _ (message : ℕ → Message) (lifecycle : ℕ → Option ℕ) (is_interl
           goes = claim.goes;
           done = claim.done;
           shown = claim.shown;
-          near = claim.near;
           since = claim.since;
           given_up = claim.given_up;
           reported = reports_then lifecycle (transfer_of from) (transfer_of x) (transfer_of x) [] es fs claim.reported
@@ -219,7 +216,7 @@ module _ (message : ℕ → Message) (lifecycle : ℕ → Option ℕ) (is_interl
           none_failed = r.none_failed claim.none_failed;
           emitted = goes_out m (m.context.pack.write (header_to m.context.options m.packet.tag) m.packet.is_summed m.packet.chunks)
               (ap (λ (pack : Packing Carried). (pack.write (header_to m.context.options m.packet.tag) m.packet.is_summed m.packet.chunks).chunks) inv.packing) prepared x claim;
-          made = All-nil (SaysOut message is_interleaved (first_out m.state) (transfer_of from).acknowledged (count (transfer_of from).sender) x);
+          made = All-nil (SaysOut message is_interleaved (first_out m.state) (transfer_of from).acknowledged x);
         },
       )
 
@@ -231,7 +228,6 @@ module _ (message : ℕ → Message) (lifecycle : ℕ → Option ℕ) (is_interl
       goes = claim.goes;
       done = claim.done;
       shown = claim.shown;
-      near = claim.near;
       since = claim.since;
       given_up = claim.given_up;
       reported = claim.reported;
@@ -240,7 +236,7 @@ module _ (message : ℕ → Message) (lifecycle : ℕ → Option ℕ) (is_interl
       none_failed = claim.none_failed;
       emitted = claim.emitted;
       made = subst (λ (cs : List ChunkTree). SaysAll message lifecycle is_interleaved from (first_out m.state) x cs) (sym new)
-          (All-nil (SaysOut message is_interleaved (first_out m.state) (transfer_of from).acknowledged (count (transfer_of from).sender) x));
+          (All-nil (SaysOut message is_interleaved (first_out m.state) (transfer_of from).acknowledged x));
     },
   )
 

@@ -1,6 +1,6 @@
 -- Rules that lead on: what an end says stays true, and what one end's rules leave of the other's part. For an act of a sender:
 -- its claim after it.
-use Rattle.std.proofs.Common.{◌≡◌, ℕ, suc, ◌+◌, ◌^◌, ◌<◌, ◌≤◌, ◌&&◌, ◌⊎◌, Bool, true, false, Option, Some, slice_get, inr, List, [], ◌∷◌, ◌++◌, length, map, All, refl, sym, ap, ◌∙◌, subst, arith, append-nil, append_assoc, length-append}
+use Rattle.std.proofs.Common.{◌≡◌, ℕ, suc, ◌+◌, ◌≤◌, ◌&&◌, ◌⊎◌, Bool, true, false, Option, Some, slice_get, inr, List, [], ◌∷◌, ◌++◌, length, map, All, refl, sym, ap, ◌∙◌, subst, arith, append-nil, append_assoc, length-append}
 use Rattle.std.specs.List.{list_all}
 use Rattle.std.proofs.lemmas.List.Folds.{list_all-append}
 use Rattle.std.proofs.lemmas.List.Elements.{All-weaker}
@@ -15,11 +15,11 @@ use Rattle.proof_protocol.specs.Resets.{Request, Epochs, ResetEvent, transfers, 
 use Rattle.proof_protocol.specs.Based.{InEpochs}
 use Rattle.proof_protocol.proofs.BasedLemmas.{keeps_epochs, all_in_epochs}
 use Rattle.proof_protocol.proofs.StepLemmas.{later}
-use Rattle.proof_tx_refines.specs.Reachable.{given_up_places, recorded_places, delivered_ids, ids_at}
-use Rattle.proof_tx_refines.proofs.LedLemmas.{given_more}
-use Rattle.proof_tx_refines.proofs.PausedLemmas.{go_more, may_more}
-use Rattle.proof_tx_refines.proofs.SackLemmas.{delivered_more, ids_more}
-use Rattle.proof_tx_refines.proofs.SendLemmas.{carries_along}
+use Rattle.proof_refines.specs.Reachable.{given_up_places, recorded_places, delivered_ids, ids_at}
+use Rattle.proof_refines.proofs.LedLemmas.{given_more}
+use Rattle.proof_refines.proofs.PausedLemmas.{go_more, may_more}
+use Rattle.proof_refines.proofs.SackLemmas.{delivered_more, ids_more}
+use Rattle.proof_refines.proofs.SendLemmas.{carries_along}
 use Rattle.proof_endpoint.specs.Mapped.{Carried}
 use Rattle.proof_endpoint.specs.Acts.{EndWithPacket}
 use Rattle.proof_pair.specs.Trace.{packets_in}
@@ -244,10 +244,10 @@ module _ (message : ℕ → Message) (is_interleaved : Bool) where
     point_stays first least chunk s =
         record { point = s.point; sent = (goes_grows kind x y k g).points s.point s.sent; written = s.written; apart = s.apart; ahead = s.ahead }
 
-    asks_stay : (first most : ℕ) (ps : List ParameterTree) → All (SaysOutgoing first most x.asks) ps → All (SaysOutgoing first most y.asks) ps
-    asks_stay first most ps h =
-        subst (λ (l : List ResetRequest). All (SaysOutgoing first most l) ps) (sym g.asks)
-        (All-weaker (SaysOutgoing first most x.asks) (SaysOutgoing first most (x.asks ++ g.more)) (λ p s. asks_said first most x.asks g.more p s) ps h)
+    asks_stay : (first : ℕ) (ps : List ParameterTree) → All (SaysOutgoing first x.asks) ps → All (SaysOutgoing first y.asks) ps
+    asks_stay first ps h =
+        subst (λ (l : List ResetRequest). All (SaysOutgoing first l) ps) (sym g.asks)
+        (All-weaker (SaysOutgoing first x.asks) (SaysOutgoing first (x.asks ++ g.more)) (λ p s. asks_said first x.asks g.more p s) ps h)
 
     answers_stay : (first : ℕ) (ps : List ParameterTree) → All (SaysIncoming first x.done (length x.asks)) ps → All (SaysIncoming first y.done (length y.asks)) ps
     answers_stay first ps h =
@@ -256,39 +256,39 @@ module _ (message : ℕ → Message) (is_interleaved : Bool) where
         (All-weaker (SaysIncoming first x.done (length x.asks)) (SaysIncoming first (x.done + g.further) (length x.asks + length g.more))
         (λ p s. answers_said first x.done (length x.asks) (g.further) (length g.more) p s) ps h))
 
-    pub out_stays : (first least most : ℕ) (chunk : ChunkTree) → SaysOut message is_interleaved first least most x chunk → SaysOut message is_interleaved first least most y chunk
-    out_stays first least most (data_chunk tsn is_immediate f) s = (s.0, data_stays first least tsn f s.1)
-    out_stays first least most (idata_chunk tsn is_immediate f) s = (s.0, data_stays first least tsn f s.1)
-    out_stays first least most (forward_tsn_chunk tsn skipped) s = point_stays first least (forward_tsn_chunk tsn skipped) s
-    out_stays first least most (i_forward_tsn_chunk tsn skipped) s = point_stays first least (i_forward_tsn_chunk tsn skipped) s
-    out_stays first least most (re_config_chunk parameters) s = asks_stay first most parameters s
-    out_stays first least most chunk s = s
+    pub out_stays : (first least : ℕ) (chunk : ChunkTree) → SaysOut message is_interleaved first least x chunk → SaysOut message is_interleaved first least y chunk
+    out_stays first least (data_chunk tsn is_immediate f) s = (s.0, data_stays first least tsn f s.1)
+    out_stays first least (idata_chunk tsn is_immediate f) s = (s.0, data_stays first least tsn f s.1)
+    out_stays first least (forward_tsn_chunk tsn skipped) s = point_stays first least (forward_tsn_chunk tsn skipped) s
+    out_stays first least (i_forward_tsn_chunk tsn skipped) s = point_stays first least (i_forward_tsn_chunk tsn skipped) s
+    out_stays first least (re_config_chunk parameters) s = asks_stay first parameters s
+    out_stays first least chunk s = s
 
-    pub in_stays : (first least most : ℕ) (chunk : ChunkTree) → SaysIn first least most x chunk → SaysIn first least most y chunk
-    in_stays first least most (sack_chunk sack) s =
-        record { point = s.point; sent = (goes_grows kind x y k g).sacks s.point s.sent; written = s.written; from = s.from; to = s.to }
-    in_stays first least most (re_config_chunk parameters) s = answers_stay first parameters s
-    in_stays first least most chunk s = s
+    pub in_stays : (first least : ℕ) (chunk : ChunkTree) → SaysIn first least x chunk → SaysIn first least y chunk
+    in_stays first least (sack_chunk sack) s =
+        record { point = s.point; sent = (goes_grows kind x y k g).sacks s.point s.sent; written = s.written; from = s.from }
+    in_stays first least (re_config_chunk parameters) s = answers_stay first parameters s
+    in_stays first least chunk s = s
 
     -- chunks, and packets
-    pub all_out_stay : (first least most : ℕ) (chunks : List ChunkTree) → All (SaysOut message is_interleaved first least most x) chunks → All (SaysOut message is_interleaved first least most y) chunks
-    all_out_stay first least most chunks a =
-        All-weaker (SaysOut message is_interleaved first least most x) (SaysOut message is_interleaved first least most y) (λ chunk s. out_stays first least most chunk s) chunks a
+    pub all_out_stay : (first least : ℕ) (chunks : List ChunkTree) → All (SaysOut message is_interleaved first least x) chunks → All (SaysOut message is_interleaved first least y) chunks
+    all_out_stay first least chunks a =
+        All-weaker (SaysOut message is_interleaved first least x) (SaysOut message is_interleaved first least y) (λ chunk s. out_stays first least chunk s) chunks a
 
-    pub all_in_stay : (first least most : ℕ) (chunks : List ChunkTree) → All (SaysIn first least most x) chunks → All (SaysIn first least most y) chunks
-    all_in_stay first least most chunks a = All-weaker (SaysIn first least most x) (SaysIn first least most y) (λ chunk s. in_stays first least most chunk s) chunks a
+    pub all_in_stay : (first least : ℕ) (chunks : List ChunkTree) → All (SaysIn first least x) chunks → All (SaysIn first least y) chunks
+    all_in_stay first least chunks a = All-weaker (SaysIn first least x) (SaysIn first least y) (λ chunk s. in_stays first least chunk s) chunks a
 
-    pub emitted_out_stays : (first least most : ℕ) (packets : List Carried) → All (λ (p : Carried). All (SaysOut message is_interleaved first least most x) p.chunks) packets
-        → All (λ (p : Carried). All (SaysOut message is_interleaved first least most y) p.chunks) packets
-    emitted_out_stays first least most packets a =
-        All-weaker (λ (p : Carried). All (SaysOut message is_interleaved first least most x) p.chunks) (λ (p : Carried). All (SaysOut message is_interleaved first least most y) p.chunks)
-        (λ p s. all_out_stay first least most p.chunks s) packets a
+    pub emitted_out_stays : (first least : ℕ) (packets : List Carried) → All (λ (p : Carried). All (SaysOut message is_interleaved first least x) p.chunks) packets
+        → All (λ (p : Carried). All (SaysOut message is_interleaved first least y) p.chunks) packets
+    emitted_out_stays first least packets a =
+        All-weaker (λ (p : Carried). All (SaysOut message is_interleaved first least x) p.chunks) (λ (p : Carried). All (SaysOut message is_interleaved first least y) p.chunks)
+        (λ p s. all_out_stay first least p.chunks s) packets a
 
-    pub emitted_in_stays : (first least most : ℕ) (packets : List Carried) → All (λ (p : Carried). All (SaysIn first least most x) p.chunks) packets
-        → All (λ (p : Carried). All (SaysIn first least most y) p.chunks) packets
-    emitted_in_stays first least most packets a =
-        All-weaker (λ (p : Carried). All (SaysIn first least most x) p.chunks) (λ (p : Carried). All (SaysIn first least most y) p.chunks)
-        (λ p s. all_in_stay first least most p.chunks s) packets a
+    pub emitted_in_stays : (first least : ℕ) (packets : List Carried) → All (λ (p : Carried). All (SaysIn first least x) p.chunks) packets
+        → All (λ (p : Carried). All (SaysIn first least y) p.chunks) packets
+    emitted_in_stays first least packets a =
+        All-weaker (λ (p : Carried). All (SaysIn first least x) p.chunks) (λ (p : Carried). All (SaysIn first least y) p.chunks)
+        (λ p s. all_in_stay first least p.chunks s) packets a
 
   -- ---- a sender's rules leave the receiver as it is
 
@@ -372,10 +372,6 @@ asked_still x y asks done answered opened performed requests grows are = record 
 
 -- ---- the claim after an act
 
--- the ask that waits goes out before 2^30 fragments more are numbered
-abbrev pub IsNear : (from x : Direction) → Type 0
-IsNear from x = (a : ResetRequest) → slice_get x.asks x.answered ≡ Some a → count (transfer_of from).sender < a.upto + 2 ^ 30
-
 -- it waited before this action, or is of this action
 abbrev pub IsSince : (from x : Direction) → Type 0
 IsSince from x = (a : ResetRequest) → slice_get x.asks x.answered ≡ Some a → (slice_get from.asks x.answered ≡ Some a) ⊎ (count (transfer_of from).sender ≤ a.upto)
@@ -421,10 +417,10 @@ emits_no_answer prepared es fs x y none answered raised opened =
 module _ (message : ℕ → Message) (lifecycle : ℕ → Option ℕ) (is_interleaved : Bool) (from : Direction) where
   -- what is said in these chunks, and packets
   abbrev pub SaysAll : (first : ℕ) → Direction → List ChunkTree → Type 0
-  SaysAll first x chunks = All (SaysOut message is_interleaved first (transfer_of from).acknowledged (count (transfer_of from).sender) x) chunks
+  SaysAll first x chunks = All (SaysOut message is_interleaved first (transfer_of from).acknowledged x) chunks
 
   abbrev pub SaysPackets : (first : ℕ) → Direction → List Carried → Type 0
-  SaysPackets first x packets = All (λ (p : Carried). All (SaysOut message is_interleaved first (transfer_of from).acknowledged (count (transfer_of from).sender) x) p.chunks) packets
+  SaysPackets first x packets = All (λ (p : Carried). All (SaysOut message is_interleaved first (transfer_of from).acknowledged x) p.chunks) packets
 
   -- where an act leads the rules from x to y, with what it gives up
   pub record SenderStep (prepared later : List ℕ) (a b : EndWithPacket Carried) (x y : Direction) : Type 0 where
@@ -432,7 +428,6 @@ module _ (message : ℕ → Message) (lifecycle : ℕ → Option ℕ) (is_interl
     pub asked : AreRequested y.rules y.asks y.done y.answered
     pub done : y.done ≡ x.done
     pub shown : SendsIn message lifecycle is_interleaved b.state b.context.queue y
-    pub near : IsNear from x → IsNear from y
     pub since : IsSince from x → IsSince from y
     pub given_up : recorded_places b.context.emitted ≡ recorded_places a.context.emitted ++ given_up_places (of_transfer goes.events)
     pub reported : Reports lifecycle (transfer_of x) (transfer_of y) a.context.emitted.events b.context.emitted.events
@@ -445,11 +440,10 @@ module _ (message : ℕ → Message) (lifecycle : ℕ → Option ℕ) (is_interl
       → SenderClaim message lifecycle is_interleaved from later b y
   step_claims prepared later a b x y c s =
       let least : ℕ = (transfer_of from).acknowledged in
-      let most : ℕ = count (transfer_of from).sender in
       let g = goes_given message is_interleaved goes_out from x y c.goes s.goes in
       let first = first_out a.state in
-      let made = s.made (all_out_stay message is_interleaved goes_out x y c.kept.epochs s.goes first least most a.packet.chunks c.made) in
-      let emitted = emitted_out_stays message is_interleaved goes_out x y c.kept.epochs s.goes first least most (packets_in a.context.emitted.events) c.emitted in
+      let made = s.made (all_out_stay message is_interleaved goes_out x y c.kept.epochs s.goes first least a.packet.chunks c.made) in
+      let emitted = emitted_out_stays message is_interleaved goes_out x y c.kept.epochs s.goes first least (packets_in a.context.emitted.events) c.emitted in
       let so_far = c.performed in
       let now = s.resets.performed in
       record {
@@ -457,7 +451,6 @@ module _ (message : ℕ → Message) (lifecycle : ℕ → Option ℕ) (is_interl
         goes = g.0;
         done = s.done ∙ c.done;
         shown = s.shown;
-        near = s.near c.near;
         since = s.since c.since;
         given_up = s.given_up ∙ (ap (λ (ps : List ℕ). ps ++ given_up_places (of_transfer s.goes.events)) c.given_up ∙ sym g.1);
         reported = reports_then lifecycle (transfer_of from) (transfer_of x) (transfer_of y) [] a.context.emitted.events b.context.emitted.events c.reported s.reported;

@@ -7,10 +7,10 @@ use Rattle.sctp_state.specs.Options.{Options}
 use Rattle.sctp_rx.specs.DataTracker.{Tracker, force_ack}
 use Rattle.sctp_rx.specs.ReassemblyQueue.{Reassembly}
 use Rattle.proof_protocol.specs.State.{Message, Transfer}
-use Rattle.proof_rx_refines.specs.View.{view_with, IsSeenAs}
-use Rattle.proof_rx_refines.specs.Refinement.{ReceiverRefines}
-use Rattle.proof_rx_refines.specs.Near.{ReadsNear}
-use Rattle.proof_rx_refines.specs.Resets.{base_now}
+use Rattle.proof_refines.specs.View.{view_with, IsSeenAs}
+use Rattle.proof_refines.specs.ReceiverRefinement.{ReceiverRefines}
+use Rattle.proof_refines.specs.Near.{ReadsNear}
+use Rattle.proof_refines.specs.Resets.{base_now}
 use Rattle.spec_endpoint.specs.Association.{Tcb, Phase, State, Closed, CookieWait, Open}
 use Rattle.spec_endpoint.specs.Calls.{ready_in, without_first_message, opens_window, told_if, message_taken_in}
 use Rattle.proof_delivery.proofs.TrackerStaysLemmas.{tracker_forced}

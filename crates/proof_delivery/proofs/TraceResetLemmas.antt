@@ -8,7 +8,7 @@ use Rattle.proof_endpoint.specs.Mapped.{Carried}
 use Rattle.proof_pair.specs.Trace.{Side, Pair, emitted_packets, EndAction, Calls, Gives, Refuses, give_carried, foreign_if, act, goes, run, side_of, state_of}
 use Rattle.proof_delivery.specs.Windows.{numbered_count}
 use Rattle.proof_delivery.specs.GivenUp.{emitted_given, emitted_foreign, emitted_by}
-use Rattle.proof_delivery.specs.Answered.{waiting_number, is_same, NumberedBefore, numbered_before, IsAnswered, AreAnswered, KeepsRequests, performed_in}
+use Rattle.proof_delivery.specs.Answered.{waiting_number, is_same, NumberedBefore, numbered_before, AreAnswered, KeepsRequests, performed_in}
 use Rattle.proof_delivery.proofs.ResetEventsLemmas.{performed_both}
 use Rattle.proof_delivery.specs.StreamEpochs.{StreamEpoch, emitted_at, epochs_after}
 
@@ -61,10 +61,6 @@ answered_now (e ∷ es) w k h = h.0
 abbrev pub asked_of : Bool → NumberedBefore → ℕ
 asked_of true k = k.a
 asked_of false k = k.b
-
-pub answered_at : (x : Bool) (w : Pair) (k : NumberedBefore) → AreAnswered w k → IsAnswered (state_of (side_of x w)) (asked_of x k)
-answered_at true w k h = h.a
-answered_at false w k h = h.b
 
 same_number : (o : Option ℕ) → is_same o o ≡ true
 same_number None = refl

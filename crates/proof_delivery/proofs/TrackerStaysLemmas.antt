@@ -6,13 +6,13 @@ use Rattle.std.proofs.lemmas.Bool.Decides.{nat_tests}
 use Rattle.sctp_serial.specs.Unwrapped.{origin}
 use Rattle.sctp_state.specs.Options.{Options}
 use Rattle.sctp_state.specs.Timer.{Timer, start, stop, expire, is_due}
-use Rattle.sctp_tracker.specs.declared.data_tracker.AckState.{AckState}
-use Rattle.sctp_tracker.specs.declared.data_tracker.AckState.TheVariants.{Idle, Becoming, Delayed, Immediate}
+use Rattle.sctp_rx.specs.declared.data_tracker.AckState.{AckState}
+use Rattle.sctp_rx.specs.declared.data_tracker.AckState.TheVariants.{Idle, Becoming, Delayed, Immediate}
 use Rattle.sctp_rx.specs.Seen.{Run, Seen, in_runs, contains, AreRuns, IsInRuns, last_above, highest}
 use Rattle.sctp_rx.specs.DataTracker.{Tracker, IsTracker, DelayFits, tracker, is_valid, has_seen, window, bound, update_rto, is_ack_due, take_ack, force_ack, is_becoming, packet_end, ack_timeout, insert_number, with_duplicate, observe, forward}
 use Rattle.sctp_rx.specs.Sack.{clear_duplicates}
-use Rattle.sctp_tracker.proofs.SeenRunsLemmas.{le_last_above, next_is_new}
-use Rattle.sctp_tracker.proofs.SeenOneFormLemmas.{contains_add, IsInRuns_add, contains_up_to, IsInRuns_up_to}
+use Rattle.sctp_rx.proofs.SeenRunsLemmas.{le_last_above, next_is_new}
+use Rattle.sctp_rx.proofs.SeenOneFormLemmas.{contains_add, IsInRuns_add, contains_up_to, IsInRuns_up_to}
 
 -- ---- the front and the highest number of a set, by what it has
 

@@ -10,12 +10,12 @@ use Rattle.sctp_tx_outstanding.specs.OutstandingData.{Items}
 use Rattle.spec_endpoint.specs.Association.{Tcb, State, Closed, CookieWait, Open}
 use Rattle.proof_protocol.specs.State.{Message, Transfer, fragment, place_of, count, ordered_of, stream_of}
 use Rattle.proof_protocol.specs.Based.{EpochWindows}
-use Rattle.proof_rx_refines.specs.Near.{AreFew}
-use Rattle.proof_rx_refines.proofs.NearNumberLemmas.{number_le_place}
-use Rattle.proof_tx_refines.specs.Refinement.{StandsFor, AreKept, SenderRefines}
-use Rattle.proof_tx_refines.proofs.ItemsLemmas.{kept_count}
-use Rattle.proof_tx_refines.proofs.BreakLemmas.{next_counted}
-use Rattle.proof_delivery.specs.Windows.{numbered_count, IsNearNext, KeepsWithin, IsWithin}
+use Rattle.proof_refines.specs.Near.{AreFew}
+use Rattle.proof_refines.proofs.NearNumberLemmas.{number_le_place}
+use Rattle.proof_refines.specs.SenderRefinement.{StandsFor, AreKept, SenderRefines}
+use Rattle.proof_refines.proofs.ItemsLemmas.{kept_count}
+use Rattle.proof_refines.proofs.BreakLemmas.{next_counted}
+use Rattle.proof_delivery.specs.Windows.{numbered_count, left_count, IsNearNext, KeepsWithin, IsWithin}
 use Rattle.proof_delivery.proofs.ClaimLemmas.{Direction, transfer_of, IsKept, IsWaiting, IsSending, SendsIn}
 
 -- ---- what was numbered
@@ -29,6 +29,12 @@ module _ (message : ℕ → Message) (lifecycle : ℕ → Option ℕ) (is_interl
   numbered_is Closed q x h = sym (none_numbered x q h)
   numbered_is (CookieWait tag first t1) q x h = sym (none_numbered x q h)
   numbered_is (Open phase t) q x h = let e = next_counted message lifecycle is_interleaved (transfer_of x) q t.sender.outstanding.items h.refines in omega (arith, e)
+
+  -- and how many it keeps no more
+  pub left_is : (s : State) (q : Queue) (x : Direction) → SendsIn message lifecycle is_interleaved s q x → left_count s ≡ (transfer_of x).acknowledged
+  left_is Closed q x h = sym h.acknowledged
+  left_is (CookieWait tag first t1) q x h = sym h.acknowledged
+  left_is (Open phase t) q x h = let e = h.refines.items.point in omega (arith, e)
 
 -- ---- the windows
 

@@ -1,4 +1,4 @@
--- Along a trace: no request to reset streams is without a final answer while its end numbers 2^30 fragments, and an end starts fewer than
+-- Along a trace: no request to reset streams is without a final answer while its end numbers 2^31 fragments, and an end starts fewer than
 -- 2^32 of them: one is started once the one before it has its final answer.
 use Rattle.std.specs.Prelude.{◌≡◌, ℕ, suc, ◌+◌, ◌-◌, ◌^◌, ◌<◌, ◌==◌, Bool, true, false, cond, Option, Some, None, option_map, List, [], ◌∷◌}
 use Rattle.sctp_state.specs.Events.{Event, OnStreamsResetPerformed}
@@ -33,9 +33,9 @@ numbered_before s u n = cond (is_same (waiting_number s) (waiting_number u)) n (
 abbrev pub asked_after : Bool → EndAction → Pair → NumberedBefore → NumberedBefore
 asked_after x action w k = record { a = numbered_before (state_of w.a) (state_of (goes x action w).a) k.a; b = numbered_before (state_of w.b) (state_of (goes x action w).b) k.b }
 
--- while it waits, its end numbers fewer than 2^30 fragments
+-- while it waits, its end numbers fewer than 2^31 fragments
 abbrev pub IsAnswered : State → (asked : ℕ) → Type 0
-IsAnswered s asked = (n : ℕ) → waiting_number s ≡ Some n → numbered_count s < asked + 2 ^ 30
+IsAnswered s asked = (n : ℕ) → waiting_number s ≡ Some n → numbered_count s < asked + 2 ^ 31
 
 pub record AreAnswered (w : Pair) (k : NumberedBefore) : Type 0 where
   pub a : IsAnswered (state_of w.a) k.a

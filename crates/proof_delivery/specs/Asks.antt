@@ -1,6 +1,6 @@
 -- The requests by which an end resets its outgoing streams, in their order: what the rules know of them, and what RE-CONFIG chunks say
 -- (RFC 6525 sections 4.1, 4.4, 5). Requests are counted from 0; a request's number on the wire is that many above the first TSN.
-use Rattle.std.specs.Prelude.{◌≡◌, ◌≢◌, ℕ, zero, suc, ◌+◌, ◌-◌, ◌^◌, ◌<◌, ◌≤◌, ◌⊎◌, true, cond, Option, Some, None, List, [], ◌∷◌, length, slice_get, ⊤}
+use Rattle.std.specs.Prelude.{◌≡◌, ◌≢◌, ℕ, zero, suc, ◌+◌, ◌-◌, ◌<◌, ◌≤◌, ◌⊎◌, true, cond, Option, Some, None, List, [], ◌∷◌, length, slice_get, ⊤}
 use Rattle.sctp_serial.specs.Unwrapped.{origin, u32_space, wire}
 use Rattle.sctp_serial.specs.declared.api.StreamId.{StreamId}
 use Rattle.sctp_wire.specs.Parameter.{ParameterTree, outgoing_reset_request, incoming_reset_request, reset_response}
@@ -10,7 +10,7 @@ use Rattle.sctp_rx.specs.ReassemblyQueue.{Deferred}
 use Rattle.proof_protocol.specs.State.{IsAmong, has, count}
 use Rattle.proof_protocol.specs.Resets as rules
 use Rattle.proof_protocol.specs.Resets.{Epochs}
-use Rattle.proof_tx_refines.specs.Records.{are_distinct}
+use Rattle.proof_refines.specs.Records.{are_distinct}
 use Rattle.spec_endpoint.specs.ResetRequests.{Request, Requests, ids, performed, nothing_to_do, in_progress, is_final}
 
 pub record ResetRequest : Type 0 where
@@ -52,16 +52,14 @@ number_of first j = wire u32_space first (origin + j)
 abbrev pub last_tsn_of : (first : ℕ) → ResetRequest → ℕ
 last_tsn_of first a = wire u32_space first (origin + a.upto - 1)
 
--- A request parameter with this number, last TSN and streams is one of the asks. It goes out when `most` fragments are numbered: fewer than
--- 2^30 more than when it was asked.
-pub record SaysAsk (first most : ℕ) (asks : List ResetRequest) (number last_tsn : ℕ) (streams : List StreamId) : Type 0 where
+-- A request parameter with this number, last TSN and streams is one of the asks.
+pub record SaysAsk (first : ℕ) (asks : List ResetRequest) (number last_tsn : ℕ) (streams : List StreamId) : Type 0 where
   pub at : ℕ
   pub ask : ResetRequest
   pub there : slice_get asks at ≡ Some ask
   pub number_is : number ≡ number_of first at
   pub last_is : last_tsn ≡ last_tsn_of first ask
   pub streams_are : streams ≡ ids ask.streams
-  pub near : most < ask.upto + 2 ^ 30
 
 -- An answer that is final is to a request that was performed. Where it isn't "performed", another one was sent since: `asked` are all.
 pub record SaysDone (first done asked number result : ℕ) : Type 0 where
@@ -72,10 +70,10 @@ pub record SaysDone (first done asked number result : ℕ) : Type 0 where
 
 -- A parameter says something of both directions: requests of the one that its end sends, answers of the other. No end asks for
 -- incoming streams to be reset.
-abbrev pub SaysOutgoing : (first most : ℕ) → List ResetRequest → ParameterTree → Type 0
-SaysOutgoing first most asks (outgoing_reset_request number response last_tsn streams) = SaysAsk first most asks number last_tsn.0 streams
-SaysOutgoing first most asks (incoming_reset_request number streams) = ⊥
-SaysOutgoing first most asks parameter = ⊤
+abbrev pub SaysOutgoing : (first : ℕ) → List ResetRequest → ParameterTree → Type 0
+SaysOutgoing first asks (outgoing_reset_request number response last_tsn streams) = SaysAsk first asks number last_tsn.0 streams
+SaysOutgoing first asks (incoming_reset_request number streams) = ⊥
+SaysOutgoing first asks parameter = ⊤
 
 abbrev pub SaysIncoming : (first done asked : ℕ) → ParameterTree → Type 0
 SaysIncoming first done asked (reset_response number result sender receiver) = is_final result ≡ true → SaysDone first done asked number result

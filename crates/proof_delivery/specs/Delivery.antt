@@ -5,8 +5,8 @@ use Rattle.sctp_serial.specs.Messages.{Message}
 use Rattle.sctp_state.specs.Events.{Event}
 use Rattle.sctp_state.specs.Options.{Options, plainly}
 use Rattle.proof_protocol.specs.State.{has}
-use Rattle.proof_tx_refines.specs.Reachable.{delivered_ids}
-use Rattle.proof_tx_refines.specs.Records.{are_distinct}
+use Rattle.proof_refines.specs.Reachable.{delivered_ids}
+use Rattle.proof_refines.specs.Records.{are_distinct}
 use Rattle.proof_endpoint.specs.Mapped.{Carried}
 use Rattle.proof_pair.specs.Trace.{Pair, EndAction, run, side_of, KeepsRules, NoAssociationHasEnded, AreValidOptions, start}
 use Rattle.proof_pair.specs.Handing.{messages_made_ready, text, two_come}

@@ -9,7 +9,7 @@ use Rattle.proof_pair.specs.Trace.{Pair, EndAction, goes, run, side_of, KeepsRul
 use Rattle.proof_pair.specs.Handing.{messages_made_ready}
 use Rattle.proof_delivery.specs.Accepted.{accepted}
 use Rattle.proof_delivery.specs.GivenUp.{emitted_by}
-use Rattle.proof_delivery.specs.Windows.{stamp, Stamps, no_stamps, stamps_after, stamps_for, IsTimely, KeepsWindows, KeepsLimits}
+use Rattle.proof_delivery.specs.Windows.{numbered, Stamps, no_stamps, stamps_after, stamps_for, IsTimely, KeepsWindows, KeepsLimits}
 use Rattle.proof_delivery.specs.Answered.{KeepsResets}
 use Rattle.proof_delivery.specs.StreamEpochs.{failed_in}
 use Rattle.proof_delivery.specs.Delivery.{ReportsAreTrue, Delivers}
@@ -22,7 +22,7 @@ stamps_along (e ∷ es) w s = stamps_along es (goes e.0 e.1 w) (stamps_after e.0
 -- what a trace has to keep, and one more action of this end; behind it the windows and the requests are asked for no more
 pub record IsInBoundsThen (from_a : Bool) (trace : List (Bool × EndAction)) (last : EndAction) (w : Pair) : Type 0 where
   pub windows : KeepsWindows trace w no_stamps
-  pub timely : IsTimely last (stamp (run trace w)) (stamps_for from_a (stamps_along trace w no_stamps))
+  pub timely : IsTimely last (numbered (run trace w)) (stamps_for from_a (stamps_along trace w no_stamps))
   pub resets : KeepsResets trace w
   pub few : length (accepted from_a (trace ++ (from_a, last) ∷ []) w) < 2 ^ 32
   pub limits : KeepsLimits (trace ++ (from_a, last) ∷ [])

@@ -1,7 +1,7 @@
 -- A trace, computed: of three ordered messages on one stream the second is lost, and may not be sent again.
 use Rattle.std.specs.Prelude.{◌≡◌, ◌*◌, ◌^◌, Bool, true, false, Some, List, [], ◌∷◌, ◌++◌, map}
 use Rattle.sctp_state.specs.Options.{plainly}
-use Rattle.proof_tx_refines.specs.Reachable.{delivered_ids}
+use Rattle.proof_refines.specs.Reachable.{delivered_ids}
 use Rattle.spec_endpoint.specs.Laws.{Send, Advance}
 use Rattle.proof_pair.specs.Trace.{EndAction, Calls, Gives, run, KeepsRules, NoAssociationHasEnded}
 use Rattle.proof_pair.specs.Opens.{at_first, one_connects}

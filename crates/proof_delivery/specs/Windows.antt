@@ -18,6 +18,12 @@ numbered_count Closed = 0
 numbered_count (CookieWait tag first t1) = 0
 numbered_count (Open phase t) = next_number t.sender.outstanding.items - origin
 
+-- how many of them it keeps no more: all below its first item
+abbrev pub left_count : State → ℕ
+left_count Closed = 0
+left_count (CookieWait tag first t1) = 0
+left_count (Open phase t) = t.sender.outstanding.items.acked + 1 - origin
+
 -- of the item's stream fewer than 32,000 ordered messages are numbered, from its own on
 abbrev pub IsNearNext : Queue → Item → Type 0
 IsNearNext q i = i.fragment.is_unordered ≡ false → (stream i.fragment.stream_id q.streams).next_ordered_mid < origin + i.fragment.mid + 32000
@@ -42,13 +48,19 @@ pub record AreWithin (w : Pair) : Type 0 where
 
 -- ---- packets that are given
 
--- how many fragments each end had numbered before the action at which a packet was emitted
+-- a number of fragments of each end
 pub record Stamp : Type 0 where
   pub a : ℕ
   pub b : ℕ
 
-abbrev pub stamp : Pair → Stamp
-stamp w = record { a = numbered_count (state_of w.a); b = numbered_count (state_of w.b) }
+abbrev pub numbered : Pair → Stamp
+numbered w = record { a = numbered_count (state_of w.a); b = numbered_count (state_of w.b) }
+
+-- Of a packet that end a emitted, or else end b: how many each end kept no more before that action, none of which it carries; and of its
+-- own end 2^30 more, as many as that end may keep.
+abbrev pub stamp : (of_a : Bool) → Pair → Stamp
+stamp true w = record { a = left_count (state_of w.a) + 2 ^ 30; b = left_count (state_of w.b) }
+stamp false w = record { a = left_count (state_of w.a); b = left_count (state_of w.b) + 2 ^ 30 }
 
 -- those of all packets that each end emitted
 pub record Stamps : Type 0 where
@@ -63,18 +75,18 @@ abbrev pub stamp_packets : (before after : Side) → Stamp → List Stamp → Li
 stamp_packets x y s stamps = stamps ++ replicate (length (emitted_packets y) - length (emitted_packets x)) s
 
 abbrev pub stamps_after : Bool → EndAction → Pair → Stamps → Stamps
-stamps_after true action w s = record s { of_a = stamp_packets w.a (goes true action w).a (stamp w) s.of_a }
-stamps_after false action w s = record s { of_b = stamp_packets w.b (goes false action w).b (stamp w) s.of_b }
+stamps_after true action w s = record s { of_a = stamp_packets w.a (goes true action w).a (stamp true w) s.of_a }
+stamps_after false action w s = record s { of_b = stamp_packets w.b (goes false action w).b (stamp false w) s.of_b }
 
 -- those of the packets that may be given to this end
 abbrev pub stamps_for : Bool → Stamps → List Stamp
 stamps_for true s = s.of_b
 stamps_for false s = s.of_a
 
--- each end numbered fewer than 2^30 fragments since
+-- each end numbered fewer than 2^31 fragments from there on
 pub record IsYoung (now old : Stamp) : Type 0 where
-  pub a : now.a < old.a + 2 ^ 30
-  pub b : now.b < old.b + 2 ^ 30
+  pub a : now.a < old.a + 2 ^ 31
+  pub b : now.b < old.b + 2 ^ 31
 
 abbrev pub IsTimely : EndAction → (now : Stamp) → List Stamp → Type 0
 IsTimely (Gives which checksum) now stamps = (old : Stamp) → slice_get stamps which ≡ Some old → IsYoung now old
@@ -86,7 +98,7 @@ IsTimely (Refuses p) now stamps = ⊤
 abbrev pub KeepsWindows : List (Bool × EndAction) → Pair → Stamps → Type 0
 KeepsWindows [] w s = AreWithin w
 KeepsWindows (e ∷ es) w s =
-    AreWithin w × IsTimely e.1 (stamp w) (stamps_for e.0 s) × KeepsWindows es (goes e.0 e.1 w) (stamps_after e.0 e.1 w s)
+    AreWithin w × IsTimely e.1 (numbered w) (stamps_for e.0 s) × KeepsWindows es (goes e.0 e.1 w) (stamps_after e.0 e.1 w s)
 
 abbrev pub resets : EndAction → Bool
 resets (Calls (ResetStreams streams)) = true

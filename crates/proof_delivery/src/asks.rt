@@ -6,7 +6,7 @@ ghost use Rattle.proof_protocol.specs.Invariant.{Invariant};
 ghost use Rattle.proof_protocol.specs.Resets.{Epochs, commit, go_all, goes, perform, reset_stream, send_request, transfers};
 ghost use Rattle.proof_protocol.specs.Rules.{TransferEvent, IsAllowed};
 ghost use Rattle.proof_protocol.specs.State.{Message, count, has};
-ghost use Rattle.proof_rx_refines.specs.Resets.{AreNextTo, named_by};
+ghost use Rattle.proof_refines.specs.Resets.{AreNextTo, named_by};
 ghost use Rattle.sctp_rx.specs.ReassemblyQueue.{Deferred};
 ghost use Rattle.sctp_tx_queue.specs.SendQueue.{Queue};
 ghost use Rattle.spec_endpoint.specs.ResetRequests.{Done, Requests, Unsettled, ids, in_progress, is_final, is_last_request, is_next_request, outcome, performed};
@@ -44,7 +44,7 @@ pub fn next_ask_may_be_performed()
 
 /// What a RE-CONFIG said of requests (`asks`) and of their answers (`answers`) stays true as more are asked and performed.
 pub fn what_was_said_stays()
-    ensures asks { (first most : ℕ) (asks more : List ResetRequest) (p : ParameterTree) → SaysOutgoing first most asks p → SaysOutgoing first most (asks ++ more) p }
+    ensures asks { (first : ℕ) (asks more : List ResetRequest) (p : ParameterTree) → SaysOutgoing first asks p → SaysOutgoing first (asks ++ more) p }
     ensures answers { (first done asked more further : ℕ) (p : ParameterTree) → SaysIncoming first done asked p → SaysIncoming first (done + more) (asked + further) p }
 {}
 

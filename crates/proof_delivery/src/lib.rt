@@ -29,10 +29,11 @@ pub mod asks;
 /// The trace keeps these bounds (`IsInBounds`), all read off what the ends hold between actions:
 /// - no fragment is kept while more than 2^30 fragments are numbered from it on, and fewer than 2^62 are numbered in all;
 /// - on each stream fewer than 32,000 ordered messages are numbered from one with a kept fragment on;
-/// - a packet is given while either end has numbered fewer than 2^30 fragments since the action that emitted it;
+/// - a packet is given while its end has numbered fewer than 3 * 2^30 fragments, and the other end fewer than 2^31, from those on that were kept
+///   before the action that emitted it;
 /// - each end accepts fewer than 2^32 messages, and a limit on their size is set below 2^32, as `set_max_message_size` asks;
 /// - each end has fewer than 2^32 - 1 requests to reset streams performed; and while one waits for its answer, its end has numbered fewer
-///   than 2^30 fragments since the action that started it.
+///   than 2^31 fragments since the action that started it.
 ///
 /// An action behind such a trace may end an association. What its end emits before that is true too: a lifecycle id that it reports as
 /// delivered is that of a message that is ready (`ends`).

@@ -21,7 +21,7 @@ use Rattle.proof_delivery.specs.StreamEpochs as delivery
 use Rattle.proof_delivery.specs.StreamEpochs.{StreamEpoch, all_open, are_named, shut_if, shut_streams, opened_if, reopen, performed_of, emitted_at, epochs_of}
 use Rattle.proof_delivery.proofs.TraceResetLemmas.{emitted_goes}
 use Rattle.proof_delivery.proofs.StreamEpochLemmas.{epochs_go_on}
-use Rattle.proof_tx_refines.specs.Reachable.{delivered_ids}
+use Rattle.proof_refines.specs.Reachable.{delivered_ids}
 use Rattle.proof_endpoint.specs.Mapped.{Carried}
 use Rattle.sctp_state.specs.Events.{Event}
 use Rattle.spec_world.specs.Observations as observations

@@ -29,7 +29,7 @@ use Rattle.proof_world.proofs.RunsLemmas.{runs_extends}
 use Rattle.proof_world.proofs.ConsistentLemmas.{are_consistent}
 use Rattle.proof_world.proofs.UpToEndLemmas.{IsOver, UpToEnd, up_to_end}
 use Rattle.proof_world.proofs.PrefixLemmas.{one_is_longer}
-use Rattle.proof_tx_refines.specs.Records.{are_distinct}
+use Rattle.proof_refines.specs.Records.{are_distinct}
 use Rattle.proof_world.proofs.PointsLemmas.{IsDeliveredAt}
 use Rattle.proof_world.proofs.LastingLemmas.{first_pair, r, IsKept, trace_delivers, delivered_front, epochs_front, none_failed, none_failed_front, once, rests, prefix, step, prefix_then, none_ready_then, delivered_beside, none_failed_beside, delivered_own, none_failed_own, ends_delivering, b_parted, stands_first, behind_first, logged_first}
 use Rattle.proof_world.proofs.JustifiedLemmas.{worlds_justified}

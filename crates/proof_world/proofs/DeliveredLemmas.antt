@@ -1,5 +1,5 @@
 -- Each run of a world is made of blocks, keeps its trace's windows, and delivers what its trace delivers.
-use Rattle.std.proofs.Common.{◌≡◌, ◌^◌, inl, inr, ℕ, ◌-◌, ◌||◌, Bool, true, false, Some, None, List, [], ◌∷◌, ◌++◌, length, map, replicate, slice_get, refl, sym, ap, subst, ◌∙◌, append-nil, append_assoc, arith}
+use Rattle.std.proofs.Common.{◌≡◌, ◌^◌, inl, inr, ℕ, ◌+◌, ◌-◌, ◌||◌, Bool, true, false, Some, None, List, [], ◌∷◌, ◌++◌, length, map, replicate, slice_get, refl, sym, ap, subst, ◌∙◌, append-nil, append_assoc, arith}
 use Rattle.std.specs.Prelude.{All}
 use Rattle.std.specs.List.{list_any}
 use Rattle.std.proofs.lemmas.Bool.{lt-leb}
@@ -23,9 +23,9 @@ use Rattle.proof_delivery.specs.Answered.{NumberedBefore, numbered_before, IsAns
 use Rattle.proof_delivery.specs.Justified.{reset_by}
 use Rattle.proof_delivery.specs.StreamEpochs.{all_open}
 use Rattle.proof_delivery.specs.Windows as windows
-use Rattle.proof_delivery.specs.Windows.{numbered_count, IsWithin, Stamp, Stamps, IsYoung}
+use Rattle.proof_delivery.specs.Windows.{numbered_count, left_count, IsWithin, Stamp, Stamps, IsYoung}
 use Rattle.proof_delivery.specs.GivenUp.{given_up_by, given_up_at}
-use Rattle.proof_tx_refines.specs.Reachable.{delivered_ids}
+use Rattle.proof_refines.specs.Reachable.{delivered_ids}
 use Rattle.proof_delivery.specs.Ending as ending
 use Rattle.spec_world.specs.Observations as observations
 use Rattle.spec_world.specs.Observations.{End, A, B, same_end, all_unless, unrefused, Entry, Called, Given, Foreign, Answer, Sent, SentMany, accepted_in, accepted_by, Call, Connect, Shutdown, Close, Send, SendMany, TakeMessage, Reset, SetPriority, SetMaxMessageSize, SetLowThreshold, HandOver}
@@ -33,7 +33,7 @@ use Rattle.spec_world.specs.World.{Side, World, Action, CallOf, Give, GiveForeig
 use Rattle.proof_endpoint.specs.Sound.{ArgumentFits}
 use Rattle.proof_world.specs.Reachable.{ActionFits, IsInBytes}
 use Rattle.proof_world.specs.Traces.{is_a, end_of, give_action, IsActionOf}
-use Rattle.proof_world.specs.Delivered.{given_up_places, reported, AlongRun, SideIsWithin, WorldIsWithin, world_stamp, stamp_packets, stamps_after, ActionIsTimely, WorldKeepsWindows, asked_after, WorldIsAnswered, WorldKeepsRequests, accepted_messages_in, accepted_messages_by, accepted_messages, emitted_events, AcceptedMessagesAgree, AcceptedMessagesHaveEpochs}
+use Rattle.proof_world.specs.Delivered.{given_up_places, reported, AlongRun, SideIsWithin, WorldIsWithin, world_numbered, world_stamp, stamp_packets, stamps_after, ActionIsTimely, WorldKeepsWindows, asked_after, WorldIsAnswered, WorldKeepsRequests, accepted_messages_in, accepted_messages_by, accepted_messages, emitted_events, AcceptedMessagesAgree, AcceptedMessagesHaveEpochs}
 use Rattle.proof_world.specs.Consistent.{NoEndingIsLogged}
 use Rattle.proof_world.proofs.StandingLemmas.{stands_front}
 use Rattle.proof_world.proofs.UpToEndLemmas.{stamps_along}
@@ -144,10 +144,21 @@ module _ (word_of_a word_of_b : List ℕ → ℕ) where
   state_same : (f : Mapping Carried (List ℕ)) (side : Side) (end : traces.Side) → side.socket ≡ map_end f end.end → side.socket.endpoint_state.state ≡ state_of end
   state_same f side end e = ap (λ (z : Endpoint (List ℕ)). z.endpoint_state.state) e
 
-  pub stamp_same : (w : World) (c : Pair) → Both word_of_a word_of_b w c → world_stamp w ≡ windows.stamp c
-  stamp_same w c h =
-      ap (λ (s : State). record { a = numbered_count s; b = numbered_count w.b.socket.endpoint_state.state }) (state_same (as_bytes word_of_a) w.a c.a h.a.image.socket)
-      ∙ ap (λ (s : State). record { a = numbered_count (state_of c.a); b = numbered_count s }) (state_same (as_bytes word_of_b) w.b c.b h.b.image.socket)
+  abbrev counts_of : (n m : State → ℕ) (s t : State) → Stamp
+  counts_of n m s t = record { a = n s; b = m t }
+
+  counts_same : (n m : State → ℕ) (w : World) (c : Pair) → Both word_of_a word_of_b w c
+      → counts_of n m w.a.socket.endpoint_state.state w.b.socket.endpoint_state.state ≡ counts_of n m (state_of c.a) (state_of c.b)
+  counts_same n m w c h =
+      ap (λ (s : State). counts_of n m s w.b.socket.endpoint_state.state) (state_same (as_bytes word_of_a) w.a c.a h.a.image.socket)
+      ∙ ap (λ (s : State). counts_of n m (state_of c.a) s) (state_same (as_bytes word_of_b) w.b c.b h.b.image.socket)
+
+  pub numbered_same : (w : World) (c : Pair) → Both word_of_a word_of_b w c → world_numbered w ≡ windows.numbered c
+  numbered_same w c h = counts_same numbered_count numbered_count w c h
+
+  stamp_same : (x : End) (w : World) (c : Pair) → Both word_of_a word_of_b w c → world_stamp x w ≡ windows.stamp (is_a x) c
+  stamp_same A w c h = counts_same (λ s. left_count s + 2 ^ 30) left_count w c h
+  stamp_same B w c h = counts_same left_count (λ s. left_count s + 2 ^ 30) w c h
 
   within_same : (f : Mapping Carried (List ℕ)) (side : Side) (end : traces.Side) → side.socket ≡ map_end f end.end → SideIsWithin side → IsWithin (state_of end) (windows.queue_of end)
   within_same f side end e h = subst (λ (z : Endpoint (List ℕ)). IsWithin z.endpoint_state.state z.endpoint_state.context.queue) e h
@@ -175,35 +186,35 @@ module _ (word_of_a word_of_b : List ℕ → ℕ) where
   pub stamps_same : (at_a : Bool) (turn : EndAction) (w u : World) (c : Pair) (s : Stamps) → Both word_of_a word_of_b w c → Both word_of_a word_of_b u (goes at_a turn c)
       → stamps_after w u s ≡ windows.stamps_after at_a turn c s
   stamps_same true turn w u c s h k =
-      ap (λ (l : List Stamp). record { of_a = l; of_b = stamp_packets w.b u.b (world_stamp w) s.of_b })
-      (stamped_same (as_written word_of_a) w.a u.a c.a (act turn c.a c.b) (world_stamp w) (windows.stamp c) s.of_a h.a.image.packets k.a.image.packets (stamp_same w c h))
-      ∙ ap (λ (l : List Stamp). record { of_a = windows.stamp_packets c.a (act turn c.a c.b) (windows.stamp c) s.of_a; of_b = l })
-      (stamped_same (as_written word_of_b) w.b u.b c.b c.b (world_stamp w) (windows.stamp c) s.of_b h.b.image.packets k.b.image.packets (stamp_same w c h)
-      ∙ none_stamped c.b (windows.stamp c) s.of_b)
+      ap (λ (l : List Stamp). record { of_a = l; of_b = stamp_packets w.b u.b (world_stamp B w) s.of_b })
+      (stamped_same (as_written word_of_a) w.a u.a c.a (act turn c.a c.b) (world_stamp A w) (windows.stamp true c) s.of_a h.a.image.packets k.a.image.packets (stamp_same A w c h))
+      ∙ ap (λ (l : List Stamp). record { of_a = windows.stamp_packets c.a (act turn c.a c.b) (windows.stamp true c) s.of_a; of_b = l })
+      (stamped_same (as_written word_of_b) w.b u.b c.b c.b (world_stamp B w) (windows.stamp false c) s.of_b h.b.image.packets k.b.image.packets (stamp_same B w c h)
+      ∙ none_stamped c.b (windows.stamp false c) s.of_b)
   stamps_same false turn w u c s h k =
-      ap (λ (l : List Stamp). record { of_a = l; of_b = stamp_packets w.b u.b (world_stamp w) s.of_b })
-      (stamped_same (as_written word_of_a) w.a u.a c.a c.a (world_stamp w) (windows.stamp c) s.of_a h.a.image.packets k.a.image.packets (stamp_same w c h)
-      ∙ none_stamped c.a (windows.stamp c) s.of_a)
+      ap (λ (l : List Stamp). record { of_a = l; of_b = stamp_packets w.b u.b (world_stamp B w) s.of_b })
+      (stamped_same (as_written word_of_a) w.a u.a c.a c.a (world_stamp A w) (windows.stamp true c) s.of_a h.a.image.packets k.a.image.packets (stamp_same A w c h)
+      ∙ none_stamped c.a (windows.stamp true c) s.of_a)
       ∙ ap (λ (l : List Stamp). record { of_a = s.of_a; of_b = l })
-      (stamped_same (as_written word_of_b) w.b u.b c.b (act turn c.b c.a) (world_stamp w) (windows.stamp c) s.of_b h.b.image.packets k.b.image.packets (stamp_same w c h))
+      (stamped_same (as_written word_of_b) w.b u.b c.b (act turn c.b c.a) (world_stamp B w) (windows.stamp false c) s.of_b h.b.image.packets k.b.image.packets (stamp_same B w c h))
 
   receiving_timely : (b : Bool) (n sum : ℕ) (now : Stamp) (stamps : List Stamp) → ((old : Stamp) → slice_get stamps n ≡ Some old → IsYoung now old)
       → windows.IsTimely (give_action b n sum) now stamps
   receiving_timely true n sum now stamps h = h
   receiving_timely false n sum now stamps h = tt
 
-  pub timely : (action : Action) (w : World) (c : Pair) (turn : EndAction) (s : Stamps) → Both word_of_a word_of_b w c → IsActionOf word_of_a word_of_b action turn c → ActionIsTimely action (world_stamp w) s
-      → windows.IsTimely turn (windows.stamp c) (windows.stamps_for (is_a (end_of action)) s)
-  timely (CallOf x call) w c turn s h is t = subst (λ (z : EndAction). windows.IsTimely z (windows.stamp c) (windows.stamps_for (is_a x) s)) (sym is) tt
+  pub timely : (action : Action) (w : World) (c : Pair) (turn : EndAction) (s : Stamps) → Both word_of_a word_of_b w c → IsActionOf word_of_a word_of_b action turn c → ActionIsTimely action (world_numbered w) s
+      → windows.IsTimely turn (windows.numbered c) (windows.stamps_for (is_a (end_of action)) s)
+  timely (CallOf x call) w c turn s h is t = subst (λ (z : EndAction). windows.IsTimely z (windows.numbered c) (windows.stamps_for (is_a x) s)) (sym is) tt
   timely (Give n A) w c turn s h is t =
-      subst (λ (z : EndAction). windows.IsTimely z (windows.stamp c) s.of_b) (sym is.received)
-      (receiving_timely _ n _ (windows.stamp c) s.of_b (λ old e. subst (λ (z : Stamp). IsYoung z old) (stamp_same w c h) (t old e)))
+      subst (λ (z : EndAction). windows.IsTimely z (windows.numbered c) s.of_b) (sym is.received)
+      (receiving_timely _ n _ (windows.numbered c) s.of_b (λ old e. subst (λ (z : Stamp). IsYoung z old) (numbered_same w c h) (t old e)))
   timely (Give n B) w c turn s h is t =
-      subst (λ (z : EndAction). windows.IsTimely z (windows.stamp c) s.of_a) (sym is.received)
-      (receiving_timely _ n _ (windows.stamp c) s.of_a (λ old e. subst (λ (z : Stamp). IsYoung z old) (stamp_same w c h) (t old e)))
-  timely (GiveForeign x bytes) w c turn s h (inl is) t = subst (λ (z : EndAction). windows.IsTimely z (windows.stamp c) (windows.stamps_for (is_a x) s)) (sym is.2) tt
-  timely (GiveForeign x bytes) w c turn s h (inr is) t = subst (λ (z : EndAction). windows.IsTimely z (windows.stamp c) (windows.stamps_for (is_a x) s)) (sym is) tt
-  timely (AdvanceTime x now) w c turn s h is t = subst (λ (z : EndAction). windows.IsTimely z (windows.stamp c) (windows.stamps_for (is_a x) s)) (sym is) tt
+      subst (λ (z : EndAction). windows.IsTimely z (windows.numbered c) s.of_a) (sym is.received)
+      (receiving_timely _ n _ (windows.numbered c) s.of_a (λ old e. subst (λ (z : Stamp). IsYoung z old) (numbered_same w c h) (t old e)))
+  timely (GiveForeign x bytes) w c turn s h (inl is) t = subst (λ (z : EndAction). windows.IsTimely z (windows.numbered c) (windows.stamps_for (is_a x) s)) (sym is.2) tt
+  timely (GiveForeign x bytes) w c turn s h (inr is) t = subst (λ (z : EndAction). windows.IsTimely z (windows.numbered c) (windows.stamps_for (is_a x) s)) (sym is) tt
+  timely (AdvanceTime x now) w c turn s h is t = subst (λ (z : EndAction). windows.IsTimely z (windows.numbered c) (windows.stamps_for (is_a x) s)) (sym is) tt
 
   -- ---- requests to reset streams
 

@@ -4,7 +4,7 @@ use Rattle.std.specs.List.{flat_map}
 use Rattle.std.proofs.lemmas.Bool.Decides.{nat_tests}
 use Rattle.sctp_serial.specs.Messages.{Message}
 use Rattle.sctp_state.specs.Events.{Event, GivenUp}
-use Rattle.proof_tx_refines.specs.Reachable.{delivered_ids}
+use Rattle.proof_refines.specs.Reachable.{delivered_ids}
 use Rattle.spec_endpoint.specs.Association.{State, Closed, CookieWait, Open, Endpoint}
 use Rattle.spec_endpoint.specs.Calls.{shown_state, send_refusal, ready_in}
 use Rattle.spec_endpoint.specs.Handover.{readiness}

@@ -12,7 +12,7 @@ use Rattle.proof_delivery.specs.Windows.{numbered_count, IsNearNext, IsWithin, S
 use Rattle.spec_world.specs.Observations.{End, A, B, Entry}
 use Rattle.spec_world.specs.World.{World, Action, CallOf, Give, GiveForeign, AdvanceTime, Runs}
 use Rattle.proof_world.specs.Consistent.{NoEndingIsLogged}
-use Rattle.proof_world.specs.Delivered.{AlongRun, accepted_messages, emitted_events, WorldIsWithin, world_stamp, stamps_after, ActionIsTimely, WorldKeepsWindows, asked_after, WorldIsAnswered, WorldKeepsRequests, WorldIsInBounds}
+use Rattle.proof_world.specs.Delivered.{AlongRun, accepted_messages, emitted_events, WorldIsWithin, world_numbered, stamps_after, ActionIsTimely, WorldKeepsWindows, asked_after, WorldIsAnswered, WorldKeepsRequests, WorldIsInBounds}
 
 -- ---- few numbers, as the ends hold them between events
 
@@ -63,13 +63,13 @@ answered s q asked h = λ n waits. let few = counted s q h in omega (arith, few)
 
 -- ---- a world
 
-young : (w : World) (old : Stamp) → WorldNumbersFew w → IsYoung (world_stamp w) old
+young : (w : World) (old : Stamp) → WorldNumbersFew w → IsYoung (world_numbered w) old
 young w old h =
     let few_a = counted w.a.socket.endpoint_state.state w.a.socket.endpoint_state.context.queue h.a in
     let few_b = counted w.b.socket.endpoint_state.state w.b.socket.endpoint_state.context.queue h.b in
     record { a = omega (arith, few_a); b = omega (arith, few_b) }
 
-timely : (action : Action) (w : World) (s : Stamps) → WorldNumbersFew w → ActionIsTimely action (world_stamp w) s
+timely : (action : Action) (w : World) (s : Stamps) → WorldNumbersFew w → ActionIsTimely action (world_numbered w) s
 timely (Give packet A) w s h = λ old there. young w old h
 timely (Give packet B) w s h = λ old there. young w old h
 timely (CallOf x call) w s h = tt

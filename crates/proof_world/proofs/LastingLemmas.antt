@@ -13,9 +13,9 @@ use Rattle.spec_endpoint.specs.Laws.{endings}
 use Rattle.proof_endpoint.specs.Mapped.{Mapping, Carried, map_event, as_bytes}
 use Rattle.sctp_rx.specs.Delivery as orders
 use Rattle.proof_protocol.specs.State.{has}
-use Rattle.proof_tx_refines.specs.Reachable.{delivered_ids}
-use Rattle.proof_tx_refines.specs.Records.{are_distinct}
-use Rattle.proof_tx_refines.proofs.SackLemmas.{delivered_more}
+use Rattle.proof_refines.specs.Reachable.{delivered_ids}
+use Rattle.proof_refines.specs.Records.{are_distinct}
+use Rattle.proof_refines.proofs.SackLemmas.{delivered_more}
 use Rattle.proof_pair.specs.Trace as traces
 use Rattle.proof_pair.specs.Trace.{Pair, EndAction, goes, run, start, NoAssociationHasEnded, AreValidOptions, MayAct}
 use Rattle.proof_pair.specs.Handing.{ready_at, handed_at, messages_made_ready}
@@ -38,7 +38,7 @@ use Rattle.spec_world.specs.Observations.{End, A, B, Entry, BecameReady, ready, 
 use Rattle.spec_world.specs.World.{World, Action, Happens, other, is_at_rest, packets_in, emitted_entries}
 use Rattle.proof_world.specs.Reachable.{ActionFits, Origin, IsReachable, initial_world}
 use Rattle.proof_world.specs.Traces.{is_a, end_of, emitted_in}
-use Rattle.proof_world.specs.Delivered.{given_up_places, reported_by, reported, AlongRun, ready_places, world_stamp, ActionIsTimely, WorldKeepsWindows, WorldKeepsRequests, accepted_messages_by, accepted_messages, emitted_events_by, emitted_events, IsInItsEpoch}
+use Rattle.proof_world.specs.Delivered.{given_up_places, reported_by, reported, AlongRun, ready_places, world_numbered, ActionIsTimely, WorldKeepsWindows, WorldKeepsRequests, accepted_messages_by, accepted_messages, emitted_events_by, emitted_events, IsInItsEpoch}
 use Rattle.proof_world.specs.Consistent.{association_ends_by, times_ended, NoEndingIsLogged, WorldKeepsRules}
 use Rattle.proof_world.proofs.EventLemmas.{mapped, entries_both, ended_emitted}
 use Rattle.proof_world.proofs.NewsLemmas.{emitted_both, ended_by_emitted}
@@ -442,14 +442,14 @@ module _ {origin : Origin} {actions : List Action} (w : World) (l : IsReachable 
 
     -- ---- the bounds, with that event
 
-    pub ends_delivering : ending.MessagesAreDeliveredThen → IsKept → ActionIsTimely action (world_stamp w) (stamps_along actions first_world w l.runs windows.no_stamps)
+    pub ends_delivering : ending.MessagesAreDeliveredThen → IsKept → ActionIsTimely action (world_numbered w) (stamps_along actions first_world w l.runs windows.no_stamps)
         → length (accepted_messages x (w.log ++ b_parted.first ∷ [])) < 2 ^ 32
         → ending.DeliversThen (is_a x) r.trace step.turn first_pair
     ends_delivering law k t few =
         law a b words_a words_b r.trace (is_a x) step.turn options_a_valid options_b_valid (follows_more r.trace (is_a x, step.turn) first_pair follows may) not_ended (record {
           windows = d.windows_kept windows.no_stamps none k.windows;
           timely =
-              subst (λ (s : windows.Stamps). windows.IsTimely step.turn (windows.stamp c) (windows.stamps_for (is_a x) s)) (d.stamps windows.no_stamps)
+              subst (λ (s : windows.Stamps). windows.IsTimely step.turn (windows.numbered c) (windows.stamps_for (is_a x) s)) (d.stamps windows.no_stamps)
               (timely word_of_a word_of_b action w c step.turn (stamps_along actions first_world w l.runs windows.no_stamps) r.both step.is t);
           resets = resets_kept k;
           few = subst (λ (l : List AcceptedMessage). length l < 2 ^ 32) accepted_are few;

@@ -10,8 +10,8 @@ use Rattle.spec_endpoint.specs.Association.{State, Closed, CookieWait, Open, End
 use Rattle.spec_endpoint.specs.Calls.{keeps_items}
 use Rattle.spec_endpoint.specs.Shown as socket
 use Rattle.proof_endpoint.specs.Mapped.{Mapping, Carried, map_end, as_bytes}
-use Rattle.proof_tx_refines.specs.Reachable.{delivered_ids}
-use Rattle.proof_tx_refines.specs.Records.{are_distinct}
+use Rattle.proof_refines.specs.Reachable.{delivered_ids}
+use Rattle.proof_refines.specs.Records.{are_distinct}
 use Rattle.proof_pair.specs.Trace as traces
 use Rattle.proof_pair.specs.Trace.{Pair, EndAction, run, state_of}
 use Rattle.proof_pair.specs.Handing.{messages_made_ready}

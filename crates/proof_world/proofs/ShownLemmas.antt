@@ -8,7 +8,7 @@ use Rattle.rand_core.specs.Stream.{Stream}
 use Rattle.sctp_tx_outstanding.specs.Item.{Item}
 use Rattle.sctp_state.specs.Options.{Options, IsValid}
 use Rattle.sctp_state.specs.Events.{GivenUp, Event, SendPacket, OnConnected, OnClosed, OnConnectionRestarted, OnAborted, OnError, OnBufferedAmountLow, OnTotalBufferedAmountLow, OnStreamsResetFailed, OnStreamsResetPerformed, OnIncomingStreamReset, OnLifecycleMessageFullySent, OnLifecycleMessageMaybeExpired, OnLifecycleMessageExpired, OnLifecycleMessageDelivered, OnLifecycleEnd}
-use Rattle.proof_tx_refines.specs.Reachable.{delivered_ids}
+use Rattle.proof_refines.specs.Reachable.{delivered_ids}
 use Rattle.spec_endpoint.specs.Association.{State, Closed, CookieWait, Open, Endpoint}
 use Rattle.spec_endpoint.specs.Calls.{keeps_items}
 use Rattle.spec_endpoint.specs.Laws.{endings}

@@ -7,7 +7,7 @@ use Rattle.proof_delivery.specs.Windows.{Stamps}
 use Rattle.spec_world.specs.World.{World, Action, Happens, Runs}
 use Rattle.proof_world.specs.Reachable.{ActionFits}
 use Rattle.proof_world.specs.Consistent.{NoEndingIsLogged}
-use Rattle.proof_world.specs.Delivered.{world_stamp, stamps_after, ActionIsTimely, WorldKeepsWindows, asked_after, WorldKeepsRequests, AlongRun}
+use Rattle.proof_world.specs.Delivered.{world_numbered, stamps_after, ActionIsTimely, WorldKeepsWindows, asked_after, WorldKeepsRequests, AlongRun}
 use Rattle.proof_world.proofs.StandingLemmas.{stands_front, stands_or_not}
 use Rattle.proof_world.proofs.WorldLemmas.{Extends, extends_same, extends_then}
 use Rattle.proof_world.proofs.RunsLemmas.{happens_extends, runs_extends}
@@ -25,7 +25,7 @@ pub record IsOver (actions : List Action) (w v : World) (r : Runs actions w v) (
   pub happens : Happens action u next
   pub ends : NoEndingIsLogged next.log → ⊥
   pub later : Extends next v
-  pub timely : (s : Stamps) → WorldKeepsWindows actions w v r s → ActionIsTimely action (world_stamp u) (stamps_along front w u before s)
+  pub timely : (s : Stamps) → WorldKeepsWindows actions w v r s → ActionIsTimely action (world_numbered u) (stamps_along front w u before s)
 
 pub record UpToEnd (actions : List Action) (w v : World) (r : Runs actions w v) : Type 1 where
   pub front : List Action

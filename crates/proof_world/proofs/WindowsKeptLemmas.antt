@@ -18,11 +18,11 @@ use Rattle.spec_world.specs.Observations.{A, B}
 use Rattle.spec_world.specs.World.{Side, World, Action, CallOf, Give, GiveForeign, AdvanceTime, Runs}
 use Rattle.proof_world.specs.Reachable.{ActionFits, IsInBytes}
 use Rattle.proof_world.specs.Traces.{is_a, end_of, is_let_through, give_action, IsGiveAction, IsActionOf, AreActionsOf}
-use Rattle.proof_world.specs.Delivered.{SideIsWithin, WorldIsWithin, world_stamp, stamps_after, ActionIsTimely, WorldKeepsWindows, asked_after, WorldIsAnswered, WorldKeepsRequests}
+use Rattle.proof_world.specs.Delivered.{SideIsWithin, WorldIsWithin, world_numbered, stamps_after, ActionIsTimely, WorldKeepsWindows, asked_after, WorldIsAnswered, WorldKeepsRequests}
 use Rattle.proof_world.specs.Worlds.{is_foreign, NoneIsForeign}
 use Rattle.proof_world.proofs.WorldLemmas.{Both, extends_then, in_bytes_before}
 use Rattle.proof_world.proofs.RunsLemmas.{runs_extends, happens_extends}
-use Rattle.proof_world.proofs.DeliveredLemmas.{stamp_same, stamps_same, asked_same}
+use Rattle.proof_world.proofs.DeliveredLemmas.{numbered_same, stamps_same, asked_same}
 use Rattle.proof_world.proofs.NextLemmas.{goes_next}
 
 -- a packet that isn't let through is received as none
@@ -55,12 +55,12 @@ module _ (word_of_a word_of_b : List ℕ → ℕ) where
   }
 
   timely : (action : Action) (w : World) (c : Pair) (turn : EndAction) (s : Stamps) → Both word_of_a word_of_b w c → is_of_none turn ≡ false → IsActionOf word_of_a word_of_b action turn c
-      → windows.IsTimely turn (windows.stamp c) (windows.stamps_for (is_a (end_of action)) s) → ActionIsTimely action (world_stamp w) s
+      → windows.IsTimely turn (windows.numbered c) (windows.stamps_for (is_a (end_of action)) s) → ActionIsTimely action (world_numbered w) s
   timely (CallOf x call) w c turn s h k is t = tt
   timely (Give n A) w c turn s h k is t = λ old e.
-      subst (λ (z : Stamp). IsYoung z old) (sym (stamp_same word_of_a word_of_b w c h)) (given_timely word_of_a word_of_b n c.a c.b turn (windows.stamp c) s.of_b is k t old e)
+      subst (λ (z : Stamp). IsYoung z old) (sym (numbered_same word_of_a word_of_b w c h)) (given_timely word_of_a word_of_b n c.a c.b turn (windows.numbered c) s.of_b is k t old e)
   timely (Give n B) w c turn s h k is t = λ old e.
-      subst (λ (z : Stamp). IsYoung z old) (sym (stamp_same word_of_a word_of_b w c h)) (given_timely word_of_b word_of_a n c.b c.a turn (windows.stamp c) s.of_a is k t old e)
+      subst (λ (z : Stamp). IsYoung z old) (sym (numbered_same word_of_a word_of_b w c h)) (given_timely word_of_b word_of_a n c.b c.a turn (windows.numbered c) s.of_a is k t old e)
   timely (GiveForeign x bytes) w c turn s h k is t = tt
   timely (AdvanceTime x now) w c turn s h k is t = tt
 
@@ -80,7 +80,7 @@ module _ (word_of_a word_of_b : List ℕ → ℕ) where
       (goes_next word_of_a word_of_b action w u c turn own (All-head ActionFits action actions fit) here r.1 are.1 h) in (
         (λ stands. (
           are_within w c h k.0,
-          timely action w c turn s h some are.1 (subst (λ (b : Bool). windows.IsTimely turn (windows.stamp c) (windows.stamps_for b s)) are.0 k.1),
+          timely action w c turn s h some are.1 (subst (λ (b : Bool). windows.IsTimely turn (windows.numbered c) (windows.stamps_for b s)) are.0 k.1),
         )),
         keeps actions es u v (goes at_a turn c) (stamps_after w u s) (All-tail ActionFits action actions fit)
             ((or_parts (is_foreign action) (list_any is_foreign actions) none).1) ((or_parts (is_of_none turn) (list_any (λ (e : Bool × EndAction). is_of_none e.1) es) received).1)

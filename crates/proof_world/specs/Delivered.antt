@@ -1,16 +1,16 @@
 -- Messages that become ready at an end of a world are those that the other end accepted, and what became of the others: premises
 -- and claim are read off the log, the actions and the values that the sockets hold between them.
-use Rattle.std.specs.Prelude.{◌≡◌, ℕ, ◌-◌, ◌^◌, ◌<◌, ◌≤◌, Bool, true, false, Some, None, List, [], ◌∷◌, ◌++◌, length, map, take, replicate, slice_get, slice_index, ⊤}
+use Rattle.std.specs.Prelude.{◌≡◌, ℕ, ◌+◌, ◌-◌, ◌^◌, ◌<◌, ◌≤◌, Bool, true, false, Some, None, List, [], ◌∷◌, ◌++◌, length, map, take, replicate, slice_get, slice_index, ⊤}
 use Rattle.std.specs.List.{flat_map}
 use Rattle.sctp_serial.specs.Messages.{Message}
 use Rattle.sctp_state.specs.Events.{Event, OnLifecycleMessageDelivered, GivenUp}
 use Rattle.proof_protocol.specs.State.{has}
-use Rattle.proof_tx_refines.specs.Records.{are_distinct}
+use Rattle.proof_refines.specs.Records.{are_distinct}
 use Rattle.proof_delivery.specs.Accepted.{AcceptedMessage}
 use Rattle.proof_delivery.specs.Answered.{NumberedBefore, none_asked, numbered_before, IsAnswered, performed_in}
 use Rattle.proof_delivery.specs.Justified.{reset_unless}
 use Rattle.proof_delivery.specs.StreamEpochs.{StreamEpoch, all_open, shut_streams, reopen, performed_of, epochs_of, resets_emitted}
-use Rattle.proof_delivery.specs.Windows.{numbered_count, IsWithin, Stamp, Stamps, no_stamps, IsYoung}
+use Rattle.proof_delivery.specs.Windows.{numbered_count, left_count, IsWithin, Stamp, Stamps, no_stamps, IsYoung}
 use Rattle.proof_delivery.specs.Delivery.{Fits, SkippedAreGivenUp, IsReady, AllAreDone}
 use Rattle.spec_world.specs.Observations.{End, A, B, same_end, none_unless, all_unless, Call, Send, SendMany, Reset, Answer, Sent, SentMany, AskedReset, unrefused, Entry, Called, Given, Foreign, Timed, EmittedEvent, BecameReady, accepted, ready, given_up}
 use Rattle.spec_world.specs.World.{Side, World, Action, Give, Runs, other, is_at_rest}
@@ -83,17 +83,23 @@ pub record WorldIsWithin (w : World) : Type 0 where
   pub b : SideIsWithin w.b
 
 -- how many fragments each end has numbered
-abbrev pub world_stamp : World → Stamp
-world_stamp w = record { a = numbered_count w.a.socket.endpoint_state.state; b = numbered_count w.b.socket.endpoint_state.state }
+abbrev pub world_numbered : World → Stamp
+world_numbered w = record { a = numbered_count w.a.socket.endpoint_state.state; b = numbered_count w.b.socket.endpoint_state.state }
 
--- those of all packets: as many as both ends had numbered before the event that emitted it
+-- Of a packet that this end emitted: how many each end kept no more before that event, none of which it carries; and of its own end 2^30
+-- more, as many as that end may keep.
+abbrev pub world_stamp : End → World → Stamp
+world_stamp A w = record { a = left_count w.a.socket.endpoint_state.state + 2 ^ 30; b = left_count w.b.socket.endpoint_state.state }
+world_stamp B w = record { a = left_count w.a.socket.endpoint_state.state; b = left_count w.b.socket.endpoint_state.state + 2 ^ 30 }
+
+-- those of all packets
 abbrev pub stamp_packets : (before after : Side) → Stamp → List Stamp → List Stamp
 stamp_packets x y s stamps = stamps ++ replicate (length y.packets - length x.packets) s
 
 abbrev pub stamps_after : (w u : World) → Stamps → Stamps
-stamps_after w u s = record { of_a = stamp_packets w.a u.a (world_stamp w) s.of_a; of_b = stamp_packets w.b u.b (world_stamp w) s.of_b }
+stamps_after w u s = record { of_a = stamp_packets w.a u.a (world_stamp A w) s.of_a; of_b = stamp_packets w.b u.b (world_stamp B w) s.of_b }
 
--- no packet is given once an end has numbered 2^30 fragments since
+-- no packet is given once an end has numbered 2^31 fragments from there on
 abbrev pub ActionIsTimely : Action → (now : Stamp) → Stamps → Type 0
 ActionIsTimely (Give packet A) now s = (old : Stamp) → slice_get s.of_b packet ≡ Some old → IsYoung now old
 ActionIsTimely (Give packet B) now s = (old : Stamp) → slice_get s.of_a packet ≡ Some old → IsYoung now old
@@ -103,7 +109,7 @@ ActionIsTimely action now s = ⊤
 abbrev pub WorldKeepsWindows : (actions : List Action) (w v : World) → Runs actions w v → Stamps → Type 0
 WorldKeepsWindows [] w v r s = NoEndingIsLogged w.log → WorldIsWithin w
 WorldKeepsWindows (action ∷ actions) w v r s =
-    (NoEndingIsLogged w.log → WorldIsWithin w × ActionIsTimely action (world_stamp w) s) × WorldKeepsWindows actions r.0 v r.2 (stamps_after w r.0 s)
+    (NoEndingIsLogged w.log → WorldIsWithin w × ActionIsTimely action (world_numbered w) s) × WorldKeepsWindows actions r.0 v r.2 (stamps_after w r.0 s)
 
 -- ---- requests to reset streams, along a run
 
