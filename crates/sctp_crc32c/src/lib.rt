@@ -41,15 +41,15 @@ fn remainder(start: u32, bytes: &[u8]) -> u32
     let mut word = start;
     let mut rest = bytes;
     while let [a, b, c, d, e, f, g, h, i, j, k, l, m, n, o, p, tail @ ..] = rest {
-        let front = behind(entries, 12, word, *a, *b, *c, *d);
-        let second = four(entries, 8, *e, *f, *g, *h);
-        let third = four(entries, 4, *i, *j, *k, *l);
-        let last = four(entries, 0, *m, *n, *o, *p);
+        let front = behind(entries, 12, word, (*a, *b, *c, *d));
+        let second = four(entries, 8, (*e, *f, *g, *h));
+        let third = four(entries, 4, (*i, *j, *k, *l));
+        let last = four(entries, 0, (*m, *n, *o, *p));
         word = front ^ (second ^ (third ^ last));
         rest = tail;
     }
     while let [b0, b1, b2, b3, tail @ ..] = rest {
-        word = behind(entries, 0, word, *b0, *b1, *b2, *b3);
+        word = behind(entries, 0, word, (*b0, *b1, *b2, *b3));
         rest = tail;
     }
     for byte in rest {
@@ -59,32 +59,31 @@ fn remainder(start: u32, bytes: &[u8]) -> u32
 }
 
 /// Four bytes behind the word, and so many zeros behind them.
-fn behind(entries: &[u32; 4096], zeros: usize, word: u32, b0: u8, b1: u8, b2: u8, b3: u8) -> u32
+fn behind(entries: &[u32; 4096], zeros: usize, word: u32, bytes: (u8, u8, u8, u8)) -> u32
     requires tables { entries.now ≡ tables }
     requires few { zeros ≤ 12 }
-    ensures { result ≡ take_zeros zeros (remainder word (b0 ∷ b1 ∷ b2 ∷ b3 ∷ [])) }
+    ensures { result ≡ take_zeros zeros (remainder word (bytes.0 ∷ bytes.1 ∷ bytes.2 ∷ bytes.3 ∷ [])) }
 {
     let parts = word.to_le_bytes();
-    four(
-        entries,
-        zeros,
-        b0 ^ parts[0],
-        b1 ^ parts[1],
-        b2 ^ parts[2],
-        b3 ^ parts[3],
-    )
+    let sums = (
+        bytes.0 ^ parts[0],
+        bytes.1 ^ parts[1],
+        bytes.2 ^ parts[2],
+        bytes.3 ^ parts[3],
+    );
+    four(entries, zeros, sums)
 }
 
 /// Four bytes behind the word 0, and so many zeros behind them.
-fn four(entries: &[u32; 4096], zeros: usize, b0: u8, b1: u8, b2: u8, b3: u8) -> u32
+fn four(entries: &[u32; 4096], zeros: usize, bytes: (u8, u8, u8, u8)) -> u32
     requires tables { entries.now ≡ tables }
     requires few { zeros ≤ 12 }
-    ensures { result ≡ take_zeros zeros (remainder 0 (b0 ∷ b1 ∷ b2 ∷ b3 ∷ [])) }
+    ensures { result ≡ take_zeros zeros (remainder 0 (bytes.0 ∷ bytes.1 ∷ bytes.2 ∷ bytes.3 ∷ [])) }
 {
-    let e0 = entry(entries, zeros + 3, b0);
-    let e1 = entry(entries, zeros + 2, b1);
-    let e2 = entry(entries, zeros + 1, b2);
-    let e3 = entry(entries, zeros, b3);
+    let e0 = entry(entries, zeros + 3, bytes.0);
+    let e1 = entry(entries, zeros + 2, bytes.1);
+    let e2 = entry(entries, zeros + 1, bytes.2);
+    let e3 = entry(entries, zeros, bytes.3);
     e0 ^ (e1 ^ (e2 ^ e3))
 }
 

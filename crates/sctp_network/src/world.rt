@@ -300,8 +300,8 @@ impl<R: Rng, C: Checksum> World<R, C> {
         ensures failed { self.new.has_failed ≡ self.old.has_failed }
     {
         match end {
-            End::A => self.a.advance_time(self.alloc, end, now, &mut self.log),
-            End::B => self.b.advance_time(self.alloc, end, now, &mut self.log),
+            End::A => self.a.advance_time(end, now, &mut self.log),
+            End::B => self.b.advance_time(end, now, &mut self.log),
         }
     }
 
@@ -315,8 +315,8 @@ impl<R: Rng, C: Checksum> World<R, C> {
         ensures failed { self.new.has_failed ≡ self.old.has_failed }
     {
         match end {
-            End::A => give(self.alloc, end, number, &mut self.a, &self.b, &mut self.log),
-            End::B => give(self.alloc, end, number, &mut self.b, &self.a, &mut self.log),
+            End::A => give(end, number, &mut self.a, &self.b, &mut self.log),
+            End::B => give(end, number, &mut self.b, &self.a, &mut self.log),
         }
     }
 
@@ -432,7 +432,6 @@ pub fn run<R: Rng, C: Checksum>(world: &mut World<R, C>, events: &[Event]) -> Re
 
 /// Gives an end the packet of this number of the other one.
 fn give<R: Rng, C: Checksum>(
-    alloc: Global,
     end: End,
     number: usize,
     to: &mut Side<R, C>,
@@ -452,5 +451,5 @@ fn give<R: Rng, C: Checksum>(
     let Some(bytes) = from.packet(number) else {
         return Err(WorldError::NoSuchPacket);
     };
-    Ok(to.receive(alloc, end, number, bytes, log)?)
+    Ok(to.receive(end, number, bytes, log)?)
 }

@@ -105,7 +105,6 @@ impl<R: Rng, C: Checksum> Side<R, C> {
     /// Logs the entry, takes all that the end emitted, and logs what is new.
     fn settle(
         &mut self,
-        alloc: Global,
         end: End,
         first: Entry,
         before: Before,
@@ -127,7 +126,7 @@ impl<R: Rng, C: Checksum> Side<R, C> {
         take_events(&mut self.socket, &mut self.packets, end, log)?;
         take_given_up(&mut self.socket, end, log)?;
         let place = if is_same { before.ready } else { 0 };
-        log_ready(alloc, &self.socket, end, place, log)
+        log_ready(*log.allocator(), &self.socket, end, place, log)
     }
 
     /// Makes a call, and logs it with what it answered and what came of it.
@@ -160,13 +159,12 @@ impl<R: Rng, C: Checksum> Side<R, C> {
             }
         };
         let first = Entry::Call(end, clock, copy, answer);
-        Ok(self.settle(alloc, end, first, before, log)?)
+        Ok(self.settle(end, first, before, log)?)
     }
 
     /// The end's time is advanced.
     pub fn advance_time(
         &mut self,
-        alloc: Global,
         end: End,
         now: SocketTime,
         log: &mut Vec<Entry>,
@@ -184,13 +182,12 @@ impl<R: Rng, C: Checksum> Side<R, C> {
         let before = self.before();
         self.socket.advance_time(now)?;
         let first = Entry::Time(end, self.socket.clock(), now);
-        Ok(self.settle(alloc, end, first, before, log)?)
+        Ok(self.settle(end, first, before, log)?)
     }
 
     /// Takes the bytes of a packet, of which the log has this entry first.
     fn take(
         &mut self,
-        alloc: Global,
         end: End,
         first: Entry,
         bytes: &[u8],
@@ -203,13 +200,12 @@ impl<R: Rng, C: Checksum> Side<R, C> {
     {
         let before = self.before();
         self.socket.handle_input(bytes)?;
-        Ok(self.settle(alloc, end, first, before, log)?)
+        Ok(self.settle(end, first, before, log)?)
     }
 
     /// The packet of this number, with these bytes, is given to the end.
     pub fn receive(
         &mut self,
-        alloc: Global,
         end: End,
         packet: usize,
         bytes: &[u8],
@@ -222,7 +218,7 @@ impl<R: Rng, C: Checksum> Side<R, C> {
             (map entry_tree log.old.items) (map entry_tree log.new.items)) }
     {
         let first = Entry::Give(end, self.socket.clock(), packet);
-        self.take(alloc, end, first, bytes, log)
+        self.take(end, first, bytes, log)
     }
 
     /// Bytes from elsewhere that the end refuses come to it.
@@ -242,7 +238,7 @@ impl<R: Rng, C: Checksum> Side<R, C> {
     {
         let copy = Vec::from_slice(alloc, bytes)?;
         let first = Entry::Foreign(end, self.socket.clock(), Some(copy));
-        self.take(alloc, end, first, bytes, log)
+        self.take(end, first, bytes, log)
     }
 
     /// Bytes from elsewhere are skipped.

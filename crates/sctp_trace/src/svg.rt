@@ -268,32 +268,22 @@ fn words_of(
     words_at(alloc, class, at, words)
 }
 
-fn push_words(
-    alloc: Global,
-    children: &mut Vec<Element>,
-    end: End,
-    row: usize,
-    is_between: bool,
-    words: &str,
-) -> Result<(), AllocError> {
-    children.push(words_of(alloc, end, row, is_between, words)?)?;
-    Ok(())
-}
-
 fn push_row(
     alloc: Global,
     children: &mut Vec<Element>,
     at: usize,
     row: &Row,
 ) -> Result<(), AllocError> {
-    match &row.what {
+    let words = match &row.what {
         What::Sent(number, _, label) => {
             let words = format!(in alloc; "{number}: {label}")?;
-            push_words(alloc, children, row.end, at, true, &words)
+            words_of(alloc, row.end, at, true, &words)?
         }
-        What::Given(_) => Ok(()),
-        What::Note(words) => push_words(alloc, children, row.end, at, false, words),
-    }
+        What::Given(_) => return Ok(()),
+        What::Note(words) => words_of(alloc, row.end, at, false, words)?,
+    };
+    children.push(words)?;
+    Ok(())
 }
 
 /// One group with what stands beside the lifelines and on the arrows.
