@@ -66,6 +66,10 @@ fn parts_of_channel(alloc: Global, event: ChannelEvent) -> Result<EventParts, So
     ensures bytes { IfOk result (λ parts. parts.bytes.items ≡ content_of event) }
 {
     match event {
+        ChannelEvent::Socket(SocketEvent::SendPacket(bytes)) => {
+            let head = EventRecord::of_packet(bytes.len());
+            Ok(EventParts { head, bytes })
+        }
         ChannelEvent::Opened(id) => Ok(alone(alloc, 16, 0, id)),
         ChannelEvent::Message(id, kind, bytes) => {
             let head = head_of(kind_number(kind), 0, id, bytes.len());
@@ -117,14 +121,13 @@ fn take_next<S: DcSctpSocket>(
     channels: &mut DataChannels,
     kept: &mut Option<SocketEvent>,
 ) -> Result<Option<ChannelEvent>, CallError> {
-    if let Some(event) = kept.take() {
-        return Ok(Some(ChannelEvent::Socket(event)));
+    if kept.is_none() {
+        return channels.poll_event(socket);
     }
-    if let Some(event) = channels.next_event() {
-        return Ok(Some(event));
+    match kept.take() {
+        Some(event) => Ok(Some(ChannelEvent::Socket(event))),
+        None => Ok(None),
     }
-    channels.collect(socket)?;
-    Ok(channels.next_event())
 }
 
 /// Writes an event's struct, and lends its bytes. Where there is no memory for those of streams, the event is kept.
@@ -158,7 +161,6 @@ fn lend(
 
 /// Hands out the event that comes next, whose bytes `lent` has then in place of what it had.
 pub fn borrow_event<S: DcSctpSocket>(
-    alloc: Global,
     socket: &mut S,
     channels: &mut Option<DataChannels>,
     kept: &mut Option<SocketEvent>,
@@ -172,6 +174,7 @@ pub fn borrow_event<S: DcSctpSocket>(
     let Some(channels) = channels else {
         return NO_CHANNELS;
     };
+    let alloc = *lent.allocator();
     match take_next(socket, channels, kept) {
         Ok(Some(event)) => lend(alloc, event, kept, head, lent),
         Ok(None) => {

@@ -11,6 +11,6 @@ mod statistics;
 pub use calls::{negotiate, open, write_options};
 pub use events::{borrow_event, handle_input};
 pub use records::{CHANNEL_SIZE, ChannelRecord, GivenChannel};
-pub use sending::{close, kind_of, send};
+pub use sending::{GivenMessage, close, kind_of, send};
 pub use starting::{START_SIZE, StartRecord, start};
 pub use statistics::{STATISTICS_SIZE, copy_label, copy_protocol, write_statistics};

@@ -15,6 +15,13 @@ use sctp_socket_interface::DcSctpSocket;
 use sctp_state::CallError;
 use std::alloc::Global;
 
+/// A message to be sent on a channel.
+#[derive(Clone, Copy)]
+pub struct GivenMessage<'a> {
+    pub kind: PayloadKind,
+    pub payload: &'a [u8],
+}
+
 /// The kind of a message with this number: that of the event by which the peer gets it.
 pub fn kind_of(number: u32) -> Option<PayloadKind>
     ensures { result ≡ kind_at number }
@@ -64,24 +71,23 @@ pub fn send<S: DcSctpSocket>(
     socket: &mut S,
     channels: &mut Option<DataChannels>,
     id: u16,
-    kind: PayloadKind,
-    payload: &[u8],
+    message: &GivenMessage<'_>,
 ) -> u32
     ensures answers { OnChannels (λ d n e. IsAmong (0 ∷ 1 ∷ 11 ∷ 13 ∷ 17 ∷ 25 ∷ 26 ∷ 30 ∷ 31 ∷ []) n) channels.old result channels.new }
-    ensures sent { OnChannels (λ d n e. OnAnswer 0 n (Sent id (length payload.now) d e)) channels.old result channels.new }
-    ensures text { OnChannels (λ d n e. OnAnswer 0 n (IsSendable kind payload.now)) channels.old result channels.new }
+    ensures sent { OnChannels (λ d n e. OnAnswer 0 n (Sent id (length message.now.payload.now) d e)) channels.old result channels.new }
+    ensures text { OnChannels (λ d n e. OnAnswer 0 n (IsSendable message.now.kind message.now.payload.now)) channels.old result channels.new }
     ensures others { OnChannels (λ d n e. OnOthers 0 n (e ≡ d)) channels.old result channels.new }
 {
     let Some(channels) = channels else {
         return NO_CHANNELS;
     };
-    if !is_sendable(kind, payload) {
+    if !is_sendable(message.kind, message.payload) {
         return NOT_UTF8;
     }
-    let Ok(payload) = Vec::from_slice(alloc, payload) else {
+    let Ok(payload) = Vec::from_slice(alloc, message.payload) else {
         return NO_ROOM;
     };
-    send_on(socket, channels, id, kind, payload)
+    send_on(socket, channels, id, message.kind, payload)
 }
 
 fn close_on<S: DcSctpSocket>(socket: &mut S, channels: &mut DataChannels, id: u16) -> u32

@@ -79,13 +79,27 @@ pub(crate) fn put_u16(bytes: &mut [u8], at: usize, number: u16)
     put_u8(bytes, at + 1, (number / 256) as u8);
 }
 
-/// Writes a number, as far as there is a place.
+fn set_u16(bytes: &mut [u8], at: usize, number: u16)
+    requires { at + 2 ≤ length bytes.old }
+    ensures { bytes.new ≡ put_u16 at number bytes.old }
+{
+    bytes[at] = (number % 256) as u8;
+    bytes[at + 1] = (number / 256) as u8;
+}
+
+/// Writes a number, as far as there is a place: at once where there is one for all of it.
 pub fn put_u32(bytes: &mut [u8], at: usize, number: u32)
     requires { at < 1022 }
     ensures { bytes.new ≡ put_u32 at number bytes.old }
 {
-    put_u16(bytes, at, (number % 65_536) as u16);
-    put_u16(bytes, at + 2, (number / 65_536) as u16);
+    let (low, high) = ((number % 65_536) as u16, (number / 65_536) as u16);
+    if at + 4 <= bytes.len() {
+        set_u16(bytes, at, low);
+        set_u16(bytes, at + 2, high);
+    } else {
+        put_u16(bytes, at, low);
+        put_u16(bytes, at + 2, high);
+    }
 }
 
 /// Writes a number, as far as there is a place.

@@ -1,5 +1,5 @@
 -- Channels that become others step by step, and what their owner is told meanwhile.
-use Rattle.std.proofs.Common.{◌≡◌, Some, ℕ, suc, ◌+◌, ◌<◌, List, [], ◌∷◌, ◌++◌, length, drop, get_or, map, add-one, drop-cons, refl, sym, ap, subst, ◌∙◌, arith}
+use Rattle.std.proofs.Common.{◌≡◌, ◌⊎◌, inl, inr, Option, Some, ℕ, suc, ◌+◌, ◌<◌, List, [], ◌∷◌, ◌++◌, length, drop, get_or, map, add-one, drop-cons, refl, sym, ap, subst, ◌∙◌, arith}
 use Rattle.std.proofs.lemmas.Grind.{flat_map-append}
 use Rattle.std.proofs.lemmas.List.{append-nil, append_assoc, map-append, nil_from_length}
 use Rattle.std.specs.List.{flat_map}
@@ -8,8 +8,13 @@ use Rattle.sctp_serial.specs.declared.api.StreamId.{StreamId}
 use Rattle.sctp_state.specs.Events as sockets
 use Rattle.sctp_state.specs.Events.{numbers_of}
 use Rattle.sctp_channels.specs.Channels as table
-use Rattle.sctp_channels.specs.Channels.{Channels, Output}
-use Rattle.sctp_channels.specs.Steps.{DataChannels, Does, Event, Follows, Gets, Runs, StaysTold, Step, acknowledged_by, answers, buffers, carries_out, closed_by, counts, each, gets, heard, hears, passed_on, passes_on, refuses, told_by, with_channels, with_outputs}
+use Rattle.sctp_channels.specs.Channels.{Channels, OnMessage, Output, emit, tell_message}
+use Rattle.sctp_channels.specs.Payload.{protocol_of}
+use Rattle.sctp_channels.specs.declared.payload.PayloadKind.{PayloadKind}
+use Rattle.sctp_channels.specs.declared.payload.PayloadProtocol.{PayloadProtocol}
+use Rattle.sctp_channels.specs.declared.payload.PayloadProtocol.TheVariants.{Data}
+use Rattle.sctp_channels.specs.declared.event.ChannelEvent.{ChannelEvent}
+use Rattle.sctp_channels.specs.Steps.{DataChannels, Does, Event, Follows, Gets, Runs, StaysTold, Step, acknowledged_by, answers, buffers, carries_out, closed_by, counts, each, event_of, gets, heard, hears, is_low, of_channels, of_socket, passed_on, passes_on, refuses, told_by, with_channels, with_outputs}
 
 -- ---- steps
 
@@ -38,6 +43,11 @@ follows_hears event d e is = one_step (hears event) d e refl is
 
 pub follows_passes : (event : sockets.Event (List ℕ)) (told : Event) (d e : DataChannels) → Some told ≡ passed_on event → e ≡ record d { events = d.events ++ told ∷ [] } → Follows d e
 follows_passes event told d e left done = one_step (passes_on event) d e refl (record { told = told; left = sym left; done = done })
+
+-- a packet, which concerns no channel, was told
+pub packet_told : (bytes : List ℕ) (d e : DataChannels) → e ≡ record d { events = d.events ++ of_socket (sockets.SendPacket bytes) ∷ [] } → Follows d e
+packet_told bytes d e is =
+    follows_then d d e (follows_hears (sockets.SendPacket bytes) d d refl) (follows_passes (sockets.SendPacket bytes) (of_socket (sockets.SendPacket bytes)) d e refl is)
 
 pub follows_counts : (n : ℕ) (d e : DataChannels) → e ≡ with_channels (record d.channels { stream_count = n }) d → Follows d e
 follows_counts n d e is = one_step (counts n) d e refl is
@@ -75,6 +85,44 @@ told_same d e same = record { more = []; events = same ∙ sym (append-nil d.eve
 
 pub told_more : (d e : DataChannels) (event : Event) → e ≡ record d { events = d.events ++ event ∷ [] } → StaysTold d e
 told_more d e event is = record { more = event ∷ []; events = ap (λ (x : DataChannels). x.events) is }
+
+-- ---- what is taken out again
+
+pub follows_told : (told : List Event) (c d e : DataChannels) → Follows c d → d ≡ record e { events = told ++ e.events } → Follows c (record e { events = told ++ e.events })
+follows_told told c d e f is = subst (Follows c) is f
+
+pub told_first : (told : List Event) (c d e : DataChannels) → StaysTold c d → d ≡ record e { events = told ++ e.events } → StaysTold c (record e { events = told ++ e.events })
+told_first told c d e s is = subst (StaysTold c) is s
+
+pub follows_none : (d : DataChannels) → Follows d (record d { events = [] ++ d.events })
+follows_none d = follows_same d (record d { events = [] ++ d.events }) refl
+
+pub told_none : (d : DataChannels) → StaysTold d (record d { events = [] ++ d.events })
+told_none d = told_same d (record d { events = [] ++ d.events }) refl
+
+pub nothing_told : (items : List ChannelEvent) → length items ≡ 0 → map event_of items ≡ []
+nothing_told items none = ap (λ (xs : List ChannelEvent). map event_of xs) (nil_from_length items none)
+
+-- ---- an event that is passed on at once, where nothing waits in front of it
+
+at_once : (told : Event) (d : DataChannels) → d.events ≡ [] → record d { events = told ∷ d.events } ≡ record d { events = d.events ++ told ∷ [] }
+at_once told d none =
+    ap (λ (xs : List Event). record d { events = told ∷ xs }) none ∙ sym (ap (λ (xs : List Event). record d { events = xs ++ told ∷ [] }) none)
+
+passed_at_once : (event : sockets.Event (List ℕ)) (told : Event) (d : DataChannels) → d ≡ heard event d → Some told ≡ passed_on event → d.events ≡ []
+    → Follows d (record d { events = told ∷ d.events })
+passed_at_once event told d unheard left none =
+    follows_then d d (record d { events = told ∷ d.events }) (follows_hears event d d unheard)
+    (follows_passes event told d (record d { events = told ∷ d.events }) left (at_once told d none))
+
+pub packet_at_once : (bytes : List ℕ) (d : DataChannels) → d.events ≡ [] → Follows d (record d { events = of_socket (sockets.SendPacket bytes) ∷ d.events })
+packet_at_once bytes d none = passed_at_once (sockets.SendPacket bytes) (of_socket (sockets.SendPacket bytes)) d refl refl none
+
+pub low_at_once : (id : ℕ) (d : DataChannels) → d.events ≡ [] → Follows d (record d { events = is_low id ∷ d.events })
+low_at_once id d none = passed_at_once (sockets.OnBufferedAmountLow id) (is_low id) d refl refl none
+
+pub told_at_once : (told : Event) (d : DataChannels) → d.events ≡ [] → StaysTold d (record d { events = told ∷ d.events })
+told_at_once told d none = told_more d (record d { events = told ∷ d.events }) told (at_once told d none)
 
 -- ---- a row for each stream
 
@@ -118,6 +166,28 @@ none_left d none =
 pub carried_all : (first d e : DataChannels) → with_outputs d ≡ with_outputs first → d.channels.outputs ≡ [] → d ≡ with_channels (record e.channels { outputs = [] ++ e.channels.outputs }) e
     → e ≡ with_outputs first
 carried_all first d e before none is = sym is ∙ sym (none_left d none) ∙ before
+
+-- a message that was told and not put behind what is to be done, where nothing was
+pub done_at_once : (id : ℕ) (kind : PayloadKind) (bytes : List ℕ) (d e : DataChannels) → d.channels.outputs ≡ []
+    → e ≡ record d { events = d.events ++ of_channels (tell_message id kind bytes) ∷ [] } → e ≡ with_outputs (with_channels (emit (tell_message id kind bytes) d.channels) d)
+done_at_once id kind bytes d e none is =
+    let o = tell_message id kind bytes in
+    is
+    ∙ ap (λ (os : List Output). with_told (record d.channels { outputs = os }) d (d.events ++ of_channels o ∷ []) d.unanswered) none
+    ∙ ap (λ (waiting : List ℕ). with_told (record d.channels { outputs = [] }) d (d.events ++ of_channels o ∷ []) waiting) (sym (append-nil d.unanswered))
+    ∙ ap (λ (os : List Output). with_told (record d.channels { outputs = [] }) d (d.events ++ flat_map told_by (os ++ o ∷ [])) (d.unanswered ++ flat_map acknowledged_by (os ++ o ∷ []))) (sym none)
+
+-- data of a channel: its row, and what is to be done maybe
+pub follows_data : (id ppid : ℕ) (kind : PayloadKind) (payload : List ℕ) (d e : DataChannels) → Some (Data kind) ≡ protocol_of ppid
+    → (e ≡ with_channels (table.on_payload id (Data kind) payload d.channels) d) ⊎ (e ≡ with_outputs (with_channels (table.on_payload id (Data kind) payload d.channels) d)) → Follows d e
+follows_data id ppid kind payload d e is done =
+    let cs = table.on_payload id (Data kind) payload d.channels in
+    let m : Message = record { stream = id; ppid = ppid; payload = payload } in
+    let got : Follows d (with_channels cs d) = follows_gets m d (with_channels cs d) (record { channels = cs; row = subst (λ (o : Option PayloadProtocol). OnMessage o id payload d.channels cs) is refl; done = refl }) in
+    elim done [
+      | inl same ↦ subst (Follows d) (sym same) got
+      | inr carried ↦ follows_then d (with_channels cs d) e got (follows_carried (with_channels cs d) e carried)
+    ]
 
 pub told_of_outputs : (o : Output) (d e : DataChannels) → d ≡ with_channels (record e.channels { outputs = o ∷ e.channels.outputs }) e → StaysTold d (with_output o e)
 told_of_outputs o d e is = record { more = told_by o; events = ap (λ (x : DataChannels). x.events ++ told_by o) (sym is) }

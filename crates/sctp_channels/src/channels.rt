@@ -7,7 +7,7 @@ ghost use Rattle.sctp_channels.specs.Payload.{protocol_of};
 ghost use Rattle.sctp_channels.specs.Steps.{each};
 ghost use Rattle.sctp_channels.specs.Views.{open_of};
 ghost use Rattle.sctp_channels.specs.Channel.{on_data, received_as};
-ghost use Rattle.sctp_channels.specs.Channels.{Emits, OnControl, OnMessage, Stands, change, close, deliver, drain, emit, end, hand, is_denied, is_own, negotiate, no_channels, on_ack, on_incoming_reset, on_open, on_payload, on_reset_denied, on_reset_performed, open_from, open_own, output_of, sent, take_open, tell_closed, turn_down, with_entries};
+ghost use Rattle.sctp_channels.specs.Channels.{Emits, OnControl, OnMessage, Stands, change, close, deliver, drain, emit, end, hand, is_denied, is_own, negotiate, no_channels, on_ack, on_incoming_reset, on_open, on_payload, on_reset_denied, on_reset_performed, open_from, open_own, output_of, received_on, sent, take_open, tell_closed, turn_down, with_entries};
 ghost use Rattle.sctp_channels.specs.Entries.{channel_at, forget};
 
 use crate::entries::{Entries, is_shown};
@@ -356,7 +356,7 @@ impl Channels {
         self.emit(output)
     }
 
-    fn hand(&mut self, received: Received, id: StreamId) -> Result<(), AllocError>
+    pub(crate) fn hand(&mut self, received: Received, id: StreamId) -> Result<(), AllocError>
         ensures ok { OnOk result (self.new ≡ hand (received_as received) id.0 self.old) }
         ensures err { OnErr result (self.new ≡ self.old) }
     {
@@ -367,25 +367,41 @@ impl Channels {
         }
     }
 
-    /// Data of the channel on the stream, where it takes any.
+    /// What becomes of data on the stream, where its channel takes any.
+    #[tactic(auto, using(crate::proofs::StandsLemmas::stands_same, crate::proofs::StandsLemmas::stands_told, crate::proofs::StandsLemmas::stands_changed))]
     fn deliver(
         &mut self,
         id: StreamId,
         protocol: PayloadProtocol,
         payload: Vec<u8>,
-    ) -> Result<(), AllocError>
-        ensures ok { OnOk result (self.new ≡ deliver id.0 protocol payload.items self.old) }
-        ensures err { OnErr result ((self.new ≡ self.old) ⊎ (self.new ≡ change (on_data self.old.limit protocol payload.items) id.0 self.old)) }
+    ) -> Result<Received, AllocError>
+        ensures ok { IfOk result (λ it. deliver id.0 protocol payload.items self.old ≡ hand (received_as it) id.0 self.new) }
+        ensures stands { Stands self.old self.new }
     {
         let takes = match self.entries.get(id.0) {
             Some(channel) => channel.lifecycle().takes_data(),
             None => false,
         };
         if !takes {
-            return self.emit(Output::Refused(id, Refusal::NoChannel));
+            self.emit(Output::Refused(id, Refusal::NoChannel))?;
+            return Ok(Received::Nothing);
         }
-        let received = self.entries.on_data(id.0, self.limit, protocol, payload)?;
-        self.hand(received, id)
+        let received = self.on_data(id, protocol, payload)?;
+        Ok(received)
+    }
+
+    /// Data of the channel on the stream, which takes it.
+    fn on_data(
+        &mut self,
+        id: StreamId,
+        protocol: PayloadProtocol,
+        payload: Vec<u8>,
+    ) -> Result<Received, AllocError>
+        ensures row { OnOk result (self.new ≡ change (on_data self.old.limit protocol payload.items) id.0 self.old) }
+        ensures received { IfOk result (λ it. received_as it ≡ received_on (channel_at id.0 self.old.entries) self.old.limit protocol payload.items) }
+        ensures err { OnErr result (self.new ≡ self.old) }
+    {
+        self.entries.on_data(id.0, self.limit, protocol, payload)
     }
 
     /// The peer, or the socket, has refused to reset this outgoing stream.
@@ -416,7 +432,46 @@ impl Channels {
         Ok(())
     }
 
-    /// Data came on the stream, and with it the news that the peer has the channel.
+    /// Data came on the stream, and with it the news that the peer has the channel. What becomes of it is still to be told (`hand`).
+    pub(crate) fn take_payload(
+        &mut self,
+        id: StreamId,
+        protocol: PayloadProtocol,
+        payload: Vec<u8>,
+    ) -> Result<Received, AllocError>
+        ensures ok { IfOk result (λ it. on_payload id.0 protocol payload.items self.old ≡ hand (received_as it) id.0 self.new) }
+        ensures stands { Stands self.old self.new }
+    {
+        let is_plain = match self.entries.get(id.0) {
+            Some(channel) => {
+                let lifecycle = channel.lifecycle();
+                !lifecycle.is_connecting() && lifecycle.takes_data()
+            }
+            None => false,
+        };
+        if !is_plain {
+            return self.take_first(id, protocol, payload);
+        }
+        let received = self.on_data(id, protocol, payload)?;
+        Ok(received)
+    }
+
+    /// The same, where it may be the first data of the channel, or is not taken.
+    #[inline(never)]
+    #[tactic(auto, using(crate::proofs::StandsLemmas::stands_then, crate::proofs::StandsLemmas::stands_same, crate::proofs::StandsLemmas::stands_ack))]
+    fn take_first(
+        &mut self,
+        id: StreamId,
+        protocol: PayloadProtocol,
+        payload: Vec<u8>,
+    ) -> Result<Received, AllocError>
+        ensures ok { IfOk result (λ it. on_payload id.0 protocol payload.items self.old ≡ hand (received_as it) id.0 self.new) }
+        ensures stands { Stands self.old self.new }
+    {
+        self.on_ack(id)?;
+        self.deliver(id, protocol, payload)
+    }
+
     fn on_payload(
         &mut self,
         id: StreamId,
@@ -426,8 +481,8 @@ impl Channels {
         ensures ok { OnOk result (self.new ≡ on_payload id.0 protocol payload.items self.old) }
         ensures err { OnErr result (Stands self.old self.new) }
     {
-        self.on_ack(id)?;
-        self.deliver(id, protocol, payload)
+        let received = self.take_payload(id, protocol, payload)?;
+        self.hand(received, id)
     }
 
     fn on_control(&mut self, id: StreamId, payload: &[u8]) -> Result<(), AllocError>

@@ -1,20 +1,22 @@
 //! The channels of an association, and the socket below.
 
-ghost use Rattle.std.specs.Prelude.{◌≡◌, ◌⊎◌, ◌<◌, ℕ, true, None, Some, List, [], ◌∷◌, ◌++◌, length, IfOk, IfNone, OnOk, OnErr, option_copied, option_map, option_to_list};
+ghost use Rattle.std.specs.Prelude.{◌≡◌, ◌⊎◌, ◌<◌, ℕ, true, IsTrue, None, Some, List, [], ◌∷◌, ◌++◌, length, IfOk, IfNone, OnOk, OnErr, option_copied, option_map, option_to_list};
 ghost use Rattle.std.specs.Duration.{as_nanos};
 ghost use Rattle.sctp_serial.specs.Messages.{message_of};
 ghost use Rattle.sctp_state.specs.Events.{event_of as socket_event_of, numbers_of};
-ghost use Rattle.sctp_channels.specs.Channel.{goes_unordered};
+ghost use Rattle.sctp_channels.specs.Channel.{goes_unordered, received_as};
 ghost use Rattle.sctp_channels.specs.Views.{open_of};
 ghost use Rattle.sctp_channels.specs.Payload.{protocol_of};
-ghost use Rattle.sctp_channels.specs.Channels.{OnMessage, close, drain, is_own, negotiate, no_channels, on_incoming_reset, on_reset_denied, on_reset_performed, open_own, output_of, sent};
+ghost use Rattle.sctp_channels.specs.declared.payload.PayloadProtocol.TheVariants.{Data};
+ghost use Rattle.sctp_channels.specs.Channels.{OnMessage, close, drain, hand, is_own, on_payload, negotiate, no_channels, on_incoming_reset, on_reset_denied, on_reset_performed, open_own, output_of, sent};
 ghost use Rattle.sctp_channels.specs.Entries.{channel_at};
 ghost use Rattle.sctp_channels.specs.DataChannels.{IsOpenAt, IsShortEnough, is_draining_at, lifetime, retransmissions};
 ghost use Rattle.sctp_channels.specs.Steps.{DataChannels, Follows, Gets, StaysTold, acknowledged_by, each, ended, event_of, heard, named, of_socket, passed_on, told_by, with_channels, with_outputs};
 
 use crate::{
     CONTROL_PPID, Channel, ChannelEvent, ChannelMessage, Channels, DataChannelOpen, OpenError,
-    Outgoing, Output, PayloadKind, Reliability, SendRefusal, data_message,
+    Outgoing, Output, PayloadKind, PayloadProtocol, Received, Reliability, SendRefusal,
+    data_message,
 };
 use sctp_serial::{Message, StreamId};
 use sctp_socket_interface::DcSctpSocket;
@@ -225,8 +227,96 @@ impl DataChannels {
     {
         self.take_messages(socket)?;
         self.settle(socket)?;
+        self.take_rest(socket)
+    }
+
+    /// What the socket emitted, and what is to be done then.
+    #[tactic(auto, using(crate::proofs::FollowsLemmas::follows_then, crate::proofs::FollowsLemmas::told_then))]
+    fn take_rest<S: DcSctpSocket>(&mut self, socket: &mut S) -> Result<(), CallError>
+        ensures steps { OnOk result (Follows self.old self.new) }
+        ensures done { OnOk result (self.new.channels.outputs ≡ []) }
+        ensures told { StaysTold self.old self.new }
+    {
         self.take_events(socket)?;
         self.settle(socket)
+    }
+
+    /// Takes what happens next: what waits for the owner, or else what the socket has handed out and emitted since, as `collect` finds it.
+    /// A packet, or that a stream is low, is passed on at once where nothing else is to be done.
+    #[tactic(auto, using(crate::proofs::FollowsLemmas::follows_told, crate::proofs::FollowsLemmas::follows_same, crate::proofs::FollowsLemmas::told_first, crate::proofs::FollowsLemmas::told_same))]
+    pub fn poll_event<S: DcSctpSocket>(
+        &mut self,
+        socket: &mut S,
+    ) -> Result<Option<ChannelEvent>, CallError>
+        ensures steps { IfOk result (λ told. Follows self.old (record self.new { events = option_to_list (option_map event_of told) ++ self.new.events })) }
+        ensures none { IfOk result (λ told. IfNone told (self.new.events ≡ [])) }
+        ensures first { IfOk result (λ told. StaysTold self.old (record self.new { events = option_to_list (option_map event_of told) ++ self.new.events })) }
+        ensures err { OnErr result (StaysTold self.old self.new) }
+    {
+        if !self.has_told_all() {
+            return Ok(self.next_event());
+        }
+        if socket.messages_ready_count() == 0 && self.is_quiet() {
+            return self.pass_on(socket);
+        }
+        self.collect(socket)?;
+        Ok(self.next_event())
+    }
+
+    /// Whether nothing waits for the owner.
+    #[tactic(auto, using(crate::proofs::FollowsLemmas::nothing_told))]
+    fn has_told_all(&self) -> bool
+        ensures { IsTrue result → self.now.events ≡ [] }
+    {
+        self.events.len() == 0
+    }
+
+    /// Takes what the socket emitted, where nothing waits in front of it.
+    #[tactic(auto, using(crate::proofs::FollowsLemmas::follows_told, crate::proofs::FollowsLemmas::follows_same, crate::proofs::FollowsLemmas::follows_none, crate::proofs::FollowsLemmas::packet_at_once, crate::proofs::FollowsLemmas::low_at_once, crate::proofs::FollowsLemmas::told_first, crate::proofs::FollowsLemmas::told_none, crate::proofs::FollowsLemmas::told_at_once))]
+    fn pass_on<S: DcSctpSocket>(
+        &mut self,
+        socket: &mut S,
+    ) -> Result<Option<ChannelEvent>, CallError>
+        requires { self.old.events ≡ [] }
+        ensures steps { IfOk result (λ told. Follows self.old (record self.new { events = option_to_list (option_map event_of told) ++ self.new.events })) }
+        ensures none { IfOk result (λ told. IfNone told (self.new.events ≡ [])) }
+        ensures first { IfOk result (λ told. StaysTold self.old (record self.new { events = option_to_list (option_map event_of told) ++ self.new.events })) }
+        ensures err { OnErr result (StaysTold self.old self.new) }
+    {
+        match socket.poll_event() {
+            None => Ok(None),
+            Some(SocketEvent::SendPacket(bytes)) => {
+                Ok(Some(ChannelEvent::Socket(SocketEvent::SendPacket(bytes))))
+            }
+            Some(SocketEvent::OnBufferedAmountLow(id)) => {
+                Ok(Some(ChannelEvent::BufferedAmountLow(id)))
+            }
+            Some(event) => {
+                self.take_others(socket, event)?;
+                Ok(self.next_event())
+            }
+        }
+    }
+
+    /// An event, and what the socket emitted behind it.
+    #[tactic(auto, using(crate::proofs::FollowsLemmas::follows_then, crate::proofs::FollowsLemmas::told_then))]
+    fn take_others<S: DcSctpSocket>(
+        &mut self,
+        socket: &mut S,
+        event: SocketEvent,
+    ) -> Result<(), CallError>
+        ensures steps { OnOk result (Follows self.old self.new) }
+        ensures told { StaysTold self.old self.new }
+    {
+        self.take_event(socket, event)?;
+        self.take_rest(socket)
+    }
+
+    /// Whether nothing is to be done, asked for or answered.
+    fn is_quiet(&self) -> bool
+        ensures { IsTrue result → self.now.channels.outputs ≡ [] }
+    {
+        self.closing.is_empty() && self.channels.output_count() == 0 && self.unanswered.is_empty()
     }
 
     #[tactic(auto, using(crate::proofs::FollowsLemmas::follows_then, crate::proofs::FollowsLemmas::follows_same, crate::proofs::FollowsLemmas::follows_gets, crate::proofs::FollowsLemmas::told_then, crate::proofs::FollowsLemmas::told_same))]
@@ -234,7 +324,7 @@ impl DataChannels {
         ensures steps { OnOk result (Follows self.old self.new) }
         ensures told { StaysTold self.old self.new }
     {
-        for _ in 0..MANY {
+        for _ in 0..socket.messages_ready_count() {
             match socket.get_next_message() {
                 Some(message) => self.take_message(message)?,
                 None => break,
@@ -257,16 +347,67 @@ impl DataChannels {
         Ok(())
     }
 
-    /// A message of the opening may close the channel of its stream.
+    #[tactic(auto, using(crate::proofs::FollowsLemmas::follows_gets, crate::proofs::FollowsLemmas::told_same))]
     fn take_message(&mut self, message: Message) -> Result<(), AllocError>
+        ensures steps { OnOk result (Follows self.old self.new) }
+        ensures told { StaysTold self.old self.new }
+    {
+        match PayloadProtocol::from_ppid(message.ppid) {
+            Some(PayloadProtocol::Data(kind)) => {
+                self.take_data(message.stream_id, kind, message.payload)?;
+                Ok(())
+            }
+            _ => {
+                self.take_other(message)?;
+                Ok(())
+            }
+        }
+    }
+
+    /// A message of the opening may close the channel of its stream.
+    fn take_other(&mut self, message: Message) -> Result<(), AllocError>
         ensures row { OnOk result (Gets (message_of message) self.old self.new) }
         ensures told { self.new.events ≡ self.old.events }
     {
         let id = message.stream_id;
-        let is_control = message.ppid.0 == CONTROL_PPID.0;
         self.on_message(message)?;
-        if is_control {
-            self.note_closing(id)?;
+        self.note_closing(id)?;
+        Ok(())
+    }
+
+    /// Data of a channel.
+    #[tactic(auto, using(crate::proofs::FollowsLemmas::told_same))]
+    fn take_data(
+        &mut self,
+        id: StreamId,
+        kind: PayloadKind,
+        payload: Vec<u8>,
+    ) -> Result<(), AllocError>
+        ensures row { OnOk result ((self.new ≡ with_channels (on_payload id.0 (Data kind) payload.items self.old.channels) self.old)
+            ⊎ (self.new ≡ with_outputs (with_channels (on_payload id.0 (Data kind) payload.items self.old.channels) self.old))) }
+        ensures told { StaysTold self.old self.new }
+    {
+        let received = self
+            .channels
+            .take_payload(id, PayloadProtocol::Data(kind), payload)?;
+        self.hand(received, id)?;
+        Ok(())
+    }
+
+    /// A message is told at once, where nothing is to be done or told before it.
+    #[tactic(auto, using(crate::proofs::FollowsLemmas::told_same, crate::proofs::FollowsLemmas::told_more, crate::proofs::FollowsLemmas::no_outputs, crate::proofs::FollowsLemmas::done_at_once))]
+    fn hand(&mut self, received: Received, id: StreamId) -> Result<(), AllocError>
+        ensures row { OnOk result ((self.new ≡ with_channels (hand (received_as received) id.0 self.old.channels) self.old)
+            ⊎ (self.new ≡ with_outputs (with_channels (hand (received_as received) id.0 self.old.channels) self.old))) }
+        ensures told { StaysTold self.old self.new }
+    {
+        if self.channels.output_count() != 0 {
+            self.channels.hand(received, id)?;
+            return Ok(());
+        }
+        match received {
+            Received::Message(kind, bytes) => self.tell(ChannelEvent::Message(id, kind, bytes))?,
+            received => self.channels.hand(received, id)?,
         }
         Ok(())
     }
@@ -299,8 +440,28 @@ impl DataChannels {
         Ok(())
     }
 
-    #[tactic(auto, using(crate::proofs::FollowsLemmas::follows_then, crate::proofs::FollowsLemmas::follows_hears, crate::proofs::FollowsLemmas::follows_passes, crate::proofs::FollowsLemmas::told_then, crate::proofs::FollowsLemmas::told_same, crate::proofs::FollowsLemmas::told_more))]
+    #[tactic(auto, using(crate::proofs::FollowsLemmas::follows_then, crate::proofs::FollowsLemmas::packet_told, crate::proofs::FollowsLemmas::told_then, crate::proofs::FollowsLemmas::told_same, crate::proofs::FollowsLemmas::told_more))]
     fn take_event<S: DcSctpSocket>(
+        &mut self,
+        socket: &mut S,
+        event: SocketEvent,
+    ) -> Result<(), CallError>
+        ensures steps { OnOk result (Follows self.old self.new) }
+        ensures told { StaysTold self.old self.new }
+    {
+        match event {
+            SocketEvent::SendPacket(bytes) => {
+                self.carry_out(socket)?;
+                self.tell(ChannelEvent::Socket(SocketEvent::SendPacket(bytes)))?;
+                Ok(())
+            }
+            event => self.take_other_event(socket, event),
+        }
+    }
+
+    #[inline(never)]
+    #[tactic(auto, using(crate::proofs::FollowsLemmas::follows_then, crate::proofs::FollowsLemmas::follows_hears, crate::proofs::FollowsLemmas::follows_passes, crate::proofs::FollowsLemmas::told_then, crate::proofs::FollowsLemmas::told_same, crate::proofs::FollowsLemmas::told_more))]
+    fn take_other_event<S: DcSctpSocket>(
         &mut self,
         socket: &mut S,
         event: SocketEvent,
@@ -409,12 +570,19 @@ impl DataChannels {
         ensures done { OnOk result (self.new.channels.outputs ≡ []) }
         ensures told { StaysTold self.old self.new }
     {
-        if self.closing.is_empty()
-            && self.channels.output_count() == 0
-            && self.unanswered.is_empty()
-        {
+        if self.is_quiet() {
             return Ok(());
         }
+        self.settle_all(socket)
+    }
+
+    #[inline(never)]
+    #[tactic(auto, using(crate::proofs::FollowsLemmas::follows_then, crate::proofs::FollowsLemmas::follows_same, crate::proofs::FollowsLemmas::follows_drains, crate::proofs::FollowsLemmas::told_then, crate::proofs::FollowsLemmas::told_same, crate::proofs::FollowsLemmas::no_outputs))]
+    fn settle_all<S: DcSctpSocket>(&mut self, socket: &mut S) -> Result<(), CallError>
+        ensures steps { OnOk result (Follows self.old self.new) }
+        ensures done { OnOk result (self.new.channels.outputs ≡ []) }
+        ensures told { StaysTold self.old self.new }
+    {
         for id in &self.closing_streams()? {
             self.drain(*id, socket.buffered_amount(*id))?;
         }
@@ -451,6 +619,16 @@ impl DataChannels {
         if self.channels.output_count() == 0 && self.unanswered.is_empty() {
             return Ok(());
         }
+        self.carry_out_all(socket)
+    }
+
+    #[inline(never)]
+    #[tactic(auto, using(crate::proofs::FollowsLemmas::follows_then, crate::proofs::FollowsLemmas::follows_same, crate::proofs::FollowsLemmas::follows_carried, crate::proofs::FollowsLemmas::told_then, crate::proofs::FollowsLemmas::told_same, crate::proofs::FollowsLemmas::no_outputs, crate::proofs::FollowsLemmas::all_carried))]
+    fn carry_out_all<S: DcSctpSocket>(&mut self, socket: &mut S) -> Result<(), CallError>
+        ensures steps { OnOk result (Follows self.old self.new) }
+        ensures done { OnOk result (self.new.channels.outputs ≡ []) }
+        ensures told { StaysTold self.old self.new }
+    {
         let mut resets = Vec::new(self.alloc);
         self.take_outputs(&mut resets)?;
         self.answer_all(socket)?;

@@ -1,5 +1,5 @@
 use Rattle.sctp_channels.proofs.FollowsLemmas.{follows_carried, follows_then}
-use Rattle.sctp_channels.proofs.data_channels.DataChannels.carry_out.Goals as goal
+use Rattle.sctp_channels.proofs.data_channels.DataChannels.carry_out_all.Goals as goal
 
 pub returns-clause-steps : goal.returns-clause-steps
 returns-clause-steps g c =

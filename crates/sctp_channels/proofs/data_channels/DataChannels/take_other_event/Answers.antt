@@ -1,7 +1,7 @@
 use Rattle.sctp_state.specs.Events as sockets
 use Rattle.sctp_channels.specs.Steps.{event_of}
 use Rattle.sctp_channels.proofs.FollowsLemmas.{follows_hears, follows_passes, follows_then}
-use Rattle.sctp_channels.proofs.data_channels.DataChannels.take_event.Goals as goal
+use Rattle.sctp_channels.proofs.data_channels.DataChannels.take_other_event.Goals as goal
 
 pub returns-in_ok-tell-clause-steps : goal.returns-in_ok-tell-clause-steps
 returns-in_ok-tell-clause-steps g c =

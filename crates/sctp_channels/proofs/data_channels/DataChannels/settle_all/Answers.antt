@@ -1,6 +1,6 @@
 use Rattle.std.proofs.lemmas.Result.{on_ok_weaker}
 use Rattle.sctp_channels.proofs.FollowsLemmas.{follows_then}
-use Rattle.sctp_channels.proofs.data_channels.DataChannels.settle.Goals as goal
+use Rattle.sctp_channels.proofs.data_channels.DataChannels.settle_all.Goals as goal
 
 pub returns-clause-steps : goal.returns-clause-steps
 returns-clause-steps g c =
