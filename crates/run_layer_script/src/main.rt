@@ -1,13 +1,15 @@
-//! The layers below the association, row by row.
+//! The layers below the association, and data channels, row by row.
 //!
-//! Standard input has the rows of a layer behind a line `@wire`, `@state`, `@sender` or `@receiver`. Each row begins with a line that
-//! begins with `#`, which says what the row shows; the lines behind it are commands to the layer, as its module tells. Both lines are
-//! printed too, and each row begins with everything anew.
+//! Standard input has the rows of a layer behind a line `@wire`, `@state`, `@sender`, `@receiver` or `@channels`. Each row begins with a
+//! line that begins with `#`, which says what the row shows; the lines behind it are commands to the layer, as its module tells. Both lines
+//! are printed too, and each row begins with everything anew.
 #![tactic(auto)]
 
+mod channels;
 mod output;
 mod receiver;
 mod sender;
+mod show;
 mod state;
 mod wire;
 mod words;
@@ -25,6 +27,7 @@ fn run_row(layer: &str, row: &str, output: &mut Output) {
         "state" => state::run(script, output),
         "sender" => sender::run(script, output),
         "receiver" => receiver::run(script, output),
+        "channels" => channels::run(script, output),
         _ => output.push_str("?\n"),
     }
 }

@@ -40,7 +40,6 @@ mod packets;
 mod readings;
 mod rows;
 mod sacks;
-mod show;
 mod vectors;
 
 use crate::output::Output;

@@ -1,33 +1,73 @@
-//! Two sockets over a link in memory that loses packets: the loop in which an owner drives a socket.
+//! Owners of two sockets over a link in memory, to copy: the loop in which an owner drives a socket, from the first call to the last.
 //!
-//! Standard input has a conversation a line. At `talk` three messages cross once the sockets are connected, and the association shuts
-//! down, while every third packet is lost; what each socket emits and hands out is printed, and when time passes. A line of numbers is a
-//! plan for many messages (`soak`). A line that begins with `#` is printed.
+//! Standard input has a conversation a line; what each end emitted and handed out is printed.
+//!
+//! | line | conversation |
+//! |---|---|
+//! | `cross` | a message crosses, and nothing is lost |
+//! | `talk` | three messages cross, and the association shuts down, while every third packet is lost; when time passes is printed too |
+//! | `channels` | data channels are opened, closed and opened again (`channels`) |
+//! | numbers | a plan for many messages (`soak`) |
+//!
+//! A line that begins with `#` is printed.
 #![tactic(auto)]
 
+mod channels;
 mod soak;
 
 use anyhow::Result;
+use rand_core::Rng;
 use rand_pcg::Pcg32;
 use sctp_association::{
-    CallError, Checksum, DcSctpSocket, Message, Options, PpId, SendOptions, Socket, SocketEvent,
-    SocketState, SocketTime, StreamId,
+    CallError, Checksum, DcSctpSocket, GivenUp, Message, Options, PpId, SendOptions, Socket,
+    SocketEvent, SocketState, SocketTime, StreamId,
 };
-use soak::{Plan, Soaked, plan_of, soak};
+use sctp_crc32c::Crc32c;
+use soak::{Plan, plan_of};
 use std::io;
 
 /// More turns, or events of one turn, are not looked for.
 const MANY: u32 = 1000;
 
-/// The link keeps bytes as they are, so one word serves for all packets.
-#[derive(Clone, Copy, Drop)]
-struct OneWord;
+/// Words that are made of one number.
+trait Seeded: Rng {
+    fn seeded(seed: u64) -> Self;
+}
 
-impl Checksum for OneWord {
-    ghost word_of = { λ _ _. 0 };
+impl Seeded for Pcg32 {
+    fn seeded(seed: u64) -> Pcg32 {
+        Pcg32::new(seed, seed)
+    }
+}
 
-    fn word(&self, _before: &[u8], _after: &[u8]) -> u32 {
-        0
+/// A socket as helpers know it, whichever it is: what is asked of it beside the calls of its trait. `let_go` is a call of `Socket`:
+/// whoever calls it is spared the proof of how each part goes.
+trait Owned: DcSctpSocket {
+    fn made(rt: &HostRuntime, name: &str, seed: u64) -> Result<Self, CallError>;
+
+    fn next_record(&mut self) -> Option<GivenUp>;
+
+    fn rests(&self) -> bool;
+
+    fn let_go(self);
+}
+
+impl<R: Seeded + Drop, C: Checksum + Default + Drop> Owned for Socket<R, C> {
+    fn made(rt: &HostRuntime, name: &str, seed: u64) -> Result<Socket<R, C>, CallError> {
+        let options = Options::default();
+        Socket::new(rt.alloc(), name, &options, R::seeded(seed), C::default())
+    }
+
+    fn next_record(&mut self) -> Option<GivenUp> {
+        self.next_given_up()
+    }
+
+    fn rests(&self) -> bool {
+        self.is_at_rest()
+    }
+
+    fn let_go(self) {
+        self.let_go();
     }
 }
 
@@ -55,7 +95,7 @@ fn new_end<S>(rt: &HostRuntime, socket: S) -> End<S> {
     }
 }
 
-impl<S: Soaked> End<S> {
+impl<S: Owned> End<S> {
     fn let_go(self) {
         self.socket.let_go();
     }
@@ -108,11 +148,21 @@ fn show<S>(rt: &HostRuntime, name: &str, end: &mut End<S>) -> Result<()> {
     Ok(())
 }
 
-/// What one socket sent comes to the other; every third packet is lost.
-fn carry<S>(from: &mut End<S>, to: &mut End<S>) -> Result<()> {
+/// What `a` sends, and what the link does: `count` messages from the number `first` on, of so many packets one is lost (0: none),
+/// and whether the association shuts down.
+#[derive(Clone, Copy)]
+struct Talk {
+    first: u8,
+    count: u8,
+    lost: u32,
+    shuts_down: bool,
+}
+
+/// What one socket sent comes to the other.
+fn carry<S>(from: &mut End<S>, to: &mut End<S>, lost: u32) -> Result<()> {
     for bytes in from.sent.drain(..) {
         from.sent_count = from.sent_count.wrapping_add(1);
-        if from.sent_count % 3 != 0 {
+        if lost == 0 || from.sent_count % lost != 0 {
             to.came.push(bytes)?;
         }
     }
@@ -127,66 +177,122 @@ fn send<S: DcSctpSocket>(rt: &HostRuntime, end: &mut End<S>, number: u8) -> Resu
     Ok(())
 }
 
+/// Opens an association, and sends the messages.
+fn begin<S: DcSctpSocket>(rt: &HostRuntime, a: &mut End<S>, talk: Talk) -> Result<()> {
+    a.socket.advance_time(SocketTime::zero())?;
+    a.socket.connect()?;
+    for index in 0..talk.count {
+        send(rt, a, talk.first.wrapping_add(index))?;
+    }
+    Ok(())
+}
+
+/// Whether all messages have come.
+fn has_all<S>(b: &End<S>, talk: Talk) -> bool {
+    b.message_count == usize::from(talk.count)
+}
+
 /// Once all messages have come, and with them nothing is queued any more, `a` shuts the association down.
-fn shut_down_when_done<S: DcSctpSocket>(a: &mut End<S>, b: &End<S>, now: SocketTime) -> Result<()> {
-    if b.message_count == 3 && a.socket.state() == SocketState::Connected {
+fn shut_down<S: DcSctpSocket>(a: &mut End<S>, now: SocketTime) -> Result<()> {
+    if a.socket.state() == SocketState::Connected {
         a.socket.advance_time(now)?;
         a.socket.shutdown()?;
     }
     Ok(())
 }
 
-/// `a` opens an association and sends; once `b` has all messages, `a` shuts it down, which ends at `b` last. Where nothing is on its
-/// way, time passes up to the moment at which the first of the sockets has something to do.
-fn talk<S: DcSctpSocket>(rt: &HostRuntime, a: &mut End<S>, b: &mut End<S>) -> Result<()> {
+/// A turn of both ends. Answers by which moment the next one is due.
+fn turn_both<S: DcSctpSocket>(
+    rt: &HostRuntime,
+    a: &mut End<S>,
+    b: &mut End<S>,
+    now: SocketTime,
+) -> Result<SocketTime> {
+    let due_a = turn(a, now)?;
+    let due_b = turn(b, now)?;
+    show(rt, "a", a)?;
+    show(rt, "b", b)?;
+    Ok(due_a.min(due_b))
+}
+
+/// `a` opens an association and sends. Once `b` has all messages, that is all, or `a` shuts the association down, which ends at `b` last.
+/// Where nothing is on its way, time passes up to the moment at which the first of the sockets has something to do.
+fn converse<S: DcSctpSocket>(
+    rt: &HostRuntime,
+    a: &mut End<S>,
+    b: &mut End<S>,
+    talk: Talk,
+) -> Result<()> {
     let mut now = SocketTime::zero();
-    a.socket.advance_time(now)?;
-    a.socket.connect()?;
-    for number in 1..4u8 {
-        send(rt, a, number)?;
-    }
+    begin(rt, a, talk)?;
     for _ in 0..MANY {
-        shut_down_when_done(a, b, now)?;
-        let due_a = turn(a, now)?;
-        let due_b = turn(b, now)?;
-        show(rt, "a", a)?;
-        show(rt, "b", b)?;
-        if b.message_count == 3 && b.socket.state() == SocketState::Closed {
+        if talk.shuts_down && has_all(b, talk) {
+            shut_down(a, now)?;
+        }
+        let due = turn_both(rt, a, b, now)?;
+        if has_all(b, talk) && (!talk.shuts_down || b.socket.state() == SocketState::Closed) {
             break;
         }
-        carry(a, b)?;
-        carry(b, a)?;
+        carry(a, b, talk.lost)?;
+        carry(b, a, talk.lost)?;
         if a.came.is_empty() && b.came.is_empty() {
-            now = due_a.min(due_b);
+            now = due;
             println!(rt; "{} ms", (now - SocketTime::zero()).as_millis())?;
         }
     }
     Ok(())
 }
 
-/// Two sockets talk, or go through a plan.
-fn meet<S: Soaked>(rt: &HostRuntime, a: S, b: S, plan: Option<Plan>) -> Result<()> {
-    if let Some(plan) = plan {
-        return soak(rt, a, b, plan);
-    }
+/// Two sockets talk.
+fn meet<S: Owned>(rt: &HostRuntime, a: S, b: S, talk: Talk) -> Result<()> {
     let (mut a, mut b) = (new_end(rt, a), new_end(rt, b));
-    let outcome = talk(rt, &mut a, &mut b);
+    let outcome = converse(rt, &mut a, &mut b, talk);
     a.let_go();
     b.let_go();
     outcome
 }
 
-type Linked = Socket<Pcg32, OneWord>;
-
-fn new_socket(rt: &HostRuntime, name: &str, seed: u64) -> Result<Linked, CallError> {
-    let rng = Pcg32::new(seed, seed);
-    Socket::new(rt.alloc(), name, &Options::default(), rng, OneWord)
+/// What a line asks for.
+#[derive(Clone, Copy)]
+enum Conversation {
+    Talk(Talk),
+    Channels,
+    Soak(Plan),
 }
 
-fn converse(rt: &HostRuntime, plan: Option<Plan>) -> Result<()> {
-    let a = new_socket(rt, "a", 1)?;
-    match new_socket(rt, "b", 2) {
-        Ok(b) => meet(rt, a, b, plan),
+fn conversation_of(line: &str) -> Option<Conversation> {
+    match line {
+        "cross" => Some(Conversation::Talk(Talk {
+            first: 7,
+            count: 1,
+            lost: 0,
+            shuts_down: false,
+        })),
+        "talk" => Some(Conversation::Talk(Talk {
+            first: 1,
+            count: 3,
+            lost: 3,
+            shuts_down: true,
+        })),
+        "channels" => Some(Conversation::Channels),
+        _ => Some(Conversation::Soak(plan_of(line)?)),
+    }
+}
+
+fn go_through<S: Owned>(rt: &HostRuntime, a: S, b: S, conversation: Conversation) -> Result<()> {
+    match conversation {
+        Conversation::Talk(talk) => meet(rt, a, b, talk),
+        Conversation::Channels => channels::meet(rt, a, b),
+        Conversation::Soak(plan) => soak::soak(rt, a, b, plan),
+    }
+}
+
+/// Has two new sockets go through the conversation.
+fn begin_anew<S: Owned>(rt: &HostRuntime, conversation: Conversation) -> Result<()> {
+    let a: S = S::made(rt, "a", 1)?;
+    let b: Result<S, CallError> = S::made(rt, "b", 2);
+    match b {
+        Ok(b) => go_through(rt, a, b, conversation),
         Err(fault) => {
             a.let_go();
             Err(fault.into())
@@ -198,9 +304,10 @@ fn answer(rt: &HostRuntime, line: &str) -> Result<()> {
     if line.starts_with('#') {
         return Ok(println!(rt; "{line}")?);
     }
-    match plan_of(line) {
-        None if line != "talk" => Ok(println!(rt; "? {line}")?),
-        plan => converse(rt, plan),
+    match conversation_of(line) {
+        // The concrete socket is named here alone.
+        Some(conversation) => begin_anew::<Socket<Pcg32, Crc32c>>(rt, conversation),
+        None => Ok(println!(rt; "? {line}")?),
     }
 }
 

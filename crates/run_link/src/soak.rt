@@ -9,9 +9,9 @@ mod end;
 mod link;
 mod messages;
 
+use crate::Owned;
 use anyhow::Result;
 use conversation::converse;
-pub use end::Soaked;
 use link::Link;
 pub use messages::Plan;
 use rand_pcg::Pcg32;
@@ -45,7 +45,7 @@ pub fn plan_of(line: &str) -> Option<Plan> {
 }
 
 /// Runs a conversation of two new sockets.
-pub fn soak<S: Soaked>(rt: &HostRuntime, a: S, b: S, plan: Plan) -> Result<()> {
+pub fn soak<S: Owned>(rt: &HostRuntime, a: S, b: S, plan: Plan) -> Result<()> {
     let link = Link::new(Pcg32::new(u64::from(plan.seed), 3), plan);
     converse(rt, a, b, link, plan)
 }

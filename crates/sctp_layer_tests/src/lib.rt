@@ -3,9 +3,7 @@
 #![tactic(auto)]
 
 #[cfg(test)]
-mod queue_memory;
-#[cfg(test)]
-mod queue_steps;
+mod queue_calls;
 #[cfg(test)]
 mod reassembly_key;
 #[cfg(test)]
@@ -16,3 +14,5 @@ mod sender_memory;
 mod sender_steps;
 #[cfg(test)]
 mod serial;
+#[cfg(test)]
+mod spare_buffers;

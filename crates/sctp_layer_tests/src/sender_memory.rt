@@ -1,7 +1,7 @@
 //! Scenarios of a sender in which any allocation may be refused: each call answers as with ample memory, or that memory
 //! lacks. Then it leaves the windows and the timer as it should, and the sender goes on until nothing is left.
 
-use crate::queue_steps::{Emitted, at};
+use crate::queue_calls::{Emitted, at};
 use crate::sender_steps::Step::{
     Accept, AcceptOnce, AcceptShort, BeginReset, Emits, Flight, GivenUp, HandOver, IsDue,
     NoneIsKept, Point, QueueIsEmpty, Sack, Sends, SendsFast, SendsNothing, TimesOut,

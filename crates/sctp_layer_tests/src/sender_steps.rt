@@ -1,7 +1,7 @@
 //! Calls on a sender and what they are to answer, one after another. The sender has default options, first TSN 10, and a
 //! peer's window of 5,242,880 bytes. Moments are in milliseconds.
 
-use crate::queue_steps::{Emitted, accept, at, is_given_up, named, next_heard, short};
+use crate::queue_calls::{Emitted, accept, at, is_given_up, named, next_heard, short};
 use sctp_packet::{Chunk, GapAckBlock, SackChunk, clean_sack};
 use sctp_serial::{SocketTime, Tsn};
 use sctp_state::api::handover::HandoverSocketState;

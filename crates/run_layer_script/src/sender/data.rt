@@ -4,10 +4,11 @@ use crate::output::Output;
 use crate::sender::answer::{Answer, done};
 use crate::sender::fragment::{bytes, sack, show_chunks, show_skips};
 use crate::words::Line;
+use sctp_chunk::SpareBuffers;
 use sctp_packet::{Data, SackChunk};
 use sctp_serial::{Fsn, LifecycleId, Mid, OutgoingMessageId, PpId, SocketTime, Ssn, StreamKey};
 use sctp_state::{Events, SocketHandoverState};
-use sctp_tx_outstanding::{Discarded, OutstandingData};
+use sctp_tx_outstanding::{Discarded, Item, OutstandingData};
 use std::alloc::Global;
 use std::collections::VecDeque;
 use std::mem;
@@ -44,7 +45,7 @@ fn insert(data: &mut OutstandingData, payload: Vec<u8>, line: Line<'_>) -> Answe
         is_beginning: true,
         is_end: line.flag(6),
     };
-    let sent = data.insert(
+    let item = Item::new(
         OutgoingMessageId(line.whole(3)),
         fragment,
         SocketTime::zero(),
@@ -52,7 +53,7 @@ fn insert(data: &mut OutstandingData, payload: Vec<u8>, line: Line<'_>) -> Answe
         due(line),
         LifecycleId::new(line.number(7)),
     );
-    match sent {
+    match data.insert(item) {
         Ok(tsn) => Answer::Number(u64::from(tsn.0)),
         Err(_) => Answer::NoMemory,
     }
@@ -81,12 +82,11 @@ fn handle(
     events: &mut Events,
     output: &mut Output,
 ) -> Answer {
-    let (tsn, blocks) = (chunk.cumulative_tsn_ack, chunk.gap_ack_blocks.as_slice());
-    if !data.is_sack_valid(tsn, blocks) {
+    if !data.is_sack_valid(chunk) {
         return Answer::Refused;
     }
-    let mut spares = Vec::new(output.alloc);
-    match data.handle_sack(tsn, blocks, false, &mut spares, events) {
+    let mut spares = SpareBuffers::new(output.alloc);
+    match data.handle_sack(chunk, false, &mut spares, events) {
         Ok(info) => {
             write!(
                 output,

@@ -148,11 +148,12 @@ fn change(queue: &mut SendQueue, events: &mut Events, line: Line<'_>) -> Answer 
         "commit" => done(queue.commit_reset_streams(&[id])),
         "roll-back" => done(queue.rollback_reset_streams(&[id])),
         "reset" => done(queue.reset()),
+        "empty" => done(queue.empty(events)),
         _ => asked(queue, line),
     }
 }
 
-pub fn answer(
+fn answer_once(
     queue: &mut SendQueue,
     events: &mut Events,
     line: Line<'_>,
@@ -173,5 +174,18 @@ pub fn answer(
         }
         "options" => restart(output.alloc, queue, line),
         _ => change(queue, events, line),
+    }
+}
+
+/// A call that lacks memory is made once more: it and all that follow answer as with ample memory.
+pub fn answer(
+    queue: &mut SendQueue,
+    events: &mut Events,
+    line: Line<'_>,
+    output: &mut Output,
+) -> Answer {
+    match answer_once(queue, events, line, output) {
+        Answer::NoMemory => answer_once(queue, events, line, output),
+        answer => answer,
     }
 }

@@ -1,8 +1,8 @@
 //! A builder of packets from port 5000 to port 5001 with the tag 321.
 
 use crate::output::Output;
+use crate::show::{Hex, refuse};
 use crate::wire::chunks;
-use crate::wire::show::{Hex, refuse};
 use sctp_packet::{Chunk, Data, DataChunk, SctpPacketBuilder};
 use sctp_serial::Tsn;
 use std::alloc::Global;

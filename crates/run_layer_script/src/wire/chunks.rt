@@ -1,8 +1,8 @@
 //! Chunks alone.
 
 use crate::output::Output;
+use crate::show::refuse;
 use crate::wire::items::{show, show_read};
-use crate::wire::show::refuse;
 use sctp_packet::{Chunk, RawChunk, SkippedStream};
 use sctp_serial::StreamKey;
 use sctp_wire::{ChunkParseError, FromItem, RawItem, SerializableTlv, items_from_bytes};

@@ -1,7 +1,7 @@
 //! Items, parameters and causes.
 
 use crate::output::Output;
-use crate::wire::show::{Hex, refuse};
+use crate::show::{Hex, refuse};
 use sctp_error_cause::error_cause_from_bytes;
 use sctp_parameter::{Parameter, parameters_from_bytes};
 use sctp_wire::{

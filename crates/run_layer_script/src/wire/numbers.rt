@@ -3,8 +3,8 @@
 ghost use Rattle.std.specs.Prelude.{◌<◌, ◌^◌};
 
 use crate::output::Output;
+use crate::show::Hex;
 use crate::wire::packets;
-use crate::wire::show::Hex;
 use sctp_error_cause::NoUserDataErrorCause;
 use sctp_packet::write_chunk_header;
 use sctp_parameter::{

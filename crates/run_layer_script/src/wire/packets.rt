@@ -1,7 +1,7 @@
 //! Packets, read and built again.
 
 use crate::output::Output;
-use crate::wire::show::{Hex, refuse};
+use crate::show::{Hex, refuse};
 use sctp_crc32c::crc32c_of;
 use sctp_packet::{Chunk, PacketView, SctpPacket, SctpPacketBuilder, chunk_fits};
 use sctp_wire::Policy;

@@ -1,7 +1,7 @@
 //! A conversation as rows, drawn.
 
 use crate::output::Output;
-use crate::wire::show::Hex;
+use crate::show::Hex;
 use crate::words::bytes_of;
 use sctp_trace::{CaptureError, End, Row, What, capture, chart, ladder, packet_label};
 use std::alloc::AllocError;

@@ -1,8 +1,8 @@
 //! Packets that other stacks emitted.
 
 use crate::output::Output;
+use crate::show::refuse;
 use crate::wire::packets;
-use crate::wire::show::refuse;
 use sctp_packet::{Chunk, PacketParseError, PacketView, RawChunk, SctpPacket};
 use sctp_wire::ChunkParseError;
 use std::alloc::Global;

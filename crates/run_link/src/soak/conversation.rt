@@ -1,6 +1,7 @@
 //! A conversation, turn by turn.
 
-use crate::soak::end::{Counts, Soaked, Talker, act, new_talker};
+use crate::Owned;
+use crate::soak::end::{Counts, Talker, act, new_talker};
 use crate::soak::link::{Link, carry};
 use crate::soak::messages::{Plan, STREAMS};
 use anyhow::Result;
@@ -12,7 +13,7 @@ use std::time::Duration;
 const TURN: u64 = 5;
 
 /// The time passes by a turn; where nothing is under way, up to the moment at which a socket has something to do.
-fn pass<S: Soaked>(a: &Talker<S>, b: &Talker<S>, now: SocketTime) -> SocketTime {
+fn pass<S: Owned>(a: &Talker<S>, b: &Talker<S>, now: SocketTime) -> SocketTime {
     let soon = now + Duration::from_millis(TURN);
     if is_empty(a) && is_empty(b) {
         soon.max(a.end.socket.poll_timeout().min(b.end.socket.poll_timeout()))
@@ -26,7 +27,7 @@ fn is_empty<S>(talker: &Talker<S>) -> bool {
 }
 
 /// Whether the end has sent so many messages, and holds nothing of them or of the other's.
-fn is_quiet<S: Soaked>(talker: &Talker<S>, count: u32) -> bool {
+fn is_quiet<S: Owned>(talker: &Talker<S>, count: u32) -> bool {
     talker.counts.accepted == count
         && talker.due.is_none()
         && is_empty(talker)
@@ -35,7 +36,7 @@ fn is_quiet<S: Soaked>(talker: &Talker<S>, count: u32) -> bool {
 }
 
 /// Goes on until each end has sent so many messages and all is quiet. Answers what time it is then.
-fn go_on<S: Soaked, R: Rng>(
+fn go_on<S: Owned, R: Rng>(
     a: &mut Talker<S>,
     b: &mut Talker<S>,
     link: &mut Link<R>,
@@ -73,7 +74,7 @@ fn outstanding<S: DcSctpSocket>(socket: &S) -> usize {
 }
 
 /// What the socket holds: of its own messages and of the peer's.
-fn show_held<S: Soaked>(rt: &HostRuntime, name: &str, socket: &S) -> Result<()> {
+fn show_held<S: Owned>(rt: &HostRuntime, name: &str, socket: &S) -> Result<()> {
     let (bytes, ready) = (queued(socket), socket.messages_ready_count());
     let outstanding = outstanding(socket);
     let (rests, readiness) = (socket.rests(), socket.get_handover_readiness());
@@ -107,7 +108,7 @@ fn show_packets(rt: &HostRuntime, name: &str, own: &Counts) -> Result<()> {
     Ok(())
 }
 
-fn show<S: Soaked>(
+fn show<S: Owned>(
     rt: &HostRuntime,
     name: &str,
     talker: &Talker<S>,
@@ -122,7 +123,7 @@ fn show<S: Soaked>(
 }
 
 /// Both ends send so many messages; then what they hold is printed. Answers what time it is then.
-fn go_on_and_show<S: Soaked, R: Rng>(
+fn go_on_and_show<S: Owned, R: Rng>(
     rt: &HostRuntime,
     a: &mut Talker<S>,
     b: &mut Talker<S>,
@@ -137,7 +138,7 @@ fn go_on_and_show<S: Soaked, R: Rng>(
 }
 
 /// Both ends send; when they have sent as many as are to be looked at first, and at the end, what they hold is printed.
-fn converse_as<S: Soaked, R: Rng>(
+fn converse_as<S: Owned, R: Rng>(
     rt: &HostRuntime,
     a: &mut Talker<S>,
     b: &mut Talker<S>,
@@ -155,7 +156,7 @@ fn converse_as<S: Soaked, R: Rng>(
 }
 
 /// Runs a conversation of two new sockets.
-pub fn converse<S: Soaked, R: Rng + Drop>(
+pub fn converse<S: Owned, R: Rng + Drop>(
     rt: &HostRuntime,
     a: S,
     b: S,

@@ -3,12 +3,9 @@
 use crate::soak::messages::{
     Plan, STREAMS, is_reliable, label_of, message, options, stream, wanted_label,
 };
-use crate::{End, new_end, turn};
+use crate::{End, Owned, new_end, turn};
 use anyhow::Result;
-use rand_core::Rng;
-use sctp_association::{
-    Checksum, DcSctpSocket, GivenUp, Message, Socket, SocketEvent, SocketTime, StreamId,
-};
+use sctp_association::{Message, SocketEvent, SocketTime, StreamId};
 use std::alloc::Global;
 
 /// More messages that were given up in one turn are not looked for.
@@ -19,29 +16,6 @@ const EACH_TURN: u32 = 8;
 
 /// With as many bytes queued on a stream an end sends none.
 const ENOUGH: usize = 10_000;
-
-/// What is asked of a socket beside the calls of its trait.
-pub trait Soaked: DcSctpSocket {
-    fn next_record(&mut self) -> Option<GivenUp>;
-
-    fn rests(&self) -> bool;
-
-    fn let_go(self);
-}
-
-impl<R: Rng + Drop, C: Checksum + Drop> Soaked for Socket<R, C> {
-    fn next_record(&mut self) -> Option<GivenUp> {
-        self.next_given_up()
-    }
-
-    fn rests(&self) -> bool {
-        self.is_at_rest()
-    }
-
-    fn let_go(self) {
-        self.let_go();
-    }
-}
 
 /// What is counted at an end.
 #[derive(Clone, Copy)]
@@ -132,7 +106,7 @@ pub fn new_talker<S>(rt: &HostRuntime, socket: S) -> Talker<S> {
     }
 }
 
-impl<S: Soaked> Talker<S> {
+impl<S: Owned> Talker<S> {
     pub fn let_go(self) {
         self.end.let_go();
     }
@@ -160,7 +134,7 @@ fn count<S>(talker: &mut Talker<S>) {
     talker.end.messages.clear();
 }
 
-fn count_given_up<S: Soaked>(socket: &mut S, counts: &mut Counts) {
+fn count_given_up<S: Owned>(socket: &mut S, counts: &mut Counts) {
     for _ in 0..MANY {
         match socket.next_record() {
             Some(_record) => counts.given_up = counts.given_up.saturating_add(1),
@@ -170,7 +144,7 @@ fn count_given_up<S: Soaked>(socket: &mut S, counts: &mut Counts) {
 }
 
 /// Advances the time, sends the next messages, takes what came, and counts what the socket emits and hands out.
-pub fn act<S: Soaked>(talker: &mut Talker<S>, now: SocketTime, plan: Plan) -> Result<()> {
+pub fn act<S: Owned>(talker: &mut Talker<S>, now: SocketTime, plan: Plan) -> Result<()> {
     talker.end.socket.advance_time(now)?;
     send(talker, plan)?;
     turn(&mut talker.end, now)?;
@@ -180,7 +154,7 @@ pub fn act<S: Soaked>(talker: &mut Talker<S>, now: SocketTime, plan: Plan) -> Re
 }
 
 /// Asks for a reset of the stream, unless messages of it are queued, which would be given up. Answers whether it asked.
-fn ask_reset<S: Soaked>(socket: &mut S, stream: StreamId) -> Result<bool> {
+fn ask_reset<S: Owned>(socket: &mut S, stream: StreamId) -> Result<bool> {
     if socket.buffered_amount(stream) > 0 {
         return Ok(false);
     }
@@ -189,7 +163,7 @@ fn ask_reset<S: Soaked>(socket: &mut S, stream: StreamId) -> Result<bool> {
 }
 
 /// Asks for the reset that is due. Answers whether none is due then.
-fn reset_if_due<S: Soaked>(talker: &mut Talker<S>) -> Result<bool> {
+fn reset_if_due<S: Owned>(talker: &mut Talker<S>) -> Result<bool> {
     let Some(stream) = talker.due else {
         return Ok(true);
     };
@@ -202,7 +176,7 @@ fn reset_if_due<S: Soaked>(talker: &mut Talker<S>) -> Result<bool> {
 }
 
 /// Sends the message of this number. Behind so many one its stream is to be reset.
-fn send_one<S: Soaked>(talker: &mut Talker<S>, number: u32, reset_each: u32) -> Result<()> {
+fn send_one<S: Owned>(talker: &mut Talker<S>, number: u32, reset_each: u32) -> Result<()> {
     let next = message(talker.alloc, number)?;
     talker.end.socket.send(next, &options(number))?;
     let accepted = number.saturating_add(1);
@@ -213,12 +187,12 @@ fn send_one<S: Soaked>(talker: &mut Talker<S>, number: u32, reset_each: u32) -> 
     Ok(())
 }
 
-fn has_room<S: Soaked>(talker: &Talker<S>, number: u32) -> bool {
+fn has_room<S: Owned>(talker: &Talker<S>, number: u32) -> bool {
     talker.end.socket.buffered_amount(StreamId(stream(number))) <= ENOUGH
 }
 
 /// Sends the next messages, up to so many in all, while there is room.
-fn send<S: Soaked>(talker: &mut Talker<S>, plan: Plan) -> Result<()> {
+fn send<S: Owned>(talker: &mut Talker<S>, plan: Plan) -> Result<()> {
     for _ in 0..EACH_TURN {
         let number = talker.counts.accepted;
         if !reset_if_due(talker)? || number >= plan.count || !has_room(talker, number) {
