@@ -7,8 +7,8 @@ RT = os.environ.get("RT", "rt")
 PROGRAM = f"{TOP}/crates/run_socket_script/out/run_socket_script"
 HEADER = 12
 SMALL, LARGE = 1500, 65532
-# Counts what is on the heap. Of the function at WATCHED it tells, as each call begins and ends, the bytes there and the processor time:
-# an int3 stands at its first byte, and during a call at the one to which it returns.
+# With COUNTS it counts what is on the heap, which takes time of its own. Of the function at WATCHED it tells, as each call begins and
+# ends, the processor time and the bytes there: an int3 stands at its first byte, and during a call at the one to which it returns.
 WATCH = r"""
 #define _GNU_SOURCE
 #include <dlfcn.h>
@@ -22,6 +22,7 @@ WATCH = r"""
 #include <ucontext.h>
 #include <unistd.h>
 static long live;
+#ifdef COUNTS
 void *malloc(size_t size) {
     static void *(*real)(size_t);
     if (!real) real = (void *(*)(size_t))dlsym(RTLD_NEXT, "malloc");
@@ -43,6 +44,7 @@ void *realloc(void *old, size_t size) {
     if (made) live += malloc_usable_size(made) + 8 - before;
     return made;
 }
+#endif
 static unsigned char *entry, at_entry, *back, at_back;
 static void tell(void) {
     struct timespec now;
@@ -184,18 +186,26 @@ class Watch:
     """Runs a script and tells what the last call of a function cost."""
 
     def __init__(self, room, function):
-        self.library = f"{room}/watch.so"
         open(f"{room}/watch.c", "w").write(WATCH)
-        subprocess.run(["gcc", "-O1", "-shared", "-fPIC", "-o", self.library, f"{room}/watch.c", "-ldl"], check=True)
+        self.libraries = []
+        for flag in ("-DTIMES", "-DCOUNTS"):
+            self.libraries.append(f"{room}/watch{flag}.so")
+            words = ["gcc", "-O1", "-shared", "-fPIC", flag, "-o", self.libraries[-1], f"{room}/watch.c", "-ldl"]
+            subprocess.run(words, check=True)
         names = subprocess.run(["nm", PROGRAM], capture_output=True, text=True, check=True).stdout.splitlines()
         (self.watched,) = [name.split()[0] for name in names if function in name]
 
-    def run(self, row):
-        """Processor nanoseconds of the call, and bytes that it leaves on the heap; what is printed; the status."""
-        env = {**os.environ, "LD_PRELOAD": self.library, "WATCHED": self.watched}
+    def told(self, row, library):
+        """What is told as the last call begins and ends; the process."""
+        env = {**os.environ, "LD_PRELOAD": library, "WATCHED": self.watched}
         ran = subprocess.run([PROGRAM], input=f"# one\n{row}".encode(), capture_output=True, env=env)
         told = [tuple(map(int, line.split())) for line in ran.stderr.decode().splitlines()]
-        (start, before), (end, after) = told[-2:] if len(told) > 1 else ((0, 0), (0, 0))
+        return told[-2:] if len(told) > 1 else [(0, 0), (0, 0)], ran
+
+    def run(self, row):
+        """Processor nanoseconds of the call, and bytes that it leaves on the heap; what is printed; the status."""
+        (start, _), (end, _) = self.told(row, self.libraries[0])[0]
+        ((_, before), (_, after)), ran = self.told(row, self.libraries[1])
         return (end - start, after - before), ran.stdout.decode(), ran.returncode
 
 
