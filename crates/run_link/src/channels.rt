@@ -53,9 +53,8 @@ fn show_event(rt: &HostRuntime, name: &str, event: &ChannelEvent) -> Result<()> 
 
 /// What is not printed: packets go to the other end.
 fn tell<S: DcSctpSocket>(rt: &HostRuntime, end: &mut End<S>) -> Result<()> {
-    end.channels.collect(&mut end.socket)?;
     for _ in 0..MANY {
-        match end.channels.next_event() {
+        match end.channels.poll_event(&mut end.socket)? {
             Some(ChannelEvent::Socket(SocketEvent::SendPacket(bytes))) => end.sent.push(bytes)?,
             Some(ChannelEvent::Message(id, kind, bytes)) => {
                 show_message(rt, end.name, id, kind, bytes.len())?
