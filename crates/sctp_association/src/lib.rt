@@ -18,16 +18,15 @@ pub use sctp_serial::{
     ZERO_CHECKSUM_ALTERNATE_ERROR_DETECTION_METHOD_LOWER_LAYER_DTLS,
     ZERO_CHECKSUM_ALTERNATE_ERROR_DETECTION_METHOD_NONE, ZeroChecksumAlternateErrorDetectionMethod,
 };
-pub use sctp_socket_interface::DcSctpSocket;
 pub use sctp_state::api::handover::{
     HandoverCapabilities, HandoverOrderedStream, HandoverOutgoingStream, HandoverOutstandingData,
     HandoverReceive, HandoverSocketState, HandoverStreamMessage, HandoverTransmission,
     HandoverUnorderedStream,
 };
 pub use sctp_state::{
-    BatchFault, BatchSendError, CallError, ErrorKind, GivenUp, GivenUpCause, HandoverError,
-    HandoverReadiness, Metrics, Options, ResetStreamsError, RestoreError, SctpImplementation,
-    SendError, SendOptions, SocketEvent, SocketHandoverState, SocketState,
+    BatchFault, BatchSendError, CallError, DcSctpSocket, ErrorKind, GivenUp, GivenUpCause,
+    HandoverError, HandoverReadiness, Metrics, Options, ResetStreamsError, RestoreError,
+    SctpImplementation, SendError, SendOptions, SocketEvent, SocketHandoverState, SocketState,
 };
 pub use sctp_wire::Checksum;
 pub use socket::Socket;

@@ -34,10 +34,9 @@ use sctp_calls::metrics::metrics_in;
 use sctp_endpoint::{Association, Context, State};
 use sctp_handshake::opening::do_connect;
 use sctp_serial::{Message, SocketTime, StreamId};
-use sctp_socket_interface::DcSctpSocket;
 use sctp_state::{
-    BatchFault, BatchSendError, CallError, GivenUp, HandoverError, HandoverReadiness, Metrics,
-    Options, ResetStreamsError, RestoreError, SendError, SendOptions, SocketEvent,
+    BatchFault, BatchSendError, CallError, DcSctpSocket, GivenUp, HandoverError, HandoverReadiness,
+    Metrics, Options, ResetStreamsError, RestoreError, SendError, SendOptions, SocketEvent,
     SocketHandoverState, SocketState,
 };
 use sctp_supervision::shutdown::{do_shutdown, handle_close};

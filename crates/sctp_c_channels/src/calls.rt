@@ -12,7 +12,7 @@ use sctp_c_records::answers::{
 };
 use sctp_channels::{DataChannelOpen, DataChannels, OpenError};
 use sctp_serial::StreamId;
-use sctp_socket_interface::DcSctpSocket;
+use sctp_state::DcSctpSocket;
 use std::alloc::Global;
 
 fn open_on<S: DcSctpSocket>(

@@ -9,8 +9,7 @@ use sctp_c_records::answers::{FAILED, MEMORY, NO_CHANNELS, NO_ROOM, NOTHING, OK}
 use sctp_c_records::{EventParts, EventRecord, parts_of};
 use sctp_channels::{ChannelEvent, DataChannels, PayloadKind, Refusal};
 use sctp_serial::StreamId;
-use sctp_socket_interface::DcSctpSocket;
-use sctp_state::{CallError, SocketEvent};
+use sctp_state::{CallError, DcSctpSocket, SocketEvent};
 use std::alloc::Global;
 
 fn kind_number(kind: PayloadKind) -> u32

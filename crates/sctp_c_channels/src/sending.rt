@@ -11,8 +11,7 @@ use sctp_c_records::answers::{
 };
 use sctp_channels::{DataChannels, PayloadKind, SendRefusal};
 use sctp_serial::StreamId;
-use sctp_socket_interface::DcSctpSocket;
-use sctp_state::CallError;
+use sctp_state::{CallError, DcSctpSocket};
 use std::alloc::Global;
 
 /// A message to be sent on a channel.

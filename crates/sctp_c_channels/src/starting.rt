@@ -7,7 +7,7 @@ ghost use Rattle.sctp_c_channels.specs.Records.{IsStarted, start_in};
 use sctp_c_records::answers::{HAS_CHANNELS, OK};
 use sctp_c_records::u32_or;
 use sctp_channels::DataChannels;
-use sctp_socket_interface::DcSctpSocket;
+use sctp_state::DcSctpSocket;
 use std::alloc::Global;
 
 /// The bytes of `pigeon_channels_options`.

@@ -1,10 +1,12 @@
-//! What users of a socket set and see, and what it emits to them.
+//! What users of a socket call, set and see, and what it emits to them.
 
+mod dcsctp_socket;
 mod errors;
 pub mod handover;
 pub mod laws;
 mod options;
 
+pub use dcsctp_socket::DcSctpSocket;
 pub use errors::{
     BatchFault, BatchSendError, CallError, HandoverError, ResetStreamsError, RestoreError,
     SendError,

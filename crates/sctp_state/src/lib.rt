@@ -1,4 +1,4 @@
-//! What both directions of an SCTP association share: options, events, errors, timers and handover records.
+//! What both directions of an SCTP association share: a socket's calls, options, events, errors, timers and handover records.
 #![tactic(auto)]
 
 pub mod api;
@@ -9,9 +9,9 @@ pub mod timer;
 pub mod tx_error_counter;
 
 pub use api::{
-    BatchFault, BatchSendError, CallError, ErrorKind, GivenUp, GivenUpCause, HandoverError,
-    HandoverReadiness, Metrics, Options, ResetStreamsError, RestoreError, SctpImplementation,
-    SendError, SendOptions, SocketEvent, SocketHandoverState, SocketState,
+    BatchFault, BatchSendError, CallError, DcSctpSocket, ErrorKind, GivenUp, GivenUpCause,
+    HandoverError, HandoverReadiness, Metrics, Options, ResetStreamsError, RestoreError,
+    SctpImplementation, SendError, SendOptions, SocketEvent, SocketHandoverState, SocketState,
 };
 pub use events::{EventMark, EventSink, Events};
 pub use retransmission_timeout::RetransmissionTimeout;

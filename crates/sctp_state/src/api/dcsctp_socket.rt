@@ -1,13 +1,12 @@
-//! The calls of a socket, whichever it is. What drives one stands on this crate alone, and not on how a socket is built.
-#![tactic(auto)]
+//! The calls of a socket, whichever it is. What drives one stands on them alone, and not on how a socket is built.
 
 ghost use Rattle.std.specs.Prelude.{◌<◌, ◌^◌};
 
-use sctp_serial::{Message, SocketTime, StreamId};
-use sctp_state::{
+use crate::api::{
     BatchFault, CallError, HandoverError, HandoverReadiness, Metrics, Options, ResetStreamsError,
     RestoreError, SendError, SendOptions, SocketEvent, SocketHandoverState, SocketState,
 };
+use sctp_serial::{Message, SocketTime, StreamId};
 
 /// An end of an SCTP association, which makes no system call. Packets, moments and messages are handed in; events, among
 /// them packets to send, are taken out. A changing call that finds too little memory answers `Memory`, and the socket has
