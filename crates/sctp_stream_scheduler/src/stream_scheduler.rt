@@ -85,6 +85,7 @@ impl StreamScheduler {
     /// Sets how many bytes of its next message a stream has to send. With none it leaves. A stream that had none gets
     /// its finish time: the virtual time and 1, or with interleaving the bytes of its next fragment times 65,536 by its
     /// priority. One that has a finish time keeps it. Without memory nothing changes.
+    #[inline(always)]
     pub fn set_bytes_remaining(
         &mut self,
         id: StreamId,
@@ -136,6 +137,7 @@ impl StreamScheduler {
 
     /// The stream sends, as `accept` says, if it is active, and then has so many bytes of its next message to send, as
     /// `set_bytes_remaining` says. Without memory nothing changes.
+    #[inline(always)]
     pub fn take_turn(&mut self, id: StreamId, bytes: usize, priority: u16) -> Result<(), AllocError>
         ensures ok { OnOk result (self.new ≡ set_bytes_remaining id.0 bytes priority (accept id.0 self.old)) }
         ensures err { OnErr result (self.new ≡ self.old) }

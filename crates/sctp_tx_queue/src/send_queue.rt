@@ -32,13 +32,11 @@ pub mod stream;
 pub mod streams;
 
 use crate::data_to_send::DataToSend;
-use emitting::{emit_expired, emit_if};
+use emitting::{emit_expired, emit_low};
 use message::QueuedMessage;
 use sctp_chunk::SpareBuffers;
 use sctp_serial::{LifecycleId, Message, OutgoingMessageId, SocketTime, StreamId};
-use sctp_state::{
-    Events, HandoverReadiness, Options, SendOptions, SocketEvent, SocketHandoverState,
-};
+use sctp_state::{Events, HandoverReadiness, Options, SendOptions, SocketHandoverState};
 use sctp_stream_scheduler::StreamScheduler;
 use sending::StreamTurn;
 use std::alloc::{AllocError, Global};
@@ -356,7 +354,7 @@ impl SendQueue {
     {
         let mark = events.mark();
         let is_low = self.streams.is_low_at(id, bytes);
-        if emit_if(events, is_low, SocketEvent::OnBufferedAmountLow(id)).is_err() {
+        if emit_low(events, id, is_low).is_err() {
             events.roll_back(mark);
             return Err(AllocError);
         }

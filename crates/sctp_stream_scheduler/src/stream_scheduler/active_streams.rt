@@ -146,6 +146,7 @@ impl ActiveStreams {
     }
 
     /// Takes a stream out. The answer is its finish time, if it was active.
+    #[inline(always)]
     pub fn leave(&mut self, id: u16) -> Option<u128>
         ensures time { result ≡ finish_time id self.old }
         ensures times { self.new ≡ remove_entry (is_at (nat_cmp id)) self.old }

@@ -1,7 +1,7 @@
 //! What the send queue emits to the socket's user.
 
 ghost use Rattle.std.specs.Prelude.{◌≡◌, OnOk, OnErr};
-ghost use Rattle.sctp_state.specs.Events.{event_of, expired_events, emit_given_up, emit_events, Grown};
+ghost use Rattle.sctp_state.specs.Events.{OnBufferedAmountLow, OnTotalBufferedAmountLow, expired_events, emit_given_up, emit_events, Grown};
 ghost use Rattle.sctp_tx_queue.specs.Produced.{when, fully_sent, production};
 ghost use Rattle.sctp_tx_queue.specs.Resets.{emit_unsent};
 ghost use Rattle.sctp_tx_queue.specs.Emptied.{emit_ended};
@@ -81,16 +81,24 @@ pub(crate) fn emit_ended(
     Ok(())
 }
 
-pub(crate) fn emit_if(
-    events: &mut Events,
-    condition: bool,
-    event: SocketEvent,
-) -> Result<(), AllocError>
-    ensures ok { OnOk result (events.new ≡ emit_events (when condition (event_of event)) events.old) }
+/// The amount of a stream fell to its threshold, where this says so.
+pub(crate) fn emit_low(events: &mut Events, id: StreamId, is_low: bool) -> Result<(), AllocError>
+    ensures ok { OnOk result (events.new ≡ emit_events (when is_low (OnBufferedAmountLow id.0)) events.old) }
     ensures err { OnErr result (Grown events.old events.new) }
 {
-    if condition {
-        events.add(event)?;
+    if is_low {
+        events.add(SocketEvent::OnBufferedAmountLow(id))?;
+    }
+    Ok(())
+}
+
+/// The amount of all streams did.
+fn emit_total_low(events: &mut Events, is_total_low: bool) -> Result<(), AllocError>
+    ensures ok { OnOk result (events.new ≡ emit_events (when is_total_low OnTotalBufferedAmountLow) events.old) }
+    ensures err { OnErr result (Grown events.old events.new) }
+{
+    if is_total_low {
+        events.add(SocketEvent::OnTotalBufferedAmountLow())?;
     }
     Ok(())
 }
@@ -115,12 +123,8 @@ pub(crate) fn emit_production(
     ensures ok { OnOk result (events.new ≡ emit_events (production id.0 lows.is_low lows.is_total_low lifecycle_id) events.old) }
     ensures err { OnErr result (Grown events.old events.new) }
 {
-    emit_if(events, lows.is_low, SocketEvent::OnBufferedAmountLow(id))?;
-    emit_if(
-        events,
-        lows.is_total_low,
-        SocketEvent::OnTotalBufferedAmountLow(),
-    )?;
+    emit_low(events, id, lows.is_low)?;
+    emit_total_low(events, lows.is_total_low)?;
     emit_fully_sent(events, lifecycle_id)?;
     Ok(())
 }

@@ -28,6 +28,8 @@ use std::marker::Model;
 
 /// How many rooms are kept that no stream has.
 const MOST_SPARE_ROOMS: usize = 16;
+/// A room for more messages isn't kept.
+const MOST_SPARE_PLACES: usize = 16;
 
 /// The messages of a stream, the first one next. Without any they need no room.
 #[derive(Drop)]
@@ -60,17 +62,21 @@ impl SpareRooms {
     }
 
     /// A room without messages.
+    #[inline(always)]
     fn take(&mut self, alloc: Global) -> Result<Box<VecDeque<QueuedMessage>>, AllocError>
         ensures { IfOk result (λ room. room.value.items ≡ []) }
     {
         let Some(mut room) = self.rooms.pop() else {
             return Ok(Box::new(alloc, VecDeque::new(alloc))?);
         };
-        room.clear();
+        if !room.is_empty() {
+            room.clear();
+        }
         Ok(room)
     }
 
     /// A room with this message.
+    #[inline(always)]
     fn take_with(
         &mut self,
         alloc: Global,
@@ -79,16 +85,30 @@ impl SpareRooms {
         ensures { IfOk result (λ room. room.value.items ≡ message ∷ []) }
     {
         let mut room = self.take(alloc)?;
-        room.push_back(message)?;
+        push_back(&mut room, message)?;
         Ok(room)
     }
 
-    /// Keeps the room, unless there are enough.
+    /// Keeps the room, unless it is a large one or there are enough.
     fn put(&mut self, room: Box<VecDeque<QueuedMessage>>) {
-        if self.rooms.len() < MOST_SPARE_ROOMS {
+        if self.rooms.len() < MOST_SPARE_ROOMS && room.capacity() <= MOST_SPARE_PLACES {
             let _is_kept = self.rooms.push(room).is_ok();
         }
     }
+}
+
+/// Adds a message behind the others. Without memory nothing changes.
+#[inline(always)]
+fn push_back(
+    messages: &mut VecDeque<QueuedMessage>,
+    message: QueuedMessage,
+) -> Result<(), AllocError>
+    ensures ok { OnOk result (messages.new.items ≡ messages.old.items ++ message ∷ []) }
+    ensures err { OnErr result (messages.new.items ≡ messages.old.items) }
+{
+    messages.reserve(1)?;
+    messages.push_back_reserved(message);
+    Ok(())
 }
 
 /// Emits the events of the messages at the front that expired before they were begun.
@@ -268,6 +288,7 @@ impl Messages {
     }
 
     /// Adds a message behind the others, in one of these rooms where it is the only one. Without memory nothing changes.
+    #[inline(always)]
     pub(crate) fn push(
         &mut self,
         alloc: Global,
@@ -278,7 +299,7 @@ impl Messages {
         ensures err { OnErr result (self.new ≡ self.old) }
     {
         match &mut self.room {
-            Some(room) => room.push_back(message)?,
+            Some(room) => push_back(room, message)?,
             None => self.room = Some(spare_rooms.take_with(alloc, message)?),
         }
         Ok(())

@@ -42,6 +42,7 @@ struct Next {
     lows: Lows,
 }
 
+#[inline(always)]
 fn next_after(stream: &Stream, size: usize, is_total_low: bool) -> Next
     ensures bytes { result.bytes ≡ sendable (advance size stream.now) }
     ensures priority { result.priority ≡ stream.now.priority }
@@ -59,6 +60,7 @@ fn next_after(stream: &Stream, size: usize, is_total_low: bool) -> Next
 }
 
 /// Emits the events of a fragment, and puts its stream in line for the next one.
+#[inline(always)]
 fn emit_and_queue(
     scheduler: &mut StreamScheduler,
     events: &mut Events,
@@ -76,6 +78,7 @@ fn emit_and_queue(
 }
 
 /// The same. Without memory nothing changes.
+#[inline(always)]
 fn go_in_line(
     scheduler: &mut StreamScheduler,
     events: &mut Events,

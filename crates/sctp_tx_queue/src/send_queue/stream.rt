@@ -264,6 +264,7 @@ impl Stream {
     }
 
     /// Adds a message behind the others. Without memory nothing changes.
+    #[inline(always)]
     pub(crate) fn push(
         &mut self,
         alloc: Global,
@@ -360,6 +361,7 @@ impl Stream {
     }
 
     /// The next fragment is sent. The answer is the message that it ends.
+    #[inline(always)]
     fn send_front(&mut self, size: usize) -> Option<QueuedMessage>
         ensures ended { result ≡ front_ended size self.old.messages }
         ensures after { self.new ≡ advance size self.old }

@@ -179,6 +179,7 @@ impl Streams {
     }
 
     /// Adds a message behind the others of its stream, which is made where there is none. Without memory nothing changes.
+    #[inline(always)]
     pub(crate) fn push(
         &mut self,
         alloc: Global,
@@ -199,6 +200,7 @@ impl Streams {
     }
 
     /// Makes a stream with a message.
+    #[inline(never)]
     fn push_first(
         &mut self,
         alloc: Global,
