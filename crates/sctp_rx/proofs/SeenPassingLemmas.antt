@@ -1,8 +1,8 @@
 -- Moving a front up, over the runs that it reaches.
-use Rattle.std.proofs.Common.{◌≡◌, ℕ, ◌+◌, ◌<◌, ◌≤◌, Bool, eqb, leb, ◌||◌, ◌&&◌, List, [], ◌∷◌, length, get_or, drop, max, sym, ap, ◌∙◌, subst, arith, drop-cons}
+use Rattle.std.proofs.Common.{◌≡◌, ℕ, ◌+◌, ◌<◌, ◌≤◌, Bool, eqb, leb, ◌||◌, ◌&&◌, List, [], ◌∷◌, ◌++◌, length, get_or, drop, max, sym, ap, ◌∙◌, subst, arith, drop-cons}
 use Rattle.std.proofs.lemmas.Bool.Decides.{nat_tests}
 use Rattle.sctp_rx.specs.Seen.{Run, in_runs, AreRuns, last_above}
-use Rattle.sctp_rx.specs.SeenSteps.{Passes}
+use Rattle.sctp_rx.specs.SeenSteps.{Cuts, Passes}
 use Rattle.sctp_rx.proofs.SeenRunsLemmas.{le_last_above}
 
 pub AreRuns_from : (p q : ℕ) (rs : List Run) → q ≤ p → AreRuns p rs → AreRuns q rs
@@ -78,3 +78,53 @@ below_front c n rs h m = reached (in_runs rs m)
   where
     reached : (v : Bool) → (leb m c || v) ≡ (leb m n || (leb m c || v))
     reached v = grind (arith, nat_tests)
+
+-- ---- the runs that begin at p or below it go out together
+
+abbrev pub BeginUpTo : ℕ → List Run → Type 0
+BeginUpTo p [] = Unit {0}
+BeginUpTo p (b ∷ rs) = (b.first ≤ p) × BeginUpTo p rs
+
+begin_onward : (p q : ℕ) (rs : List Run) → p ≤ q → BeginUpTo p rs → BeginUpTo q rs
+begin_onward p q [] h b = tt
+begin_onward p q (r ∷ rs) h b = (omega (arith, b.0, h), begin_onward p q rs h b.1)
+
+record CutsFrom (c p : ℕ) (low rest : List Run) : Type 0 where
+  numbers : (m : ℕ) → (leb m (max p (last_above c low)) || in_runs rest m) ≡ (leb m p || in_runs (low ++ rest) m)
+  runs : AreRuns 0 rest
+  last : max (max p (last_above c low)) (last_above 0 rest) ≡ max p (last_above 0 (low ++ rest))
+
+AreRuns_front : (c : ℕ) (low rest : List Run) → AreRuns c (low ++ rest) → AreRuns c low
+AreRuns_front c [] rest r = tt
+AreRuns_front c (b ∷ low) rest r = (r.0, r.1, AreRuns_front b.last low rest r.2)
+
+cuts_from : (c p : ℕ) (low rest : List Run) → c ≤ p → BeginUpTo p low → AreRuns c (low ++ rest) → CutsFrom c p low rest
+cuts_from c p [] rest h b r =
+    let same : max p c ≡ p = omega (arith, h) in
+    record {
+      numbers = λ m. ap (λ q. leb m q || in_runs rest m) same;
+      runs = AreRuns_from_none c rest r;
+      last = ap (λ q. max q (last_above 0 rest)) same;
+    }
+cuts_from c p (b ∷ low) rest h begin r =
+    let one = passes_one_of p b (low ++ rest) (AreRuns_from_none c (b ∷ (low ++ rest)) r) (omega (arith, begin.0)) in
+    let more = cuts_from b.last (max p b.last) low rest (omega arith) (begin_onward p (max p b.last) low (omega arith) begin.1) r.2 in
+    let same : max (max p b.last) (last_above b.last low) ≡ max p (last_above b.last low) = omega (arith, le_last_above b.last low (AreRuns_front b.last low rest r.2)) in
+    record {
+      numbers = λ m. ap (λ q. leb m q || in_runs rest m) (sym same) ∙ (more.numbers m ∙ one.numbers m);
+      runs = more.runs;
+      last = ap (λ q. max q (last_above 0 rest)) (sym same) ∙ (more.last ∙ one.last);
+    }
+
+pub cuts : (p q : ℕ) (old low rest : List Run) → old ≡ low ++ rest → BeginUpTo p low → q ≡ max p (last_above 0 low) → AreRuns 0 old → Cuts p old q rest
+cuts p q old low rest is begin reach r =
+    let c = cuts_from 0 p low rest (omega arith) begin (subst (λ (t : List Run). AreRuns 0 t) is r) in
+    rw (reach, is) (record { numbers = c.numbers; runs = c.runs; onward = omega arith; last = c.last })
+
+pub cut_passes : (p q n : ℕ) (old mid new : List Run) → Cuts p old q mid → Passes q mid n new → Passes p old n new
+cut_passes p q n old mid new c w = record {
+  numbers = λ m. w.numbers m ∙ c.numbers m;
+  runs = w.runs;
+  onward = omega (arith, c.onward, w.onward);
+  last = w.last ∙ c.last;
+}

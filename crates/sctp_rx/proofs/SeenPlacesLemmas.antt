@@ -1,17 +1,21 @@
 -- Where a number is added to a map of runs: at the run before it, and with the one behind it.
 use Rattle.std.proofs.Common.{◌≡◌, ◌≢◌, ℕ, zero, suc, ◌+◌, ◌<◌, ◌≤◌, Bool, true, false, not, ltb, ◌&&◌, ◌||◌, ◌==◌, if◌then◌else◌, cond, map, max, length, take, drop, get_or, List, [], ◌∷◌, ◌++◌, refl, sym, ap, ◌∙◌, subst, inl, inr, arith}
 use Rattle.std.specs.Prelude.{Some, None, unwrap_or, slice_get}
-use Rattle.std.specs.Map.{lookup, remove_entry}
+use Rattle.std.specs.List.{All}
+use Rattle.std.specs.Map.{lookup, remove_entry, keys_of}
 use Rattle.std.proofs.Common.{Ordering, Equal, Greater}
-use Rattle.std.specs.Ordering.{is_eq, is_lt, nat_cmp, match_ordering}
+use Rattle.std.specs.Ordering.{is_eq, is_gt, is_lt, nat_cmp, match_ordering}
 use Rattle.std.specs.BTreeMap.{is_at, insert_entry}
 use Rattle.std.specs.BTreeMap.Range.{entries_between}
 use Rattle.std.specs.declared.ops.Bound.TheVariants.{Unbounded, Included}
 use Rattle.std.proofs.lemmas.Bool.{lt-ltb, le-ltb, ne_eqb, eq-eqb, lt-leb, le-leb, cases_lt, cases_eq, both_ways}
+use Rattle.std.proofs.lemmas.Bool.Decides.{nat_tests}
+use Rattle.std.proofs.lemmas.List.Elements.{All-head, All-tail}
 use Rattle.sctp_rx.specs.Seen.{Run, in_runs, AreRuns, last_above}
-use Rattle.sctp_rx.specs.SeenSteps.{Adds, read, run_of, runs_of, last_entry, run_at, is_held, first_with, last_with}
+use Rattle.sctp_rx.specs.SeenSteps.{Adds, Cuts, read, run_of, runs_of, last_entry, run_at, is_held, first_with, last_with}
 use Rattle.sctp_rx.proofs.SeenEdits.{run, grown_to, add_here, add_number}
 use Rattle.sctp_rx.proofs.SeenRunsLemmas.{le_last_above, adds}
+use Rattle.sctp_rx.proofs.SeenPassingLemmas.{BeginUpTo, cuts}
 use Rattle.sctp_rx.proofs.SeenOneFormLemmas.{before_first, past_last, within, later}
 use Rattle.sctp_serial.proofs.NumberLemmas.{nat_cmp_less, at_other}
 
@@ -354,3 +358,30 @@ pub AreRuns_take : (p n : ℕ) (rs : List Run) → AreRuns p rs → AreRuns p (t
 AreRuns_take p zero rs r = tt
 AreRuns_take p (suc n) [] r = tt
 AreRuns_take p (suc n) (b ∷ rs) r = (r.0, r.1, AreRuns_take b.last n rs r.2)
+
+-- ---- the runs that begin at p or below it go out together
+
+below : (a b : ℕ) → is_gt (nat_cmp a b) ≡ true → b < a
+below a b gt = elim (cases_lt b a) [ inl less ↦ less | inr more ↦ absurd (apart_from more) ]
+  where
+    apart_from : a ≤ b → ⊥
+    apart_from m = grind (arith, nat_tests)
+
+begin_low : (p : ℕ) (es : List Entry) → All (λ q. is_gt (nat_cmp (p + 1) q) ≡ true) (keys_of es) → BeginUpTo p (runs_of es)
+begin_low p [] all = tt
+begin_low p (e ∷ es) all =
+    (omega (arith, below (p + 1) e.0 (All-head (λ q. is_gt (nat_cmp (p + 1) q) ≡ true) e.0 (keys_of es) all)), begin_low p es (All-tail (λ q. is_gt (nat_cmp (p + 1) q) ≡ true) e.0 (keys_of es) all))
+
+runs_append : (xs ys : List Entry) → runs_of (xs ++ ys) ≡ runs_of xs ++ runs_of ys
+runs_append [] ys = refl
+runs_append (x ∷ xs) ys = ap (λ z. run_of x ∷ z) (runs_append xs ys)
+
+last_end : (c : ℕ) (front : List Entry) (k l : ℕ) → last_above c (runs_of (front ++ (k, l) ∷ [])) ≡ l
+last_end c [] k l = refl
+last_end c (e ∷ front) k l = last_end e.1 front k l
+
+pub cut_at : (p q : ℕ) (old low rest front : List Entry) (k l : ℕ) → old ≡ low ++ rest → low ≡ front ++ (k, l) ∷ [] → All (λ n. is_gt (nat_cmp (p + 1) n) ≡ true) (keys_of low) → q ≡ max p l → AreRuns 0 (runs_of old)
+    → Cuts p (runs_of old) q (runs_of rest)
+cut_at p q old low rest front k l is last gt reach r =
+    cuts p q (runs_of old) (runs_of low) (runs_of rest) (ap runs_of is ∙ runs_append low rest) (begin_low p low gt)
+    (reach ∙ ap (max p) (sym (ap (λ (t : List Entry). last_above 0 (runs_of t)) last ∙ last_end 0 front k l))) r

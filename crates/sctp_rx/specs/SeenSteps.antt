@@ -21,6 +21,13 @@ pub record Passes (p : ℕ) (old : List Run) (q : ℕ) (new : List Run) : Type 0
   pub onward : p ≤ q
   pub last : max q (last_above 0 new) ≡ max p (last_above 0 old)
 
+-- a front moves from p to q by runs that went out, and may reach others
+pub record Cuts (p : ℕ) (old : List Run) (q : ℕ) (new : List Run) : Type 0 where
+  pub numbers : (m : ℕ) → (nat_le m q || in_runs new m) ≡ (nat_le m p || in_runs old m)
+  pub runs : AreRuns 0 new
+  pub onward : p ≤ q
+  pub last : max q (last_above 0 new) ≡ max p (last_above 0 old)
+
 -- ---- the map of the runs, from the first number of each to its last
 
 abbrev pub run_of : ℕ × ℕ → Run

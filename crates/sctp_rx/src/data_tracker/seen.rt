@@ -2,7 +2,7 @@
 
 ghost use Rattle.std.specs.Prelude.{◌≡◌, ◌==◌, ℕ, ◌+◌, ◌^◌, ◌<◌, ◌≤◌, ◌||◌, [], not, max, map, take, drop, nat_lt, nat_le, slice_get, IfOk, OnOk, OnErr, false};
 ghost use Rattle.sctp_rx.specs.Seen.{AreRuns, last_above};
-ghost use Rattle.sctp_rx.specs.SeenSteps.{Adds, Passes, read, runs_of, run_at, is_held, first_with, last_with};
+ghost use Rattle.sctp_rx.specs.SeenSteps.{Adds, Cuts, Passes, read, runs_of, run_at, is_held, first_with, last_with};
 ghost use Rattle.sctp_rx.specs.Sack.{blocks_of, gap_ack_blocks};
 
 use sctp_chunk::GapAckBlock;
@@ -12,6 +12,9 @@ use std::marker::Model;
 
 /// A SACK reports at most as many runs.
 const MAX_BLOCKS: usize = 20;
+
+/// So many runs are taken out one by one.
+const FEW: usize = 8;
 
 /// Every number up to a front, and the maximal runs above it: from the first number of each to its last.
 #[derive(Drop)]
@@ -114,7 +117,7 @@ impl Seen {
         if number <= self.front {
             return false;
         }
-        self.front = pass(&mut self.runs, number);
+        self.front = pass_far(&mut self.runs, number);
         true
     }
 }
@@ -179,6 +182,44 @@ fn pass(runs: &mut BTreeMap<u64, u64>, mut point: u64) -> u64
         point = point.max(last);
     }
     point
+}
+
+/// Whether a front at this point reaches more runs than are worth to be taken out one by one.
+fn reaches_many(runs: &BTreeMap<u64, u64>, point: u64) -> bool {
+    match runs.keys().nth(FEW) {
+        Some(first) => *first <= point,
+        None => false,
+    }
+}
+
+/// Takes out the runs that begin at the point or below it, by one cut, and gives the point to which a front there moves by
+/// them. Without memory none goes.
+fn cut(runs: &mut BTreeMap<u64, u64>, point: u64) -> u64
+    requires runs { AreRuns 0 (runs_of runs.old.entries) }
+    requires small { point < 2 ^ 63 }
+    ensures { Cuts point (runs_of runs.old.entries) result (runs_of runs.new.entries) }
+{
+    let Ok(rest) = runs.split_off(&(point + 1)) else {
+        return point;
+    };
+    let mut low = std::mem::replace(runs, rest);
+    match low.pop_last() {
+        Some((_, last)) => point.max(last),
+        None => point,
+    }
+}
+
+/// Takes out the runs that a front at this point reaches, by one cut where they are many, and gives the point to which it moves.
+fn pass_far(runs: &mut BTreeMap<u64, u64>, point: u64) -> u64
+    requires runs { AreRuns 0 (runs_of runs.old.entries) }
+    requires small { max point (last_above 0 (runs_of runs.old.entries)) < 2 ^ 63 }
+    ensures { Passes point (runs_of runs.old.entries) result (runs_of runs.new.entries) }
+{
+    if !reaches_many(runs, point) {
+        return pass(runs, point);
+    }
+    let behind = cut(runs, point);
+    pass(runs, behind)
 }
 
 /// The last run that begins at the number or before it.

@@ -8,19 +8,19 @@ use Rattle.sctp_rx.proofs.data_tracker.seen.Seen.forward.Goals as goal
 pub returns-then-number-self-clause-highest : goal.returns-then-number-self-clause-highest
 returns-then-number-self-clause-highest c = rw (← c.self.view_is) (within_last c.args.number c.self.inside.front (runs_of c.self.inside.runs.entries) c.self.invariant.runs (omega arith))
 
-pub pass-self-inside-requires-clause-runs : goal.pass-self-inside-requires-clause-runs
-pass-self-inside-requires-clause-runs c = AreRuns_from_none c.self.inside.front (runs_of c.self.inside.runs.entries) c.self.invariant.runs
+pub pass_far-self-inside-requires-clause-runs : goal.pass_far-self-inside-requires-clause-runs
+pass_far-self-inside-requires-clause-runs c = AreRuns_from_none c.self.inside.front (runs_of c.self.inside.runs.entries) c.self.invariant.runs
 
-pub pass-self-inside-requires-clause-small : goal.pass-self-inside-requires-clause-small
-pass-self-inside-requires-clause-small c = omega (arith, last_above_max c.self.inside.front (runs_of c.self.inside.runs.entries) c.self.invariant.runs)
+pub pass_far-self-inside-requires-clause-small : goal.pass_far-self-inside-requires-clause-small
+pass_far-self-inside-requires-clause-small c = omega (arith, last_above_max c.self.inside.front (runs_of c.self.inside.runs.entries) c.self.invariant.runs)
 
 pub invariant_of-self : goal.invariant_of-self
 invariant_of-self c =
-    record { runs = c.pass-self-inside.ensures.runs; some = omega (arith, c.pass-self-inside.ensures.onward); small = omega (arith, last_above_passed c.args.number c.self.inside.front c.pass-self-inside.result (runs_of c.self.inside.runs.entries) (runs_of c.pass-self-inside.new.runs.entries) c.self.invariant.runs c.pass-self-inside.ensures (omega arith)) }
+    record { runs = c.pass_far-self-inside.ensures.runs; some = omega (arith, c.pass_far-self-inside.ensures.onward); small = omega (arith, last_above_passed c.args.number c.self.inside.front c.pass_far-self-inside.result (runs_of c.self.inside.runs.entries) (runs_of c.pass_far-self-inside.new.runs.entries) c.self.invariant.runs c.pass_far-self-inside.ensures (omega arith)) }
 
 pub returns-clause-highest : goal.returns-clause-highest
 returns-clause-highest c =
-    rw (← c.self.view_is) (last_above_passed c.args.number c.self.inside.front c.pass-self-inside.result (runs_of c.self.inside.runs.entries) (runs_of c.pass-self-inside.new.runs.entries) c.self.invariant.runs c.pass-self-inside.ensures (omega arith))
+    rw (← c.self.view_is) (last_above_passed c.args.number c.self.inside.front c.pass_far-self-inside.result (runs_of c.self.inside.runs.entries) (runs_of c.pass_far-self-inside.new.runs.entries) c.self.invariant.runs c.pass_far-self-inside.ensures (omega arith))
 
 pub returns-then-number-self-clause-value : goal.returns-then-number-self-clause-value
 returns-then-number-self-clause-value c = rw (← c.self.view_is) (is_up_to c.args.number (seen_of c.self.inside.front (runs_of c.self.inside.runs.entries)) (seen_of c.self.inside.front (runs_of c.self.inside.runs.entries)) c.self.invariant.runs c.self.invariant.runs (below_front c.self.inside.front c.args.number (runs_of c.self.inside.runs.entries) (omega arith)))
@@ -28,5 +28,5 @@ returns-then-number-self-clause-value c = rw (← c.self.view_is) (is_up_to c.ar
 pub returns-clause-value : goal.returns-clause-value
 returns-clause-value c =
     rw (← c.self.view_is)
-    (is_up_to c.args.number (seen_of c.self.inside.front (runs_of c.self.inside.runs.entries)) (seen_of c.pass-self-inside.result (runs_of c.pass-self-inside.new.runs.entries)) c.self.invariant.runs c.pass-self-inside.ensures.runs
-    (passed_over c.args.number c.self.inside.front c.pass-self-inside.result (runs_of c.self.inside.runs.entries) (runs_of c.pass-self-inside.new.runs.entries) c.pass-self-inside.ensures (omega arith)))
+    (is_up_to c.args.number (seen_of c.self.inside.front (runs_of c.self.inside.runs.entries)) (seen_of c.pass_far-self-inside.result (runs_of c.pass_far-self-inside.new.runs.entries)) c.self.invariant.runs c.pass_far-self-inside.ensures.runs
+    (passed_over c.args.number c.self.inside.front c.pass_far-self-inside.result (runs_of c.self.inside.runs.entries) (runs_of c.pass_far-self-inside.new.runs.entries) c.pass_far-self-inside.ensures (omega arith)))
