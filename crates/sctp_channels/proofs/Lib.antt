@@ -6,3 +6,4 @@ pub mod QuietLemmas
 pub mod RunLemmas
 pub mod StandsLemmas
 pub mod TwoEndsLemmas
+pub mod WholeLemmas

@@ -1,10 +1,10 @@
 -- A channel, and what becomes of data that comes for it.
-use Rattle.std.specs.Prelude.{ℕ, ◌+◌, ◌-◌, ◌^◌, min, nat_lt, Bool, true, false, not, ◌&&◌, ◌||◌, List, [], ◌++◌, length}
+use Rattle.std.specs.Prelude.{ℕ, ◌+◌, ◌-◌, ◌^◌, min, nat_le, nat_lt, Bool, true, false, not, ◌&&◌, ◌||◌, List, [], ◌++◌, length, ◌==◌}
 use Rattle.sctp_channels.specs.declared.payload.PayloadKind.{PayloadKind}
 use Rattle.sctp_channels.specs.declared.payload.PayloadProtocol.{PayloadProtocol}
 use Rattle.sctp_channels.specs.declared.payload.PayloadProtocol.TheVariants.{Control, Data, Empty, Part}
 use Rattle.sctp_channels.specs.Message.{Open}
-use Rattle.sctp_channels.specs.Lifecycle.{is_connecting, stop_incoming}
+use Rattle.sctp_channels.specs.Lifecycle.{is_connecting, stop_incoming, takes_data}
 use Rattle.sctp_channels.specs.declared.channel.Received as given
 use Rattle.sctp_channels.specs.declared.channel.Received.TheVariants as outcomes
 use Rattle.sctp_channels.specs.declared.channel.Statistics.{Statistics}
@@ -51,6 +51,14 @@ count_sent size c = record c { statistics = record c.statistics { messages_sent 
 abbrev pub count_received : ℕ → Channel → Channel
 count_received size c =
     record c { statistics = record c.statistics { messages_received = plus c.statistics.messages_received 1; bytes_received = plus c.statistics.bytes_received size } }
+
+abbrev pub count_if : Bool → ℕ → Channel → Channel
+count_if true size c = count_received size c
+count_if false size c = c
+
+-- a message of so many bytes is handed out as it came
+abbrev pub takes_whole : (limit size : ℕ) → Channel → Bool
+takes_whole limit size c = not (is_connecting c.lifecycle) && (takes_data c.lifecycle && (not c.is_too_long && ((length c.parts == 0) && nat_le size limit)))
 
 -- with so many bytes more the message is longer than it may be
 abbrev pub exceeds : (limit size : ℕ) → Channel → Bool

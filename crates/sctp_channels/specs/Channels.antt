@@ -9,7 +9,7 @@ use Rattle.sctp_channels.specs.declared.payload.PayloadProtocol.{PayloadProtocol
 use Rattle.sctp_channels.specs.declared.payload.PayloadProtocol.TheVariants.{Control}
 use Rattle.sctp_channels.specs.declared.reliability.Reliability.TheVariants.{Reliable}
 use Rattle.sctp_channels.specs.Message.{Establishment, Open, RefusedAs, Says, opens, acknowledges}
-use Rattle.sctp_channels.specs.Channel.{Channel, Received, count_sent, message, new_channel, nothing, on_data, received, reset_incoming, too_long, with_lifecycle}
+use Rattle.sctp_channels.specs.Channel.{Channel, Received, count_sent, message, new_channel, nothing, on_data, received, reset_incoming, takes_whole, too_long, with_lifecycle}
 use Rattle.sctp_channels.specs.Lifecycle as life
 use Rattle.sctp_channels.specs.declared.lifecycle.Lifecycle.{Lifecycle}
 use Rattle.sctp_channels.specs.declared.lifecycle.Outgoing.{Outgoing}
@@ -152,6 +152,10 @@ deliver id protocol payload cs = data_from (channel_at id cs.entries) id protoco
 abbrev pub received_on : Option Channel → ℕ → PayloadProtocol → List ℕ → Received
 received_on None limit protocol payload = nothing
 received_on (Some c) limit protocol payload = received limit protocol payload c
+
+abbrev pub is_whole_at : Option Channel → (limit size : ℕ) → Bool
+is_whole_at None limit size = false
+is_whole_at (Some c) limit size = takes_whole limit size c
 
 abbrev pub on_payload : ℕ → PayloadProtocol → List ℕ → Channels → Channels
 on_payload id protocol payload cs = deliver id protocol payload (on_ack id cs)

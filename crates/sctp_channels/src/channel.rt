@@ -2,7 +2,7 @@
 
 ghost use Rattle.std.specs.Prelude.{◌≡◌, [], ◌++◌, length, IfOk, OnOk, OnErr};
 ghost use Rattle.sctp_channels.specs.Views.{open_of};
-ghost use Rattle.sctp_channels.specs.Channel.{count_received, count_sent, exceeds, goes_unordered, keep, new_channel, nothing, on_data, received, received_as, reset_incoming, take, taken, with_lifecycle, with_parts};
+ghost use Rattle.sctp_channels.specs.Channel.{count_if, count_received, count_sent, exceeds, goes_unordered, keep, new_channel, nothing, on_data, received, received_as, reset_incoming, take, taken, takes_whole, with_lifecycle, with_parts};
 
 use crate::{DataChannelOpen, Lifecycle, PayloadKind, PayloadProtocol};
 use std::alloc::{AllocError, Global};
@@ -134,6 +134,29 @@ impl Channel {
         ensures { result ≡ exceeds limit (length payload.now) self.now }
     {
         self.is_too_long || limit < self.parts.len() + payload.len()
+    }
+
+    fn takes_whole(&self, limit: usize, size: usize) -> bool
+        ensures { result ≡ takes_whole limit size self.now }
+    {
+        !self.lifecycle.is_connecting()
+            && self.lifecycle.takes_data()
+            && !self.is_too_long
+            && self.parts.len() == 0
+            && size <= limit
+    }
+
+    /// Counts a message of so many bytes that is handed out as it came, and answers whether it is: both ends have the channel, no part waits
+    /// in front of it, and it isn't too long. Otherwise nothing changes.
+    pub(crate) fn count_whole(&mut self, limit: usize, size: usize) -> bool
+        ensures answer { result ≡ takes_whole limit size self.old }
+        ensures row { self.new ≡ count_if result size self.old }
+    {
+        let is_whole = self.takes_whole(limit, size);
+        if is_whole {
+            self.count_received(size);
+        }
+        is_whole
     }
 
     /// A payload came on the stream, under a PPID of this protocol. A message of more than `limit` bytes is dropped, of which this end has

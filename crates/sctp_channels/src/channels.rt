@@ -6,8 +6,8 @@ ghost use Rattle.sctp_state.specs.Events.{numbers_of};
 ghost use Rattle.sctp_channels.specs.Payload.{protocol_of};
 ghost use Rattle.sctp_channels.specs.Steps.{each};
 ghost use Rattle.sctp_channels.specs.Views.{open_of};
-ghost use Rattle.sctp_channels.specs.Channel.{on_data, received_as};
-ghost use Rattle.sctp_channels.specs.Channels.{Emits, OnControl, OnMessage, Stands, change, close, deliver, drain, emit, end, hand, is_denied, is_own, negotiate, no_channels, on_ack, on_incoming_reset, on_open, on_payload, on_reset_denied, on_reset_performed, open_from, open_own, output_of, received_on, sent, take_open, tell_closed, turn_down, with_entries};
+ghost use Rattle.sctp_channels.specs.Channel.{count_if, on_data, received_as};
+ghost use Rattle.sctp_channels.specs.Channels.{Emits, OnControl, OnMessage, Stands, change, close, deliver, drain, emit, end, hand, is_denied, is_own, is_whole_at, negotiate, no_channels, on_ack, on_incoming_reset, on_open, on_payload, on_reset_denied, on_reset_performed, open_from, open_own, output_of, received_on, sent, take_open, tell_closed, turn_down, with_entries};
 ghost use Rattle.sctp_channels.specs.Entries.{channel_at, forget};
 
 use crate::entries::{Entries, is_shown};
@@ -186,6 +186,7 @@ impl Channels {
     }
 
     /// The socket has accepted a message of so many bytes.
+    #[inline(always)]
     pub fn sent(&mut self, id: StreamId, size: usize)
         ensures { self.new ≡ sent id.0 size self.old }
     {
@@ -430,6 +431,14 @@ impl Channels {
             self.on_reset_denied(*id)?;
         }
         Ok(())
+    }
+
+    /// Counts a message of so many bytes where the channel on the stream hands it out as it came, and answers whether it does.
+    pub(crate) fn count_whole(&mut self, id: StreamId, size: usize) -> bool
+        ensures answer { result ≡ is_whole_at (channel_at id.0 self.old.entries) self.old.limit size }
+        ensures row { self.new ≡ change (count_if result size) id.0 self.old }
+    {
+        self.entries.count_whole(id.0, self.limit, size)
     }
 
     /// Data came on the stream, and with it the news that the peer has the channel. What becomes of it is still to be told (`hand`).

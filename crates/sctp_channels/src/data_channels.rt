@@ -1,14 +1,14 @@
 //! The channels of an association, and the socket below.
 
-ghost use Rattle.std.specs.Prelude.{◌≡◌, ◌⊎◌, ◌<◌, ℕ, true, IsTrue, None, Some, List, [], ◌∷◌, ◌++◌, length, IfOk, IfNone, OnOk, OnErr, option_copied, option_map, option_to_list};
+ghost use Rattle.std.specs.Prelude.{◌≡◌, ◌⊎◌, ◌<◌, ℕ, true, IsTrue, IsFalse, None, Some, List, [], ◌∷◌, ◌++◌, length, IfOk, IfNone, OnOk, OnErr, option_copied, option_map, option_to_list};
 ghost use Rattle.std.specs.Duration.{as_nanos};
 ghost use Rattle.sctp_serial.specs.Messages.{message_of};
 ghost use Rattle.sctp_state.specs.Events.{event_of as socket_event_of, numbers_of};
-ghost use Rattle.sctp_channels.specs.Channel.{goes_unordered, received_as};
+ghost use Rattle.sctp_channels.specs.Channel.{count_if, count_received, goes_unordered, received_as};
 ghost use Rattle.sctp_channels.specs.Views.{open_of};
 ghost use Rattle.sctp_channels.specs.Payload.{protocol_of};
 ghost use Rattle.sctp_channels.specs.declared.payload.PayloadProtocol.TheVariants.{Data};
-ghost use Rattle.sctp_channels.specs.Channels.{OnMessage, close, drain, hand, is_own, on_payload, negotiate, no_channels, on_incoming_reset, on_reset_denied, on_reset_performed, open_own, output_of, sent};
+ghost use Rattle.sctp_channels.specs.Channels.{OnMessage, change, close, drain, hand, is_own, is_whole_at, on_payload, negotiate, no_channels, on_incoming_reset, on_reset_denied, on_reset_performed, open_own, output_of, sent};
 ghost use Rattle.sctp_channels.specs.Entries.{channel_at};
 ghost use Rattle.sctp_channels.specs.DataChannels.{IsOpenAt, IsShortEnough, is_draining_at, lifetime, retransmissions};
 ghost use Rattle.sctp_channels.specs.Steps.{DataChannels, Follows, Gets, StaysTold, acknowledged_by, each, ended, event_of, heard, named, of_socket, passed_on, told_by, with_channels, with_outputs};
@@ -19,8 +19,7 @@ use crate::{
     data_message,
 };
 use sctp_serial::{Message, StreamId};
-use sctp_socket_interface::DcSctpSocket;
-use sctp_state::{CallError, ResetStreamsError, SendError, SendOptions, SocketEvent};
+use sctp_state::{CallError, DcSctpSocket, ResetStreamsError, SendError, SendOptions, SocketEvent};
 use std::alloc::{AllocError, Global};
 use std::collections::{BTreeSet, VecDeque};
 use std::marker::Model;
@@ -231,6 +230,7 @@ impl DataChannels {
     }
 
     /// What the socket emitted, and what is to be done then.
+    #[inline(always)]
     #[tactic(auto, using(crate::proofs::FollowsLemmas::follows_then, crate::proofs::FollowsLemmas::told_then))]
     fn take_rest<S: DcSctpSocket>(&mut self, socket: &mut S) -> Result<(), CallError>
         ensures steps { OnOk result (Follows self.old self.new) }
@@ -253,13 +253,12 @@ impl DataChannels {
         ensures first { IfOk result (λ told. StaysTold self.old (record self.new { events = option_to_list (option_map event_of told) ++ self.new.events })) }
         ensures err { OnErr result (StaysTold self.old self.new) }
     {
-        if !self.has_told_all() {
-            return Ok(self.next_event());
+        if self.has_told_all() {
+            if socket.messages_ready_count() == 0 && self.is_quiet() {
+                return self.pass_on(socket);
+            }
+            self.collect(socket)?;
         }
-        if socket.messages_ready_count() == 0 && self.is_quiet() {
-            return self.pass_on(socket);
-        }
-        self.collect(socket)?;
         Ok(self.next_event())
     }
 
@@ -333,6 +332,7 @@ impl DataChannels {
         Ok(())
     }
 
+    #[inline(always)]
     #[tactic(auto, using(crate::proofs::FollowsLemmas::follows_then, crate::proofs::FollowsLemmas::follows_same, crate::proofs::FollowsLemmas::told_then, crate::proofs::FollowsLemmas::told_same))]
     fn take_events<S: DcSctpSocket>(&mut self, socket: &mut S) -> Result<(), CallError>
         ensures steps { OnOk result (Follows self.old self.new) }
@@ -375,9 +375,50 @@ impl DataChannels {
         Ok(())
     }
 
-    /// Data of a channel.
-    #[tactic(auto, using(crate::proofs::FollowsLemmas::told_same))]
+    /// Data of a channel. A whole message is told at once, where nothing is to be done or told before it.
+    #[tactic(auto, using(crate::proofs::FollowsLemmas::told_then, crate::proofs::FollowsLemmas::told_same, crate::proofs::FollowsLemmas::told_more))]
     fn take_data(
+        &mut self,
+        id: StreamId,
+        kind: PayloadKind,
+        payload: Vec<u8>,
+    ) -> Result<(), AllocError>
+        ensures row { OnOk result ((self.new ≡ with_channels (on_payload id.0 (Data kind) payload.items self.old.channels) self.old)
+            ⊎ (self.new ≡ with_outputs (with_channels (on_payload id.0 (Data kind) payload.items self.old.channels) self.old))) }
+        ensures told { StaysTold self.old self.new }
+    {
+        if self.counts_at_once(id, payload.len()) {
+            self.tell(ChannelEvent::Message(id, kind, payload))?;
+            return Ok(());
+        }
+        self.take_other_data(id, kind, payload)?;
+        Ok(())
+    }
+
+    /// Counts a message of so many bytes that may be told at once, and answers whether it may.
+    #[tactic(auto, using(crate::proofs::FollowsLemmas::no_outputs, crate::proofs::WholeLemmas::counted))]
+    fn counts_at_once(&mut self, id: StreamId, size: usize) -> bool
+        ensures quiet { IsTrue result → self.old.channels.outputs ≡ [] }
+        ensures whole { IsTrue result → is_whole_at (channel_at id.0 self.old.channels.entries) self.old.channels.limit size ≡ true }
+        ensures row { IsTrue result → self.new ≡ with_channels (change (count_received size) id.0 self.old.channels) self.old }
+        ensures none { IsFalse result → self.new ≡ self.old }
+        ensures told { self.new.events ≡ self.old.events }
+    {
+        self.channels.output_count() == 0 && self.count_whole(id, size)
+    }
+
+    fn count_whole(&mut self, id: StreamId, size: usize) -> bool
+        ensures answer { result ≡ is_whole_at (channel_at id.0 self.old.channels.entries) self.old.channels.limit size }
+        ensures row { self.new ≡ with_channels (change (count_if result size) id.0 self.old.channels) self.old }
+        ensures told { self.new.events ≡ self.old.events }
+    {
+        self.channels.count_whole(id, size)
+    }
+
+    /// The same, where a part waits, or it may be the first data of the channel, or is not taken.
+    #[inline(never)]
+    #[tactic(auto, using(crate::proofs::FollowsLemmas::told_same))]
+    fn take_other_data(
         &mut self,
         id: StreamId,
         kind: PayloadKind,
@@ -440,6 +481,7 @@ impl DataChannels {
         Ok(())
     }
 
+    #[inline(always)]
     #[tactic(auto, using(crate::proofs::FollowsLemmas::follows_then, crate::proofs::FollowsLemmas::packet_told, crate::proofs::FollowsLemmas::told_then, crate::proofs::FollowsLemmas::told_same, crate::proofs::FollowsLemmas::told_more))]
     fn take_event<S: DcSctpSocket>(
         &mut self,
@@ -499,7 +541,21 @@ impl DataChannels {
         self.channels.set_stream_count(stream_count);
     }
 
+    #[inline(always)]
     fn tell(&mut self, event: ChannelEvent) -> Result<(), AllocError>
+        ensures ok { OnOk result (self.new ≡ record self.old { events = self.old.events ++ event_of event ∷ [] }) }
+        ensures err { OnErr result (self.new ≡ self.old) }
+    {
+        if self.events.len() < self.events.capacity() {
+            self.events.push_back_reserved(event);
+            return Ok(());
+        }
+        self.tell_growing(event)
+    }
+
+    /// The same, where there may be no room yet.
+    #[inline(never)]
+    fn tell_growing(&mut self, event: ChannelEvent) -> Result<(), AllocError>
         ensures ok { OnOk result (self.new ≡ record self.old { events = self.old.events ++ event_of event ∷ [] }) }
         ensures err { OnErr result (self.new ≡ self.old) }
     {
@@ -564,6 +620,7 @@ impl DataChannels {
     }
 
     /// Asks for the resets that are due, and carries out what is to be done.
+    #[inline(always)]
     #[tactic(auto, using(crate::proofs::FollowsLemmas::follows_then, crate::proofs::FollowsLemmas::follows_same, crate::proofs::FollowsLemmas::follows_drains, crate::proofs::FollowsLemmas::told_then, crate::proofs::FollowsLemmas::told_same, crate::proofs::FollowsLemmas::no_outputs))]
     fn settle<S: DcSctpSocket>(&mut self, socket: &mut S) -> Result<(), CallError>
         ensures steps { OnOk result (Follows self.old self.new) }
@@ -610,6 +667,7 @@ impl DataChannels {
         Ok(ids)
     }
 
+    #[inline(always)]
     #[tactic(auto, using(crate::proofs::FollowsLemmas::follows_then, crate::proofs::FollowsLemmas::follows_same, crate::proofs::FollowsLemmas::follows_carried, crate::proofs::FollowsLemmas::told_then, crate::proofs::FollowsLemmas::told_same, crate::proofs::FollowsLemmas::no_outputs, crate::proofs::FollowsLemmas::all_carried))]
     fn carry_out<S: DcSctpSocket>(&mut self, socket: &mut S) -> Result<(), CallError>
         ensures steps { OnOk result (Follows self.old self.new) }

@@ -2,8 +2,8 @@
 
 ghost use Rattle.std.specs.Prelude.{◌≡◌, [], ◌∷◌, ◌++◌, cond, map, option_copied, is_some, IfOk, OnOk, OnErr};
 ghost use Rattle.std.specs.Map.{keys_of};
-ghost use Rattle.sctp_channels.specs.Channel.{count_sent, on_data, received_as, reset_incoming, with_lifecycle};
-ghost use Rattle.sctp_channels.specs.Channels.{close_one, is_shown, received_on, shown_streams};
+ghost use Rattle.sctp_channels.specs.Channel.{count_if, count_sent, on_data, received_as, reset_incoming, with_lifecycle};
+ghost use Rattle.sctp_channels.specs.Channels.{close_one, is_shown, is_whole_at, received_on, shown_streams};
 ghost use Rattle.sctp_channels.specs.Entries.{channel_at, changed, forget, put};
 
 use crate::{Channel, Lifecycle, Opening, Outgoing, PayloadProtocol, Received};
@@ -96,6 +96,17 @@ impl Entries {
     {
         if let Some(channel) = self.channels.get_mut(&id) {
             channel.reset_incoming();
+        }
+    }
+
+    /// Counts a message that its channel hands out as it came, and answers whether it does.
+    pub(crate) fn count_whole(&mut self, id: u16, limit: usize, size: usize) -> bool
+        ensures answer { result ≡ is_whole_at (channel_at id self.old) limit size }
+        ensures row { self.new ≡ changed (count_if result size) id self.old }
+    {
+        match self.channels.get_mut(&id) {
+            Some(channel) => channel.count_whole(limit, size),
+            None => false,
         }
     }
 
