@@ -23,7 +23,6 @@ outline_of_item i = record {
   has_shutdown_ack = i.first == 8;
   begins_with_cookie = i.first == 10;
   is_single_init = i.first == 1;
-  has_data = i.first == 0;
 }
 
 equal : (a b : ℕ) → (a == b) ≡ true → a ≡ b
@@ -57,7 +56,7 @@ item_as i (forward_tsn_chunk tsn skipped) h = rw h.kind refl
 item_as i (i_forward_tsn_chunk tsn skipped) h = rw h.kind refl
 item_as i (unknown_chunk typ flags value) h =
     let no : (known : ℕ) → is_known_chunk known ≡ true → (typ == known) ≡ false = λ known k. no_known typ known h.of_its_type k in
-    rw (h.kind, no 6 refl, no 14 refl, no 8 refl, no 10 refl, no 1 refl, no 0 refl) refl
+    rw (h.kind, no 6 refl, no 14 refl, no 8 refl, no 10 refl, no 1 refl) refl
 
 -- ---- one chunk behind another
 
@@ -91,7 +90,6 @@ followed_assoc o p q =
       option_or_assoc o.abort p.abort q.abort,
       option_or_assoc o.complete p.complete q.complete,
       or_assoc o.has_shutdown_ack p.has_shutdown_ack q.has_shutdown_ack,
-      or_assoc o.has_data p.has_data q.has_data,
     ) refl
 
 -- ---- the walk: what was seen, with what is left behind

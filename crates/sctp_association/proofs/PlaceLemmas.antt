@@ -1,16 +1,18 @@
 -- Chunks that are received where they lie: which chunk an item carries.
-use Rattle.std.proofs.Common.{◌≡◌, ◌⊎◌, inl, inr, ℕ, ◌<◌, ◌==◌, ◌||◌, Bool, true, false, length, refl, sym, ap, ◌∙◌, arith}
+use Rattle.std.proofs.Common.{◌≡◌, ◌⊎◌, inl, inr, ℕ, ◌<◌, ◌==◌, ◌||◌, Bool, true, false, None, length, refl, sym, ap, ◌∙◌, arith}
 use Rattle.std.proofs.lemmas.Bool.Decides.{nat_tests}
 use Rattle.sctp_wire.specs.Item.{Item}
 use Rattle.sctp_wire.proofs.WordLemmas.{clash}
 use Rattle.sctp_chunk.specs.declared.data.DataView.{DataView}
-use Rattle.sctp_packet.specs.Chunk.{ChunkTree, data_chunk, init_chunk, init_ack_chunk, sack_chunk, heartbeat_request_chunk, heartbeat_ack_chunk, abort_chunk, shutdown_chunk, shutdown_ack_chunk, error_chunk, cookie_echo_chunk, cookie_ack_chunk, shutdown_complete_chunk, idata_chunk, re_config_chunk, forward_tsn_chunk, i_forward_tsn_chunk, unknown_chunk}
+use Rattle.sctp_packet.specs.Chunk.{ChunkTree, SackTree, data_chunk, init_chunk, init_ack_chunk, sack_chunk, heartbeat_request_chunk, heartbeat_ack_chunk, abort_chunk, shutdown_chunk, shutdown_ack_chunk, error_chunk, cookie_echo_chunk, cookie_ack_chunk, shutdown_complete_chunk, idata_chunk, re_config_chunk, forward_tsn_chunk, i_forward_tsn_chunk, unknown_chunk}
 use Rattle.sctp_packet.specs.Written.{is_known_chunk}
 use Rattle.sctp_packet.specs.Grammar.{IsChunk}
 use Rattle.sctp_packet.specs.Views.{viewed_data, viewed_idata}
 use Rattle.sctp_packet.proofs.OneChunkLemmas.{one_chunk}
-use Rattle.spec_endpoint.specs.Association.{Tcb}
-use Rattle.spec_endpoint.specs.Input.{misuse}
+use Rattle.rand_core.specs.Stream.{Stream}
+use Rattle.spec_endpoint.specs.Association.{Tcb, State, Closed, CookieWait, Open, EndpointState}
+use Rattle.spec_endpoint.specs.Sack.{on_sack}
+use Rattle.spec_endpoint.specs.Input.{misuse, violation, receive}
 use Rattle.sctp_association.specs.Kinds.{carries_data, carrying}
 use Rattle.sctp_supervision.specs.MisuseView.{data_misused}
 use Rattle.sctp_packet.proofs.StandsLemmas.{length_data, length_idata}
@@ -59,3 +61,15 @@ carries_none i (unknown_chunk typ flags value) short long h = neither_by typ (ty
 pub misused_as : (is_interleaved : Bool) (t : Tcb) (v : DataView) → data_misused t.capabilities.message_interleaving is_interleaved ≡ misuse t.capabilities (carrying is_interleaved v)
 misused_as true t v = refl
 misused_as false t v = refl
+
+-- ---- a SACK
+
+never_misused : (s : State) (k : SackTree) → violation s (sack_chunk k) ≡ None
+never_misused Closed k = refl
+never_misused (CookieWait tag first t1) k = refl
+never_misused (Open phase t) k = refl
+
+-- a SACK that was received by itself
+pub sack_received : {P : Type 0} (tag : ℕ) (words : Stream) (i : Item) (k : SackTree) (t : ChunkTree) (s next : EndpointState P) → IsChunk i (sack_chunk k) → IsChunk i t → next ≡ on_sack k s
+    → record { end = record { endpoint_state = next; draws = words }; allows_next = true } ≡ receive tag t (record { endpoint_state = s; draws = words })
+sack_received tag words i k t s next read is e = rw (sym (one_chunk i (sack_chunk k) t read is), e, never_misused s.state k) refl

@@ -3,7 +3,7 @@ use Rattle.std.specs.Prelude.{ℕ, Bool, true, false, ◌||◌, Option, Some, No
 use Rattle.std.specs.Option.{option_or}
 use Rattle.sctp_packet.specs.Chunk.{ChunkTree}
 use Rattle.spec_endpoint.specs.Association.{State}
-use Rattle.spec_endpoint.specs.Input.{my_tag, abort_flag, complete_flag, has_shutdown_ack, begins_with_cookie, is_single_init, has_data_chunk, packet_refusal_by, plain_refusal}
+use Rattle.spec_endpoint.specs.Input.{my_tag, abort_flag, complete_flag, has_shutdown_ack, begins_with_cookie, is_single_init, packet_refusal_by, plain_refusal}
 use Rattle.sctp_association.specs.declared.validation.Outline.{Outline}
 
 abbrev pub outline_of : List ChunkTree → Outline
@@ -13,7 +13,6 @@ outline_of chunks = record {
   has_shutdown_ack = has_shutdown_ack chunks;
   begins_with_cookie = begins_with_cookie chunks;
   is_single_init = is_single_init chunks;
-  has_data = has_data_chunk chunks;
 }
 
 -- with the chunks of another packet behind: what the first ABORT and the first SHUTDOWN COMPLETE say, and what any chunk does
@@ -24,7 +23,6 @@ followed_by o behind = record {
   has_shutdown_ack = o.has_shutdown_ack || behind.has_shutdown_ack;
   begins_with_cookie = o.begins_with_cookie;
   is_single_init = false;
-  has_data = o.has_data || behind.has_data;
 }
 
 -- the first rule that applies; it looks at the chunks themselves only where all others don't

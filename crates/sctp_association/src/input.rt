@@ -1,12 +1,12 @@
 //! How an end takes a packet: whether it is for this association, then chunk by chunk, then what is due.
 
-ghost use Rattle.std.specs.Prelude.{◌≡◌, ℕ, List, codes, false, map, option_map, IfOk, OnErr, OnOk};
+ghost use Rattle.std.specs.Prelude.{◌≡◌, ◌<◌, ℕ, List, codes, false, length, map, option_map, IfOk, OnErr, OnOk};
 ghost use Rattle.rand_core.specs.Stream.{Stream};
 ghost use Rattle.sctp_parameter.specs.ParameterViews.{parameter_tree};
 ghost use Rattle.sctp_packet.specs.ChunkView.{chunk_tree};
 ghost use Rattle.sctp_packet.specs.Chunk.{ChunkTree};
 ghost use Rattle.sctp_packet.specs.Grammar.{IsChunk};
-ghost use Rattle.sctp_packet.specs.Views.{raw_chunk};
+ghost use Rattle.sctp_packet.specs.Views.{raw_chunk, sack_chunk_tree};
 ghost use Rattle.sctp_packet.specs.View.{AreLeft, viewed_packet};
 ghost use Rattle.sctp_chunk.specs.declared.data.DataView.{DataView};
 ghost use Rattle.sctp_supervision.specs.MisuseView.{misuse_text};
@@ -23,12 +23,14 @@ ghost use Rattle.sctp_endpoint.specs.Views.{context_of, endpoint_of, after_chunk
 ghost use Rattle.spec_endpoint.specs.Input as table;
 
 use crate::judging::{packet_word, policy};
-use crate::validation::{Outline, validate_packet};
+use crate::validation::{Outline, has_data, validate_packet};
 use rand_core::Rng;
 use sctp_endpoint::{Context, Phase, State, TransmissionControlBlock};
 use sctp_handshake::cookie_echo::{handle_cookie_ack, handle_cookie_echo};
 use sctp_handshake::opening::{handle_init, handle_init_ack};
-use sctp_packet::{Chunk, DataView, HeartbeatAckChunk, IDataChunk, PacketView, RawChunk};
+use sctp_packet::{
+    Chunk, DataView, HeartbeatAckChunk, IDataChunk, PacketView, RawChunk, SackChunk,
+};
 use sctp_parameter::Parameter;
 use sctp_state::{ErrorKind, SocketEvent};
 use sctp_supervision::aborts::{handle_abort, handle_error, handle_misuse};
@@ -224,7 +226,10 @@ fn allows_next(chunk: &Chunk) -> bool
     }
 }
 
-/// One chunk. The answer is whether the next one is looked at.
+/// One chunk, of those that are built. The answer is whether the next one is looked at.
+///
+/// It stays out of line, since what the many kinds need would else be set up for each packet.
+#[inline(never)]
 #[tactic(auto, using(sctp_endpoint::proofs::KeepsReadyLemmas::keeps_given, sctp_endpoint::proofs::GoesOnLemmas::with_quiet))]
 fn receive<R: Rng, C: Checksum>(
     state: &mut State,
@@ -292,6 +297,56 @@ fn built(alloc: Global, raw: RawChunk<'_>) -> Result<Chunk, AllocError>
     }
 }
 
+/// The SACK, built; as with `built`, memory alone can be wanting.
+fn built_sack(alloc: Global, raw: RawChunk<'_>) -> Result<SackChunk, AllocError>
+    ensures { IfOk result (λ c. IsChunk (raw_chunk raw.entry) (sack_chunk_tree c)) }
+{
+    match SackChunk::try_from(alloc, raw) {
+        Ok(sack) => Ok(sack),
+        Err(_) => Err(AllocError),
+    }
+}
+
+/// A SACK, which is the only chunk beside DATA that comes often. The answer is whether the next chunk is looked at.
+#[tactic(auto, using(sctp_endpoint::proofs::KeepsReadyLemmas::keeps_alone, sctp_endpoint::proofs::KeepsReadyLemmas::keeps_given, sctp_endpoint::proofs::KeepsReadyLemmas::keeps_same, sctp_endpoint::proofs::GoesOnLemmas::goes_on_same, sctp_endpoint::proofs::GoesOnLemmas::goes_on_through))]
+fn receive_sack<C: Checksum>(
+    state: &mut State,
+    context: &mut Context<C>,
+    raw: RawChunk<'_>,
+) -> Result<bool, AllocError>
+    ensures ok { (tag : ℕ) (words : Stream) (t : ChunkTree) → IsChunk (raw_chunk raw.entry) t → IfOk result (λ goes_on. record { end = record { endpoint_state = endpoint_state_of C.word_of state.new context.new; draws = words }; allows_next = goes_on }
+        ≡ table.receive tag t (record { endpoint_state = endpoint_state_of C.word_of state.old context.old; draws = words })) }
+    ensures goes_on { GoesOn context.old context.new }
+    ensures ready { OnErr result (KeepsReady (state_of state.old) (state_of state.new)) }
+{
+    let sack = built_sack(context.alloc, raw)?;
+    handle_sack(state, context, sack)?;
+    Ok(true)
+}
+
+/// A chunk that carries no fragment: a SACK, or one that is built. The answer is whether the next one is looked at.
+#[tactic(auto, using(sctp_endpoint::proofs::KeepsReadyLemmas::keeps_alone, sctp_endpoint::proofs::GoesOnLemmas::with_same, sctp_endpoint::proofs::GoesOnLemmas::with_quiet))]
+fn receive_other<R: Rng, C: Checksum>(
+    state: &mut State,
+    context: &mut Context<C>,
+    rng: &mut R,
+    tag: u32,
+    raw: RawChunk<'_>,
+) -> Result<bool, AllocError>
+    requires no_data { raw.typ ≡ 0 → length raw.value.now < 12 }
+    requires no_idata { raw.typ ≡ 64 → length raw.value.now < 16 }
+    ensures ok { (t : ChunkTree) → IsChunk (raw_chunk raw.entry) t → IfOk result (λ goes_on. after_chunk_of R.stream C.word_of state.new context.new rng.new goes_on
+        ≡ table.receive tag t (endpoint_of R.stream C.word_of state.old context.old rng.old)) }
+    ensures goes_on { GoesOnWith context.old context.new (state_of state.new) }
+    ensures ready { OnErr result (KeepsReady (state_of state.old) (state_of state.new)) }
+{
+    if raw.typ == SackChunk::TYPE {
+        return receive_sack(state, context, raw);
+    }
+    let chunk = built(context.alloc, raw)?;
+    receive(state, context, rng, tag, chunk)
+}
+
 /// One chunk where it lies. DATA is received there, and others are built. The answer is whether the next one is looked at.
 #[tactic(auto, using(sctp_endpoint::proofs::KeepsReadyLemmas::keeps_alone, sctp_endpoint::proofs::GoesOnLemmas::with_same, sctp_endpoint::proofs::GoesOnLemmas::with_quiet))]
 fn receive_in_place<R: Rng, C: Checksum>(
@@ -308,10 +363,7 @@ fn receive_in_place<R: Rng, C: Checksum>(
 {
     match raw.data_view() {
         Some(fragment) => receive_data(state, context, raw.typ == IDataChunk::TYPE, fragment),
-        None => {
-            let chunk = built(context.alloc, raw)?;
-            receive(state, context, rng, tag, chunk)
-        }
+        None => receive_other(state, context, rng, tag, raw),
     }
 }
 
@@ -375,16 +427,15 @@ fn handle_accepted_packet<R: Rng, C: Checksum>(
     context: &mut Context<C>,
     rng: &mut R,
     tag: u32,
-    has_data: bool,
     view: PacketView<'_>,
 ) -> Result<(), AllocError>
-    ensures ok { (chunks : List ChunkTree) → AreLeft view.entry chunks → has_data ≡ table.has_data_chunk chunks
+    ensures ok { (chunks : List ChunkTree) → AreLeft view.entry chunks
         → OnOk result (endpoint_of R.stream C.word_of state.new context.new rng.new ≡ table.on_accepted_packet tag chunks (endpoint_of R.stream C.word_of state.old context.old rng.old)) }
     ensures goes_on { Continues context.old context.new }
-    ensures stops { (chunks : List ChunkTree) → AreLeft view.entry chunks → has_data ≡ table.has_data_chunk chunks
-        → OnErr result (StopsAmong tag chunks (table.in_endpoint_state (table.repeats_if has_data) (endpoint_of R.stream C.word_of state.old context.old rng.old)) (endpoint_state_of C.word_of state.new context.new)) }
+    ensures stops { (chunks : List ChunkTree) → AreLeft view.entry chunks
+        → OnErr result (StopsAmong tag chunks (table.in_endpoint_state (table.repeats_if (table.has_data_chunk chunks)) (endpoint_of R.stream C.word_of state.old context.old rng.old)) (endpoint_state_of C.word_of state.new context.new)) }
 {
-    repeat_if(state, context, has_data)?;
+    repeat_if(state, context, has_data(&view))?;
     receive_all(state, context, rng, tag, view)?;
     on_packet_end(state, context)
 }
@@ -406,7 +457,7 @@ pub(crate) fn handle_packet<R: Rng, C: Checksum>(
     let tag = view.header().verification_tag;
     let outline = Outline::of(&view);
     match validate_packet(state, tag, &outline) {
-        None => handle_accepted_packet(state, context, rng, tag, outline.has_data, view),
+        None => handle_accepted_packet(state, context, rng, tag, view),
         Some(refusal) => {
             let text = refusal.text(context.alloc)?;
             context.emit_event(SocketEvent::OnError(ErrorKind::ParseFailed, text))

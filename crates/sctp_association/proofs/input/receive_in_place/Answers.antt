@@ -1,16 +1,10 @@
 use Rattle.std.proofs.Common.{◌≡◌, IfOk, subst}
-use Rattle.sctp_packet.specs.ChunkView.{chunk_tree}
 use Rattle.sctp_packet.specs.Chunk.{ChunkTree}
 use Rattle.sctp_packet.specs.Views.{raw_chunk}
-use Rattle.sctp_packet.proofs.OneChunkLemmas.{one_chunk}
 use Rattle.sctp_endpoint.specs.Views.{endpoint_of, after_chunk_of}
 use Rattle.spec_endpoint.specs.Input as table
-use Rattle.sctp_association.proofs.PlaceLemmas.{carries_it, carries_none}
+use Rattle.sctp_association.proofs.PlaceLemmas.{carries_it}
 use Rattle.sctp_association.proofs.input.receive_in_place.Goals as goal
-
-pub receive-requires : goal.receive-requires
-receive-requires g c =
-    carries_none (raw_chunk c.args.raw) (chunk_tree c.in_ok-chunk-in-None.chunk) c.in-None.ensures.no_data c.in-None.ensures.no_idata c.in_ok-chunk-in-None.ensures
 
 pub returns-in-Some-clause-ok : goal.returns-in-Some-clause-ok
 returns-in-Some-clause-ok g c =
@@ -19,10 +13,3 @@ returns-in-Some-clause-ok g c =
     ≡ table.receive c.args.tag u (endpoint_of g.R.Rng.stream g.C.Checksum.word_of c.args.state.now c.args.context.now c.args.rng.now)))
     (carries_it (raw_chunk c.args.raw) c.in-Some.fragment t c.in-Some.ensures.data c.in-Some.ensures.idata c.in-Some.ensures.carrier is)
     (c.receive_data.ensures.ok c.args.tag (g.R.Rng.stream c.args.rng.now))
-
-pub returns-in_ok-chunk-in-None-clause-ok : goal.returns-in_ok-chunk-in-None-clause-ok
-returns-in_ok-chunk-in-None-clause-ok g c =
-    λ t is.
-    subst (λ (u : ChunkTree). IfOk c.receive.result (λ goes_on. after_chunk_of g.R.Rng.stream g.C.Checksum.word_of c.receive.new.state c.receive.new.context c.receive.new.rng goes_on
-    ≡ table.receive c.args.tag u (endpoint_of g.R.Rng.stream g.C.Checksum.word_of c.args.state.now c.args.context.now c.args.rng.now)))
-    (one_chunk (raw_chunk c.args.raw) (chunk_tree c.in_ok-chunk-in-None.chunk) t c.in_ok-chunk-in-None.ensures is) c.receive.ensures.ok

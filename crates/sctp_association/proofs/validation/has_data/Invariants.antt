@@ -1,0 +1,12 @@
+use Rattle.std.proofs.Common.{◌≡◌, List, length}
+use Rattle.sctp_packet.specs.Chunk.{ChunkTree}
+use Rattle.sctp_packet.specs.View.{AreLeft}
+use Rattle.spec_endpoint.specs.Input.{has_data_chunk}
+use Rattle.sctp_association.proofs.validation.has_data.Given as goal
+
+-- what was seen has none
+abbrev pub invariant-loop-raw : goal.invariant-loop-raw
+invariant-loop-raw l = (chunks : List ChunkTree) → AreLeft l.fn.view chunks → (left : List ChunkTree) × AreLeft l.left left × (has_data_chunk left ≡ has_data_chunk chunks)
+
+abbrev pub decreases-loop-raw : goal.decreases-loop-raw
+decreases-loop-raw l = length l.left.rest
