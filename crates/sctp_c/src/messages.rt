@@ -109,6 +109,13 @@ pub extern "C" fn pigeon_send_sized(
     }
     match socket.as_mut() {
         None => NO_SOCKET,
-        Some(end) => calls::send(alloc, &mut end.socket, stream, ppid, payload, &record),
+        Some(end) => {
+            let message = calls::LentMessage {
+                stream,
+                ppid,
+                payload,
+            };
+            calls::send(alloc, &mut end.socket, message, &record)
+        }
     }
 }

@@ -19,7 +19,7 @@ pub use batch::{have_streams, send_many};
 pub use calls::{advance_time, close, connect, handle_input, shutdown};
 pub use events::{borrow_event, poll_event};
 pub use handover::{hand_over, restore};
-pub use messages::{borrow_message, next_given_up, next_message, send};
+pub use messages::{LentMessage, borrow_message, next_given_up, next_message, send};
 pub use settings::{
     reset_stream, reset_streams, set_buffered_amount_low_threshold, set_max_message_size,
     set_stream_priority,

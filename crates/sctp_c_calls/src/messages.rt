@@ -126,26 +126,32 @@ pub(crate) fn refusal_number(refusal: &SendError) -> u32
     }
 }
 
+/// A message as C lends it.
+#[derive(Clone, Copy)]
+pub struct LentMessage<'a> {
+    pub stream: u16,
+    pub ppid: u32,
+    pub payload: &'a [u8],
+}
+
 /// Queues a copy of a message, and sends as much as may be sent.
 pub fn send<R: Rng, C: Checksum>(
     alloc: Global,
     socket: &mut Socket<R, C>,
-    stream: u16,
-    ppid: u32,
-    payload: &[u8],
+    message: LentMessage<'_>,
     options: &SendRecord,
 ) -> u32
     requires { options.now.max_retransmissions < 2 ^ 16 }
     ensures answers { IsAmong (0 ∷ 1 ∷ 2 ∷ 10 ∷ 11 ∷ 12 ∷ 13 ∷ 17 ∷ []) result }
     ensures ends { Ended result socket.old socket.new }
-    ensures answer { OnSettled result (result ≡ refusal_number (calls.send_refusal_of (record { stream = stream; ppid = ppid; payload = payload.now }) (endpoint R.stream C.word_of socket.old).endpoint_state)) }
+    ensures answer { OnSettled result (result ≡ refusal_number (calls.send_refusal_of (record { stream = message.entry.stream; ppid = message.entry.ppid; payload = message.entry.payload.now }) (endpoint R.stream C.word_of socket.old).endpoint_state)) }
     ensures sent { OnSettled result (endpoint R.stream C.word_of socket.new
-        ≡ in_endpoint_state (calls.send (record { stream = stream; ppid = ppid; payload = payload.now }) (given_send_options options.now)) (endpoint R.stream C.word_of socket.old)) }
+        ≡ in_endpoint_state (calls.send (record { stream = message.entry.stream; ppid = message.entry.ppid; payload = message.entry.payload.now }) (given_send_options options.now)) (endpoint R.stream C.word_of socket.old)) }
 {
-    let Ok(payload) = Vec::from_slice(alloc, payload) else {
+    let Ok(payload) = Vec::from_slice(alloc, message.payload) else {
         return NO_ROOM;
     };
-    let message = Message::new(StreamId(stream), PpId(ppid), payload);
+    let message = Message::new(StreamId(message.stream), PpId(message.ppid), payload);
     match socket.send(message, &options.options()) {
         Ok(()) => OK,
         Err(refusal) => refusal_number(&refusal),

@@ -13,12 +13,11 @@ use sctp_state::api::handover::HandoverSocketState;
 use sctp_state::{Options, SocketHandoverState};
 use std::alloc::{AllocError, Global};
 
-/// A fragment of one byte; the number is that of its message.
+/// A fragment of one byte; the numbers are its message's and its own.
 fn piece(
     alloc: Global,
     stream_key: StreamKey,
-    number: u16,
-    fsn: u32,
+    numbers: (u16, u32),
     byte: u8,
     ends: (bool, bool),
 ) -> Result<Data, AllocError>
@@ -26,9 +25,9 @@ fn piece(
 {
     Ok(Data {
         stream_key,
-        ssn: Ssn(number),
-        mid: Mid(number as u32),
-        fsn: Fsn(fsn),
+        ssn: Ssn(numbers.0),
+        mid: Mid(numbers.0 as u32),
+        fsn: Fsn(numbers.1),
         ppid: PpId(53),
         payload: Vec::from_slice(alloc, &[byte])?,
         is_beginning: ends.0,
@@ -47,17 +46,16 @@ fn add(queue: &mut ReassemblyQueue, tsn: u32, fragment: Data) -> Result<(), Allo
     queue.add(Tsn(tsn), fragment)
 }
 
-/// A whole message on an ordered stream.
+/// A whole message, of an ordered stream and a number.
 fn give(
     alloc: Global,
     queue: &mut ReassemblyQueue,
     tsn: u32,
-    stream: u16,
-    number: u16,
+    message: (u16, u16),
     byte: u8,
 ) -> Result<(), AllocError> {
-    let key = StreamKey::Ordered(StreamId(stream));
-    let fragment = piece(alloc, key, number, 0, byte, (true, true))?;
+    let key = StreamKey::Ordered(StreamId(message.0));
+    let fragment = piece(alloc, key, (message.1, 0), byte, (true, true))?;
     add(queue, tsn, fragment)
 }
 
@@ -70,7 +68,7 @@ fn give_part(
     byte: u8,
 ) -> Result<(), AllocError> {
     let key = StreamKey::Unordered(StreamId(3));
-    let fragment = piece(alloc, key, 0, fsn, byte, (fsn == 0, fsn != 0))?;
+    let fragment = piece(alloc, key, (0, fsn), byte, (fsn == 0, fsn != 0))?;
     add(queue, tsn, fragment)
 }
 
@@ -95,17 +93,17 @@ const STEPS: u32 = 13;
 
 fn step(alloc: Global, queue: &mut ReassemblyQueue, i: u32) -> Result<(), AllocError> {
     match i {
-        0 => give(alloc, queue, 11, 1, 1, 98),
+        0 => give(alloc, queue, 11, (1, 1), 98),
         1 => give_part(alloc, queue, 12, 0, 99),
         2 => queue.enter_deferred_reset(Tsn(13), &[StreamId(3)]),
-        3 => give(alloc, queue, 14, 3, 0, 101),
-        4 => give(alloc, queue, 17, 5, 1, 103),
+        3 => give(alloc, queue, 14, (3, 0), 101),
+        4 => give(alloc, queue, 17, (5, 1), 103),
         5 => give_part(alloc, queue, 13, 1, 100),
         6 => pass(queue, 16, 5, 0),
         7 => pass(queue, 18, 3, 5),
-        8 => give(alloc, queue, 10, 1, 0, 97),
+        8 => give(alloc, queue, 10, (1, 0), 97),
         9 => queue.reset_streams_and_leave_deferred_reset(&[StreamId(3)]),
-        10 => give(alloc, queue, 21, 4, 1, 102),
+        10 => give(alloc, queue, 21, (4, 1), 102),
         11 => pass(queue, 20, 4, 0),
         _ => hands_over(alloc, queue),
     }
@@ -238,7 +236,7 @@ fn writes(
     queue: &mut ReassemblyQueue,
     state: &mut SocketHandoverState,
 ) -> Result<bool, AllocError> {
-    give(alloc, queue, 1, 3, 0, 97)?;
+    give(alloc, queue, 1, (3, 0), 97)?;
     Ok(queue.add_to_handover_state(state).is_ok() || queue.add_to_handover_state(state).is_ok())
 }
 
@@ -250,7 +248,7 @@ fn takes_up(queue: &mut ReassemblyQueue, state: &SocketHandoverState) -> bool
 
 /// There the second message is in turn.
 fn is_in_turn(alloc: Global, queue: &mut ReassemblyQueue) -> Result<bool, AllocError> {
-    give(alloc, queue, 2, 3, 1, 98)?;
+    give(alloc, queue, 2, (3, 1), 98)?;
     Ok(is_next(queue, b"b".as_slice()) == Some(true))
 }
 

@@ -122,19 +122,15 @@ fn show<S: Owned>(
     show_held(rt, name, &talker.end.socket)
 }
 
-/// Both ends send so many messages; then what they hold is printed. Answers what time it is then.
-fn go_on_and_show<S: Owned, R: Rng>(
+/// Prints what both ends hold.
+fn show_both<S: Owned>(
     rt: &HostRuntime,
     a: &mut Talker<S>,
     b: &mut Talker<S>,
-    link: &mut Link<R>,
-    start: SocketTime,
     plan: Plan,
-) -> Result<SocketTime> {
-    let now = go_on(a, b, link, start, plan)?;
+) -> Result<()> {
     show(rt, "a", a, &b.counts, plan)?;
-    show(rt, "b", b, &a.counts, plan)?;
-    Ok(now)
+    show(rt, "b", b, &a.counts, plan)
 }
 
 /// Both ends send; when they have sent as many as are to be looked at first, and at the end, what they hold is printed.
@@ -150,9 +146,10 @@ fn converse_as<S: Owned, R: Rng>(
         count: plan.first.min(plan.count),
         ..plan
     };
-    let now = go_on_and_show(rt, a, b, link, SocketTime::zero(), first)?;
-    go_on_and_show(rt, a, b, link, now, plan)?;
-    Ok(())
+    let now = go_on(a, b, link, SocketTime::zero(), first)?;
+    show_both(rt, a, b, first)?;
+    go_on(a, b, link, now, plan)?;
+    show_both(rt, a, b, plan)
 }
 
 /// Runs a conversation of two new sockets.
