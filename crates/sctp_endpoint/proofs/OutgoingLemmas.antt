@@ -1,7 +1,7 @@
 -- Packets that are put together: their sizes, and the builder that writes them.
 use Rattle.std.proofs.Common.{◌≡◌, ℕ, ◌+◌, ◌-◌, ◌%◌, ◌^◌, ◌&&◌, min, max, ◌<◌, ◌≤◌, Bool, true, false, cond, leb, List, [], ◌∷◌, ◌++◌, length, take, drop, refl, ap, ◌∙◌, inl, inr, Result, Ok, Err, OnOk, OnErr, arith}
 use Rattle.std.proofs.lemmas.Bool.{cases_lt, le-leb, lt-leb}
-use Rattle.std.proofs.lemmas.List.{length-append}
+use Rattle.std.proofs.lemmas.List.{length-append, length-drop}
 use Rattle.std.proofs.lemmas.List.Concat.{flat_map-cons}
 use Rattle.sctp_packet.specs.Chunk.{ChunkTree}
 use Rattle.sctp_packet.specs.Written.{chunk_item, chunk_is_whole, chunk_bytes, chunks_bytes}
@@ -78,6 +78,10 @@ some_bytes c cs = omega (arith, ap length (first_chunk c cs), length-append (chu
 pub bytes_of_some : (chunks : List ChunkTree) → is_some_chunk chunks ≡ true → 0 < length (chunks_bytes chunks)
 bytes_of_some [] some = absurd (false_not_true some)
 bytes_of_some (c ∷ cs) some = some_bytes c cs
+
+-- what has these chunks behind room for a header
+pub behind_header : (chunks : List ChunkTree) (bytes : List ℕ) → is_some_chunk chunks ≡ true → drop 12 bytes ≡ chunks_bytes chunks → length bytes ≡ 12 + length (chunks_bytes chunks)
+behind_header chunks bytes some are = omega (arith, bytes_of_some chunks some, ap length are, length-drop 12 bytes)
 
 -- a packet with chunks is within its limit
 pub some_short : (chunks : List ChunkTree) (limit : ℕ) → is_some_chunk chunks ≡ true → 12 + length (chunks_bytes chunks) ≤ max 12 limit → 12 + length (chunks_bytes chunks) ≤ limit

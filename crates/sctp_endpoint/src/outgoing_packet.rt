@@ -170,8 +170,8 @@ impl OutgoingPacket {
         Ok(self)
     }
 
-    /// The packet's bytes, at most the limit, in a buffer of their size; the packet is empty again, with the same tag and limit.
-    /// Where there is no memory it is as it was.
+    /// The packet's bytes, at most the limit; the packet is empty again, with the same tag and limit. Where there is no memory it is as
+    /// it was.
     pub fn build<C: Checksum>(
         &mut self,
         source_port: u16,
@@ -188,17 +188,16 @@ impl OutgoingPacket {
         ensures ok { OnOk result (self.new ≡ clear_chunks self.old) }
         ensures err { OnErr result (self.new ≡ self.old) }
     {
-        let size = COMMON_HEADER_SIZE + self.chunks.size();
+        let bytes = self.chunks.take()?;
         let mut builder = SctpPacketBuilder::new(
             self.alloc,
             self.verification_tag,
             source_port,
             destination_port,
-            size,
+            bytes.len(),
         );
         builder.write_checksum(self.write_checksum);
-        builder.add_written(self.chunks.bytes())?;
-        self.chunks.clear();
+        builder.set_written(bytes);
         let word = word_of(checksum, builder.unsummed());
         Ok(builder.build(word))
     }

@@ -1,17 +1,18 @@
 //! Chunks that are written one after the other.
 
-ghost use Rattle.std.specs.Prelude.{◌≡◌, ◌++◌, ◌∷◌, [], length, not, true, OnOk, OnErr};
+ghost use Rattle.std.specs.Prelude.{◌≡◌, ◌+◌, ◌≤◌, ◌++◌, ◌∷◌, [], length, drop, not, true, IfOk, OnOk, OnErr, vec_len, vec_capacity};
 ghost use Rattle.sctp_wire.specs.Serialize.{IsEncodable};
 ghost use Rattle.sctp_packet.specs.Written.{chunk_item, chunks_bytes};
 ghost use Rattle.spec_endpoint.specs.Packets.{is_some_chunk};
 
 use sctp_chunk::FragmentChunk;
-use sctp_packet::{Chunk, Data, SackChunk};
+use sctp_packet::{COMMON_HEADER_SIZE, Chunk, Data, SackChunk};
 use sctp_serial::Tsn;
 use sctp_tx::ChunkForm;
 use sctp_wire::SerializableTlv;
 use std::alloc::{AllocError, Global};
 use std::marker::Model;
+use std::mem;
 use std::snapshot::Snapshot;
 
 /// What was written, as contracts see it: nothing of it is here at run time but which of these it was.
@@ -57,9 +58,15 @@ impl WrittenChunk {
     }
 }
 
-/// The bytes of chunks. Its value is the list of these.
+// Memory is reserved for a few bytes, or for as many as most packets have.
+const FEW: usize = 256;
+
+const MOST: usize = 1200;
+
+/// The bytes of chunks, behind room for the header of their packet. Its value is the list of these.
 #[derive(Drop)]
 pub struct WrittenChunks {
+    alloc: Global,
     bytes: Vec<u8>,
     chunks: Vec<WrittenChunk>,
 }
@@ -84,6 +91,7 @@ impl WrittenChunks {
         ensures { result ≡ [] }
     {
         WrittenChunks {
+            alloc,
             bytes: Vec::new(alloc),
             chunks: Vec::new(alloc),
         }
@@ -108,14 +116,23 @@ impl WrittenChunks {
     pub fn size(&self) -> usize
         ensures { result ≡ length (chunks_bytes self.now) }
     {
-        self.bytes.len()
+        self.bytes.len().saturating_sub(COMMON_HEADER_SIZE)
     }
 
-    /// Their bytes, with their padding.
-    pub fn bytes(&self) -> &[u8]
-        ensures { result.now ≡ chunks_bytes self.now }
+    /// Their bytes, with their padding, behind room for a header; then there are none. Memory that they fill goes with them, else they are copied.
+    #[inline(always)]
+    pub fn take(&mut self) -> Result<Vec<u8>, AllocError>
+        ensures bytes { IfOk result (λ bytes. drop 12 bytes.items ≡ chunks_bytes self.old) }
+        ensures ok { OnOk result (self.new ≡ []) }
+        ensures err { OnErr result (self.new ≡ self.old) }
     {
-        &self.bytes
+        if self.bytes.len() < self.bytes.capacity() / 4 * 3 {
+            let copy = Vec::from_slice(self.alloc, &self.bytes)?;
+            self.clear();
+            return Ok(copy);
+        }
+        self.chunks.clear();
+        Ok(mem::replace(&mut self.bytes, Vec::new(self.alloc)))
     }
 
     /// Writes one more, which contracts see as `written`. Without memory there is none more.
@@ -130,8 +147,38 @@ impl WrittenChunks {
         ensures ok { OnOk result (self.new ≡ self.old ++ written_tree written ∷ []) }
         ensures err { OnErr result (self.new ≡ self.old) }
     {
-        self.bytes.reserve(chunk.serialized_size())?;
+        make_room(&mut self.bytes, chunk.serialized_size())?;
         self.chunks.push(written)?;
         chunk.serialize_to(&mut self.bytes)
     }
+}
+
+/// Room for so many bytes more, behind that for a header: for a whole packet where they are not a few.
+#[inline(always)]
+fn make_room(bytes: &mut Vec<u8>, size: usize) -> Result<(), AllocError>
+    ensures body { drop 12 bytes.new.items ≡ drop 12 bytes.old.items }
+    ensures header { OnOk result (12 ≤ length bytes.new.items) }
+    ensures room { OnOk result (vec_len bytes.new + size ≤ vec_capacity bytes.new) }
+{
+    if COMMON_HEADER_SIZE <= bytes.len() {
+        return reserve(bytes, size);
+    }
+    bytes.clear();
+    reserve(bytes, size.saturating_add(COMMON_HEADER_SIZE))?;
+    bytes.extend_from_slice(&[0; COMMON_HEADER_SIZE])
+}
+
+/// Room for so many bytes more: a few, or as many as most packets have.
+#[inline(always)]
+fn reserve(bytes: &mut Vec<u8>, size: usize) -> Result<(), AllocError>
+    ensures items { bytes.new.items ≡ bytes.old.items }
+    ensures room { OnOk result (vec_len bytes.new + size ≤ vec_capacity bytes.new) }
+{
+    let len = bytes.len();
+    let least = if size <= FEW.saturating_sub(len) {
+        FEW
+    } else {
+        MOST
+    };
+    bytes.reserve(size.max(least.saturating_sub(len)))
 }

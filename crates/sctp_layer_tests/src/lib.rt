@@ -1,7 +1,10 @@
 //! Tests of the layers below the association that are no rows of a script: numbers that wrap and keys through their bound, ids as
-//! they are printed, and sender and receiver in want of memory. Apart, so that each crate is proved once.
+//! they are printed, packets of chunks that were written before, and sender and receiver in want of memory. Apart, so that each crate
+//! is proved once.
 #![tactic(auto)]
 
+#[cfg(test)]
+mod builder;
 #[cfg(test)]
 mod queue_calls;
 #[cfg(test)]

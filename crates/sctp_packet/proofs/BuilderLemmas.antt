@@ -26,13 +26,28 @@ drop_front : (h : HeaderTree) (body : List ℕ) → drop 12 (unsummed_bytes h bo
 unfolding unsummed_bytes header_bytes be16 be32
 drop_front h body = refl
 
-unsummed_behind : (h : HeaderTree) (body more : List ℕ) → unsummed_bytes h body ++ more ≡ unsummed_bytes h (body ++ more)
+pub unsummed_behind : (h : HeaderTree) (body more : List ℕ) → unsummed_bytes h body ++ more ≡ unsummed_bytes h (body ++ more)
 unfolding unsummed_bytes header_bytes be16 be32
 unsummed_behind h body more = refl
 
 length_unsummed : (h : HeaderTree) (body : List ℕ) → length (unsummed_bytes h body) ≡ 12 + length body
 unfolding unsummed_bytes header_bytes be16 be32
 length_unsummed h body = omega arith
+
+-- a header is written over the first bytes of these, which are as many as the limit
+module _ (h : HeaderTree) (limit : ℕ) (old new : List ℕ) (wrote : new ≡ unsummed_bytes h (drop 12 old)) where
+  pub headed_body : drop 12 new ≡ drop 12 old
+  headed_body = ap (drop 12) wrote ∙ drop_front h (drop 12 old)
+
+  pub headed : 12 < length old → length old ≡ limit → HasPacket h limit new
+  headed some full = record {
+    more_than_header = λ _. omega (arith, some, ap length wrote, length_unsummed h (drop 12 old), length-drop 12 old);
+    packet = λ _. wrote ∙ ap (unsummed_bytes h) (sym headed_body);
+    fits = λ _. omega (arith, some, full, ap length wrote, length_unsummed h (drop 12 old), length-drop 12 old);
+  }
+
+pub headed_whole : (h : HeaderTree) (n : ℕ) (old new rest : List ℕ) → n ≡ length old → 12 < length old → new ≡ unsummed_bytes h (drop 12 old) → take n (new ++ rest) ≡ unsummed_bytes h (drop 12 old)
+headed_whole h n old new rest len some wrote = take_at new rest n (omega (arith, len, some, ap length wrote, length_unsummed h (drop 12 old), length-drop 12 old)) ∙ wrote
 
 pub chunk_is_some : (t : ChunkTree) → 0 < length (chunk_bytes t)
 unfolding chunk_bytes

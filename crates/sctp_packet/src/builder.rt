@@ -144,12 +144,11 @@ impl SctpPacketBuilder {
         Ok(())
     }
 
-    /// Adds chunks that were written before, with their padding, as `add` adds one. There are some, and they fit.
-    pub fn add_written(&mut self, chunks: &[u8]) -> Result<(), AllocError>
-        requires some { 0 < length chunks.now }
-        requires fits { length chunks.now ≤ remaining self.old }
-        ensures ok { OnOk result (self.new ≡ record self.old { body = self.old.body ++ chunks.now }) }
-        ensures err { OnErr result (self.new ≡ self.old) }
+    /// Takes chunks that were written before, with their padding, behind room for the header. There are some, and they fill the limit.
+    pub fn set_written(&mut self, bytes: Vec<u8>)
+        requires some { 12 < length bytes.items }
+        requires full { length bytes.items ≡ self.old.limit }
+        ensures { self.new ≡ record self.old { body = drop 12 bytes.items } }
     {
         let header = CommonHeader {
             source_port: self.source_port,
@@ -157,11 +156,8 @@ impl SctpPacketBuilder {
             verification_tag: self.verification_tag,
             checksum: 0,
         };
-        if let Err(e) = push_written(&mut self.bytes, header, self.limit, chunks) {
-            self.bytes.clear();
-            return Err(e);
-        }
-        Ok(())
+        self.bytes = bytes;
+        write_header(&mut self.bytes, header);
     }
 
     /// The packet, with `word` in the checksum's field where the checksum is on; no bytes where nothing was added.
@@ -210,25 +206,6 @@ fn push_chunk(
     chunk.serialize_to(bytes)
 }
 
-/// Appends chunks that were written before, behind a header where there are no bytes yet.
-fn push_written(
-    bytes: &mut Vec<u8>,
-    header: CommonHeader,
-    limit: usize,
-    chunks: &[u8],
-) -> Result<(), AllocError>
-    ensures reserved { bytes.old.items ≡ [] → OnOk result (limit ≤ vec_capacity bytes.new) }
-    ensures room { 0 < length bytes.old.items → Fills bytes.old bytes.new (length chunks.now) result }
-    ensures first { bytes.old.items ≡ [] → OnOk result (bytes.new.items ≡ unsummed_bytes (header_tree header) chunks.now) }
-    ensures more { 0 < length bytes.old.items → OnOk result (bytes.new.items ≡ bytes.old.items ++ chunks.now) }
-{
-    if bytes.is_empty() {
-        reserve_packet(bytes, limit)?;
-        push_header(bytes, header)?;
-    }
-    bytes.extend_from_slice(chunks)
-}
-
 /// Reserves what the longest packet takes, and no more.
 fn reserve_packet(bytes: &mut Vec<u8>, limit: usize) -> Result<(), AllocError>
     ensures reserved { bytes.old.items ≡ [] → OnOk result (vec_capacity bytes.new ≡ max (vec_capacity bytes.old) limit) }
@@ -239,17 +216,32 @@ fn reserve_packet(bytes: &mut Vec<u8>, limit: usize) -> Result<(), AllocError>
 }
 
 /// Appends a header, its checksum zero.
-#[tactic(auto, unfolding(crate::specs::Packet::unsummed_bytes, crate::specs::Packet::header_bytes, sctp_wire::specs::Field::be16, sctp_wire::specs::Field::be32))]
 fn push_header(bytes: &mut Vec<u8>, header: CommonHeader) -> Result<(), AllocError>
     ensures wrote { OnOk result (bytes.new.items ≡ bytes.old.items ++ unsummed_bytes (header_tree header) []) }
     ensures room { Fills bytes.old bytes.new 12 result }
 {
+    bytes.extend_from_slice(&header_of(header))
+}
+
+/// Writes a header over the first bytes, its checksum zero.
+fn write_header(bytes: &mut [u8], header: CommonHeader)
+    requires { 12 ≤ length bytes.old }
+    ensures { bytes.new ≡ unsummed_bytes (header_tree header) (drop 12 bytes.old) }
+{
+    bytes[..12].copy_from_slice(&header_of(header));
+}
+
+/// The bytes of a header, its checksum zero.
+#[tactic(auto, unfolding(crate::specs::Packet::unsummed_bytes, crate::specs::Packet::header_bytes, sctp_wire::specs::Field::be16, sctp_wire::specs::Field::be32))]
+fn header_of(header: CommonHeader) -> [u8; 12]
+    ensures { result ≡ unsummed_bytes (header_tree header) [] }
+{
     let from = header.source_port.to_be_bytes();
     let to = header.destination_port.to_be_bytes();
     let tag = header.verification_tag.to_be_bytes();
-    bytes.extend_from_slice(&[
+    [
         from[0], from[1], to[0], to[1], tag[0], tag[1], tag[2], tag[3], 0, 0, 0, 0,
-    ])
+    ]
 }
 
 /// Writes the word into the checksum's field of a packet.
