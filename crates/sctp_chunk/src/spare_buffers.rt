@@ -27,6 +27,7 @@ impl SpareBuffers {
     }
 
     /// Keeps a buffer, or lets it go: where so many are kept, where it is too small or too large, and without memory.
+    #[inline(always)]
     pub fn keep(&mut self, buffer: Vec<u8>) {
         let capacity = buffer.capacity();
         if self.buffers.len() < MOST && LEAST_CAPACITY <= capacity && capacity <= LARGEST_CAPACITY {
@@ -36,6 +37,7 @@ impl SpareBuffers {
 
     /// A copy of the bytes, in the last of these buffers where it is neither too small nor over twice as large. One that is too
     /// small is let go.
+    #[inline(always)]
     pub fn copy(&mut self, alloc: Global, bytes: &[u8]) -> Result<Vec<u8>, AllocError>
         ensures { IfOk result (λ copy. copy.items ≡ bytes.now) }
     {
