@@ -1,7 +1,7 @@
 -- Notes of the streams that hold a fragment.
-use Rattle.std.proofs.Common.{◌≡◌, ◌⊎◌, ℕ, zero, suc, ◌+◌, ◌<◌, ◌≤◌, ◌==◌, ◌||◌, Bool, true, false, cond, List, [], ◌∷◌, Option, Some, None, length, drop, get_or, refl, ap, sym, subst, ◌∙◌, inl, inr, arith, Less, Equal, Greater}
+use Rattle.std.proofs.Common.{◌≡◌, ◌⊎◌, ℕ, zero, suc, ◌+◌, ◌<◌, ◌≤◌, ◌==◌, ◌||◌, Bool, true, false, cond, List, [], ◌∷◌, ◌++◌, Option, Some, None, length, drop, get_or, refl, ap, sym, subst, ◌∙◌, inl, inr, arith, Less, Equal, Greater}
 use Rattle.std.specs.Prelude.{unwrap_or, is_some, not, nat_lt, Result, Ok, Err, OnOk, OnErr}
-use Rattle.std.specs.List.{list_any}
+use Rattle.std.specs.List.{list_any, All}
 use Rattle.std.specs.List.Sorted.{IsStrictlySortedBy}
 use Rattle.std.specs.Ordering.{nat_cmp, is_gt, match_ordering}
 use Rattle.std.specs.declared.cmp.Ordering.{Ordering}
@@ -11,6 +11,8 @@ use Rattle.std.proofs.lemmas.Bool.{cases_lt, eqb-true, or_parts}
 use Rattle.std.proofs.lemmas.Bool.Decides.{nat_tests}
 use Rattle.std.proofs.lemmas.Cmp.{nat_cmp_total, eq_by_cmp_equiv}
 use Rattle.std.proofs.lemmas.List.{drop_more, drop_all}
+use Rattle.std.proofs.lemmas.List.Elements.{All-head, All-tail}
+use Rattle.std.proofs.lemmas.List.Folds.{list_any-append}
 use Rattle.std.proofs.lemmas.Map.{lookup-none}
 use Rattle.std.proofs.lemmas.Map.Entries.{none_past_head, lookup-filter-keys}
 use Rattle.std.proofs.lemmas.Map.Keys.{sorted_tail, IsDistinct-from_sorted}
@@ -21,7 +23,7 @@ use Rattle.sctp_fragments.specs.Held.{Held, rank_of}
 use Rattle.sctp_reassembly.specs.Delivery.{UnorderedStream, fresh_unordered, held_from}
 use Rattle.sctp_reassembly.specs.ReassemblyStreams.{Entries, stream_at, with_stream, put_stream, set_stream, is_named, forget}
 use Rattle.sctp_reassembly.specs.ReassemblyHandover.{unordered_records}
-use Rattle.sctp_reassembly.specs.UnorderedByTsn.{Notes, note_cmp, is_noted, HasNote, AreNoted, OthersAreNoted, KeepsOthers, NoneBelow, drop_below}
+use Rattle.sctp_reassembly.specs.UnorderedByTsn.{Notes, note_cmp, is_noted, BeginsFrom, HasNote, AreNoted, OthersAreNoted, KeepsOthers, NoneBelow, drop_below}
 use Rattle.sctp_serial.proofs.NumberLemmas.{equal_at, at_itself, is_equal, not_at}
 
 -- ---- the order of notes
@@ -37,6 +39,21 @@ other_note a c note h = apart a c note.0 note.1 h
   where
     apart : (a c b d : ℕ) → (d == c) ≡ false → is_at (note_cmp (a, c)) (b, d) ≡ false
     apart a c b d h = grind (arith, nat_tests)
+
+turned : (a b : ℕ) → (a == b) ≡ false → (b == a) ≡ false
+turned a b h = grind (arith, nat_tests)
+
+-- none of these notes is below the rank
+pub none_from : (n : ℕ) (notes : Notes) → All (λ k. is_gt (note_cmp (n, 0) k) ≡ false) notes → NoneBelow n notes
+none_from n [] all note there = absurd (cc)
+none_from n (x ∷ xs) all note there = go (is_at (note_cmp note) x) refl there (none_from n xs (All-tail (λ k. is_gt (note_cmp (n, 0) k) ≡ false) x xs all) note)
+  where
+    same_rank : (a c b d : ℕ) → is_at (note_cmp (a, c)) (b, d) ≡ true → a ≡ b
+    same_rank a c b d h = grind (arith, nat_tests)
+
+    go : (b : Bool) → is_at (note_cmp note) x ≡ b → (b || is_noted xs note) ≡ true → (is_noted xs note ≡ true → n ≤ note.0) → n ≤ note.0
+    go true h t ih = subst (λ r. n ≤ r) (sym (same_rank note.0 note.1 x.0 x.1 h)) (first_rank n x.0 0 x.1 (All-head (λ k. is_gt (note_cmp (n, 0) k) ≡ false) x xs all))
+    go false h t ih = ih t
 
 -- a note that goes out, and one that comes in
 pub out_others : (rank id : ℕ) (old new : Notes) → ((note : ℕ × ℕ) → is_noted new note ≡ cond (is_at (note_cmp (rank, id)) note) false (is_noted old note)) → KeepsOthers id old new
@@ -107,10 +124,6 @@ module _ {S : Type 0} (fresh : S) (q id : ℕ) (other : (q == id) ≡ false) whe
       go true = refl
       go false = other_inserted fresh es
 
-pub written_others : (id : ℕ) (s : UnorderedStream) (notes : Notes) (es new : Entries UnorderedStream) → new ≡ put_stream id s es → AreNoted notes es → OthersAreNoted id notes new
-written_others id s notes es new made all q other =
-    subst (λ (t : UnorderedStream). HasNote notes q t.held) (sym (ap (stream_at fresh_unordered q) made ∙ other_written fresh_unordered q id other s es)) (all q)
-
 pub changed_others : (id : ℕ) (s : UnorderedStream) (notes : Notes) (es new : Entries UnorderedStream) → new ≡ set_stream fresh_unordered id s es → AreNoted notes es → OthersAreNoted id notes new
 changed_others id s notes es new made all q other =
     subst (λ (t : UnorderedStream). HasNote notes q t.held)
@@ -142,13 +155,6 @@ forwarded_one n id es new made =
     ∙ same_forwarded n (is_at (nat_cmp id)) (held_from n (stream_at fresh_unordered id es)) es
     (λ v l. ap (λ (o : Option UnorderedStream). held_from n (held_from n (unwrap_or o fresh_unordered))) l ∙ ap (λ (hs : List Held). record v { held = hs }) (again n v.held))
 
-none_held : (n : ℕ) (notes : Notes) (id : ℕ) (hs : List Held) → NoneBelow n notes → HasNote notes id hs → from_rank rank_of n hs ≡ hs
-none_held n notes id hs none has =
-    elim has [
-      | inl e ↦ ap (from_rank rank_of n) e ∙ sym e
-      | inr some ↦ some.2 n (none (some.0, id) some.1)
-    ]
-
 keeps_all : (n : ℕ) (es : Entries UnorderedStream) → IsStrictlySortedBy nat_cmp (keys_of es)
     → ((id : ℕ) → from_rank rank_of n (stream_at fresh_unordered id es).held ≡ (stream_at fresh_unordered id es).held) → es ≡ drop_below n es
 keeps_all n [] sorted h = refl
@@ -171,8 +177,81 @@ keeps_all n (e ∷ es) sorted h =
             subst (λ (s : UnorderedStream). from_rank rank_of n s.held ≡ s.held) (sym none) refl
         go false t = subst (λ (s : UnorderedStream). from_rank rank_of n s.held ≡ s.held) (ap (λ b. unwrap_or (cond b (Some e.1) (lookup (is_at (nat_cmp id)) es)) fresh_unordered) t) (h id)
 
-pub none_left : (n : ℕ) (notes : Notes) (es : Entries UnorderedStream) → IsStrictlySortedBy nat_cmp (keys_of es) → NoneBelow n notes → AreNoted notes es → es ≡ drop_below n es
-none_left n notes es sorted none all = keeps_all n es sorted (λ id. none_held n notes id (stream_at fresh_unordered id es).held none (all id))
+-- what is held is noted, and none of it is below the rank
+abbrev pub IsDone : ℕ → Notes → ℕ → List Held → Type 0
+IsDone n notes id hs = HasNote notes id hs × (from_rank rank_of n hs ≡ hs)
+
+-- each stream has a note among those to come, or is done
+abbrev pub NotedOrDone : ℕ → Notes → Notes → Entries UnorderedStream → Type 0
+NotedOrDone n rest notes es = (id : ℕ) → HasNote rest id (stream_at fresh_unordered id es).held ⊎ IsDone n notes id (stream_at fresh_unordered id es).held
+
+-- the notes are cut at the rank
+cut_one : (n : ℕ) (below rest : Notes) (id : ℕ) (hs : List Held) → NoneBelow n rest → HasNote (below ++ rest) id hs → HasNote below id hs ⊎ IsDone n rest id hs
+cut_one n below rest id hs none has =
+    elim has [
+      | inl e ↦ inl (inl e)
+      | inr some ↦ go some.0 some.1 some.2 (is_noted below (some.0, id)) refl
+    ]
+  where
+    go : (rank : ℕ) → is_noted (below ++ rest) (rank, id) ≡ true → BeginsFrom rank hs → (b : Bool) → is_noted below (rank, id) ≡ b → HasNote below id hs ⊎ IsDone n rest id hs
+    go rank there begins true h = inl (inr (rank, h, begins))
+    go rank there begins false h =
+        let back : is_noted rest (rank, id) ≡ true = sym (ap (λ b. b || is_noted rest (rank, id)) h) ∙ (sym (list_any-append (is_at (note_cmp (rank, id))) below rest) ∙ there) in
+        inr (inr (rank, back, begins), begins n (none (rank, id) back))
+
+pub cut : (n : ℕ) (all below rest : Notes) (es : Entries UnorderedStream) → all ≡ below ++ rest → NoneBelow n rest → AreNoted all es → NotedOrDone n below rest es
+cut n all below rest es parts none has id =
+    cut_one n below rest id (stream_at fresh_unordered id es).held none (subst (λ ks. HasNote ks id (stream_at fresh_unordered id es).held) parts (has id))
+
+-- past the note of another stream
+past_note : (note : ℕ × ℕ) (rest : Notes) (id : ℕ) (hs : List Held) → (note.1 == id) ≡ false → HasNote (note ∷ rest) id hs → HasNote rest id hs
+past_note note rest id hs other has =
+    elim has [
+      | inl e ↦ inl e
+      | inr some ↦ inr (some.0, sym (ap (λ b. b || is_noted rest (some.0, id)) (other_note some.0 id note other)) ∙ some.1, some.2)
+    ]
+
+-- what is written holds nothing below the rank
+written_from : (n id : ℕ) (s : UnorderedStream) (es : Entries UnorderedStream) → from_rank rank_of n s.held ≡ s.held
+    → from_rank rank_of n (stream_at fresh_unordered id (put_stream id s es)).held ≡ (stream_at fresh_unordered id (put_stream id s es)).held
+written_from n id s [] h = refl
+written_from n id s (e ∷ es) h = go (is_at (nat_cmp id) e.0) refl (written_from n id s es h)
+  where
+    IsFrom : UnorderedStream → Type 0
+    IsFrom t = from_rank rank_of n t.held ≡ t.held
+
+    go : (b : Bool) → is_at (nat_cmp id) e.0 ≡ b → IsFrom (stream_at fresh_unordered id (put_stream id s es)) → IsFrom (stream_at fresh_unordered id (cond b ((e.0, s) ∷ es) (e ∷ put_stream id s es)))
+    go true t ih = subst IsFrom (sym (ap (λ b. unwrap_or (cond b (Some s) (lookup (is_at (nat_cmp id)) es)) fresh_unordered) t)) h
+    go false t ih = subst IsFrom (sym (ap (λ b. unwrap_or (cond b (Some e.1) (lookup (is_at (nat_cmp id)) (put_stream id s es))) fresh_unordered) t)) ih
+
+pub forwarded_next : (n : ℕ) (note : ℕ × ℕ) (rest old new : Notes) (es left : Entries UnorderedStream) → left ≡ put_stream note.1 (held_from n (stream_at fresh_unordered note.1 es)) es
+    → ((x : ℕ × ℕ) → is_noted old x ≡ true → is_noted new x ≡ true) → HasNote new note.1 (stream_at fresh_unordered note.1 left).held
+    → NotedOrDone n (note ∷ rest) old es → NotedOrDone n rest new left
+forwarded_next n note rest old new es left made kept has all id = go (id == note.1) refl
+  where
+    now : UnorderedStream
+    now = held_from n (stream_at fresh_unordered note.1 es)
+
+    go : (b : Bool) → (id == note.1) ≡ b → HasNote rest id (stream_at fresh_unordered id left).held ⊎ IsDone n new id (stream_at fresh_unordered id left).held
+    go true h =
+        let from = subst (λ (t : Entries UnorderedStream). from_rank rank_of n (stream_at fresh_unordered note.1 t).held ≡ (stream_at fresh_unordered note.1 t).held) (sym made) (written_from n note.1 now es (again n (stream_at fresh_unordered note.1 es).held)) in
+        inr (subst (λ i. IsDone n new i (stream_at fresh_unordered i left).held) (sym (eqb-true id note.1 h)) (has, from))
+    go false h =
+        subst (λ (s : UnorderedStream). HasNote rest id s.held ⊎ IsDone n new id s.held) (sym (ap (stream_at fresh_unordered id) made ∙ other_written fresh_unordered id note.1 h now es))
+        (elim (all id) [
+          | inl noted ↦ inl (past_note note rest id (stream_at fresh_unordered id es).held (turned id note.1 h) noted)
+          | inr done ↦ inr (still old new id (stream_at fresh_unordered id es).held (λ x is there. kept x there) done.0, done.1)
+        ])
+
+-- no note is to come
+all_done : (n : ℕ) (notes : Notes) (id : ℕ) (hs : List Held) → HasNote [] id hs ⊎ IsDone n notes id hs → IsDone n notes id hs
+all_done n notes id hs (inl (inl e)) = (inl e, ap (from_rank rank_of n) e ∙ sym e)
+all_done n notes id hs (inl (inr (rank, there, begins))) = absurd (cc)
+all_done n notes id hs (inr done) = done
+
+pub none_left : (n : ℕ) (notes : Notes) (es : Entries UnorderedStream) → IsStrictlySortedBy nat_cmp (keys_of es) → NotedOrDone n [] notes es → (es ≡ drop_below n es) × AreNoted notes es
+none_left n notes es sorted all =
+    (keeps_all n es sorted (λ id. (all_done n notes id (stream_at fresh_unordered id es).held (all id)).1), λ id. (all_done n notes id (stream_at fresh_unordered id es).held (all id)).0)
 
 -- a stream that isn't there stays so
 pub not_written : {S : Type 0} (test : ℕ → Bool) (s : S) (es : Entries S) → None ≡ lookup test es → es ≡ set_value test es s
@@ -191,10 +270,7 @@ named_one (x ∷ ids) zero n d l h = (or_parts (x.0 == n) (list_any (λ x. x.0 =
 named_one (x ∷ ids) (suc i) n d l h = named_one ids i n d (omega arith) (or_parts (x.0 == n) (list_any (λ x. x.0 == n) ids) h).1
 
 pub not_named : (ids : List StreamId) (i n : ℕ) (d : StreamId) → i < length ids → is_named ids n ≡ false → (n == (get_or ids i d).0) ≡ false
-not_named ids i n d l h = turn (get_or ids i d).0 n (named_one ids i n d l (or_parts (length ids == 0) (list_any (λ x. x.0 == n) ids) h).1)
-  where
-    turn : (a b : ℕ) → (a == b) ≡ false → (b == a) ≡ false
-    turn a b h = grind (arith, nat_tests)
+not_named ids i n d l h = turned (get_or ids i d).0 n (named_one ids i n d l (or_parts (length ids == 0) (list_any (λ x. x.0 == n) ids) h).1)
 
 pub forgets : (ids : List StreamId) (old new : Notes) (es left : Entries UnorderedStream) → ((note : ℕ × ℕ) → is_named ids note.1 ≡ false → is_noted old note ≡ true → is_noted new note ≡ true)
     → left ≡ forget ids es → AreNoted old es → AreNoted new left

@@ -1,9 +1,10 @@
 //! Streams with unordered messages, without interleaving: forward points find their fragments by TSN.
 
-ghost use Rattle.std.specs.Prelude.{◌≡◌, ◌+◌, ◌<◌, ◌≤◌, ◌^◌, ◌++◌, ◌⊎◌, ℕ, [], true, false, length, map, OnOk, OnErr, IfOk, IfSome, IfNone};
+ghost use Rattle.std.specs.Prelude.{◌≡◌, ◌+◌, ◌<◌, ◌≤◌, ◌^◌, ◌++◌, ◌⊎◌, ℕ, [], true, false, length, map, OnOk, OnErr, List, IfOk, IfSome, IfNone};
 ghost use Rattle.sctp_fragments.specs.ReassemblyKey.{pair_rank};
+ghost use Rattle.sctp_fragments.specs.Held.{Held};
 ghost use Rattle.sctp_reassembly.specs.Delivery.{fresh_unordered, held_from};
-ghost use Rattle.sctp_reassembly.specs.UnorderedByTsn.{is_noted, HasNote, AreNoted, OthersAreNoted, KeepsOthers, NoneBelow, drop_below};
+ghost use Rattle.sctp_reassembly.specs.UnorderedByTsn.{is_noted, BeginsFrom, HasNote, AreNoted, OthersAreNoted, KeepsOthers, NoneBelow, drop_below};
 ghost use Rattle.sctp_reassembly.specs.ReassemblyHandover.{unordered_is_held, unordered_records, unordered_entries};
 ghost use Rattle.sctp_reassembly.specs.ReassemblyStreams.{unordered_bytes, unordered_fragments, is_named, stream_at};
 ghost use Rattle.sctp_state.specs.Validity.{rises_from, unordered_ids};
@@ -58,16 +59,12 @@ fn take_note(notes: &mut BTreeSet<(u128, u16)>, id: StreamId, first: Option<Trad
     }
 }
 
-/// Makes the stream's note, where it holds a fragment. Says whether there was memory.
-fn make_note(
-    streams: &UnorderedStreams<TraditionalKey>,
-    notes: &mut BTreeSet<(u128, u16)>,
-    id: StreamId,
-) -> bool
+/// Makes the note of a stream by its first key, where it holds a fragment. Says whether there was memory.
+fn make_note(notes: &mut BTreeSet<(u128, u16)>, id: StreamId, first: Option<TraditionalKey>) -> bool
     ensures kept { (note : ℕ × ℕ) → is_noted notes.old.keys note ≡ true → is_noted notes.new.keys note ≡ true }
-    ensures made { result ≡ true → HasNote notes.new.keys id.0 (stream_at fresh_unordered id.0 streams.now).held }
+    ensures made { result ≡ true → (hs : List Held) → IfSome first (λ k. BeginsFrom (pair_rank k.number k.index) hs) → IfNone first (hs ≡ []) → HasNote notes.new.keys id.0 hs }
 {
-    match streams.first(id) {
+    match first {
         Some(key) => notes.insert((rank(key), id.0)).is_ok(),
         None => true,
     }
@@ -87,7 +84,7 @@ fn renew_note(
         return false;
     }
     take_note(notes, id, first);
-    make_note(streams, notes, id)
+    make_note(notes, id, streams.first(id))
 }
 
 /// Makes the notes of all streams anew. Says whether there was memory.
@@ -103,30 +100,46 @@ fn make_notes(
         return false;
     };
     for record in &records {
-        if !make_note(streams, notes, StreamId(record.id)) {
+        let id = StreamId(record.id);
+        if !make_note(notes, id, streams.first(id)) {
             return false;
         }
     }
     true
 }
 
-/// Takes the least note, if it is below the rank.
-fn take_below(notes: &mut BTreeSet<(u128, u16)>, rank: u128) -> Option<(u128, u16)>
-    ensures some { IfSome result (λ note. KeepsOthers note.1 notes.old.keys notes.new.keys) }
-    ensures none { IfNone result (NoneBelow rank notes.old.keys) }
+/// Whether no note is below the rank.
+fn is_none_below(notes: &BTreeSet<(u128, u16)>, rank: u128) -> bool
+    ensures { result ≡ true → NoneBelow rank notes.now.keys }
+{
+    match notes.first() {
+        Some(least) => rank <= least.0,
+        None => true,
+    }
+}
+
+/// Takes away the notes below the rank. Where there are some, it takes memory.
+fn take_below(
+    alloc: Global,
+    notes: &mut BTreeSet<(u128, u16)>,
+    rank: u128,
+) -> Option<BTreeSet<(u128, u16)>>
+    ensures parts { IfSome result (λ below. notes.old.keys ≡ below.keys ++ notes.new.keys) }
+    ensures rest { IfSome result (λ below. NoneBelow rank notes.new.keys) }
     ensures kept { IfNone result (notes.new.keys ≡ notes.old.keys) }
 {
-    let Some(least) = notes.first() else {
-        return None;
-    };
-    if least.0 >= rank {
-        return None;
+    if is_none_below(notes, rank) {
+        return Some(BTreeSet::new(alloc));
     }
-    notes.pop_first()
+    match notes.split_off(&(rank, 0)) {
+        Ok(rest) => Some(std::mem::replace(notes, rest)),
+        Err(_) => None,
+    }
 }
 
 /// Drops the fragments before the key, of the streams that have a note below it. Says whether these are all, and have theirs.
 fn forward_noted(
+    alloc: Global,
     is_noted: bool,
     streams: &mut UnorderedStreams<TraditionalKey>,
     notes: &mut BTreeSet<(u128, u16)>,
@@ -142,18 +155,17 @@ fn forward_noted(
     if !is_noted {
         return false;
     }
-    for _ in 0..notes.len() + 1 {
-        let Some(note) = take_below(notes, rank(first)) else {
-            streams.rises();
-            return true;
-        };
+    let Some(below) = take_below(alloc, notes, rank(first)) else {
+        return false;
+    };
+    for note in &below {
         let id = StreamId(note.1);
-        streams.forward_to(id, first);
-        if !make_note(streams, notes, id) {
+        if !make_note(notes, id, streams.forward_to(id, first)) {
             return false;
         }
     }
-    false
+    streams.rises();
+    true
 }
 
 /// Takes away the notes of the streams that are named, or all where none is.
@@ -280,7 +292,13 @@ impl UnorderedByTsn {
         ensures bytes { unordered_bytes self.new ≤ unordered_bytes self.old }
         ensures fragments { unordered_fragments self.new ≤ unordered_fragments self.old }
     {
-        if forward_noted(self.is_noted, &mut self.streams, &mut self.notes, first) {
+        if forward_noted(
+            self.alloc,
+            self.is_noted,
+            &mut self.streams,
+            &mut self.notes,
+            first,
+        ) {
             return;
         }
         self.streams.forward_all(first);

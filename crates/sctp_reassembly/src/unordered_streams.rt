@@ -81,20 +81,23 @@ impl<K: ReassemblyKey> StreamMap<UnorderedStream<K>> {
         let _count = self.streams.len();
     }
 
-    /// Drops the fragments of a stream before the key.
-    pub fn forward_to(&mut self, id: StreamId, first: K)
+    /// Drops the fragments of a stream before the key. Gives the key of the first one that is left.
+    pub fn forward_to(&mut self, id: StreamId, first: K) -> Option<K>
         ensures value { self.new ≡ put_stream id.0 (held_from (rank_at K.number K.index first) (stream_at fresh_unordered id.0 self.old)) self.old }
         ensures bytes { unordered_bytes self.new ≤ unordered_bytes self.old }
         ensures fragments { unordered_fragments self.new ≤ unordered_fragments self.old }
+        ensures some { IfSome result (λ k. BeginsFrom (rank_at K.number K.index k) (stream_at fresh_unordered id.0 self.new).held) }
+        ensures none { IfNone result ((stream_at fresh_unordered id.0 self.new).held ≡ []) }
     {
         let Some(stream) = self.streams.get_mut(&id.0) else {
-            return;
+            return None;
         };
         let before = stream.queued_bytes();
         let fragments_before = stream.held_fragments();
         stream.forward_to(first);
         self.bytes = self.bytes - before + stream.queued_bytes();
         self.fragments = self.fragments - fragments_before + stream.held_fragments();
+        stream.first()
     }
 
     /// Drops the fragments of all streams before the key.

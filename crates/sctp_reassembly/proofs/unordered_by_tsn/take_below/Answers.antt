@@ -1,8 +1,7 @@
-use Rattle.std.proofs.Common.{arith}
-use Rattle.sctp_reassembly.proofs.NoteLemmas.{first_rank}
+use Rattle.std.proofs.Common.{sym, subst}
+use Rattle.sctp_reassembly.specs.UnorderedByTsn.{NoneBelow}
+use Rattle.sctp_reassembly.proofs.NoteLemmas.{none_from}
 use Rattle.sctp_reassembly.proofs.unordered_by_tsn.take_below.Goals as goal
 
-pub returns-then-least-rank-clause-none : goal.returns-then-least-rank-clause-none
-returns-then-least-rank-clause-none c note there =
-    let l = first_rank c.in-Some.least.now.0 note.0 c.in-Some.least.now.1 note.1 (c.in-Some.ensures.least note there) in
-    omega (arith, l, c.if-least-rank.true)
+pub returns-in-Ok-clause-rest : goal.returns-in-Ok-clause-rest
+returns-in-Ok-clause-rest c = subst (λ s. NoneBelow c.args.rank s.keys) (sym c.replace.ensures.after) (none_from c.args.rank c.in-Ok.rest.keys c.in-Ok.ensures.all_from)
