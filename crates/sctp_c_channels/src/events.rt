@@ -1,9 +1,9 @@
 //! What a socket emitted, and what its channels told: lent, in order.
 
-ghost use Rattle.std.specs.Prelude.{◌≡◌, [], ◌∷◌, IfOk};
-ghost use Rattle.sctp_c_records.specs.Event.{shown};
+ghost use Rattle.std.specs.Prelude.{◌≡◌, [], ◌∷◌};
+ghost use Rattle.sctp_c_records.specs.Event.{event_bytes, shown};
 ghost use Rattle.sctp_c_channels.specs.Answers.{IsAmong, OnAnswer, OnChannels};
-ghost use Rattle.sctp_c_channels.specs.Events.{Shows, content_of, head_of, kind_number, refusal_number};
+ghost use Rattle.sctp_c_channels.specs.Events.{Shows, kind_number, refusal_number};
 
 use sctp_c_records::answers::{FAILED, MEMORY, NO_CHANNELS, NO_ROOM, NOTHING, OK};
 use sctp_c_records::{EventParts, EventRecord, parts_of};
@@ -45,39 +45,6 @@ fn head_of(kind: u32, error: u32, id: StreamId, length: usize) -> EventRecord
         cause: 0,
         lifecycle: 0,
         length,
-    }
-}
-
-/// An event without bytes.
-fn alone(alloc: Global, kind: u32, error: u32, id: StreamId) -> EventParts
-    ensures head { result.head ≡ shown kind error id.0 0 0 }
-    ensures bytes { result.bytes.items ≡ [] }
-{
-    EventParts {
-        head: head_of(kind, error, id, 0),
-        bytes: Vec::new(alloc),
-    }
-}
-
-/// Takes an event apart. Where there is no memory for the bytes of streams, it comes back.
-fn parts_of_channel(alloc: Global, event: ChannelEvent) -> Result<EventParts, SocketEvent>
-    ensures head { IfOk result (λ parts. parts.head ≡ head_of event) }
-    ensures bytes { IfOk result (λ parts. parts.bytes.items ≡ content_of event) }
-{
-    match event {
-        ChannelEvent::Socket(SocketEvent::SendPacket(bytes)) => {
-            let head = EventRecord::of_packet(bytes.len());
-            Ok(EventParts { head, bytes })
-        }
-        ChannelEvent::Opened(id) => Ok(alone(alloc, 16, 0, id)),
-        ChannelEvent::Message(id, kind, bytes) => {
-            let head = head_of(kind_number(kind), 0, id, bytes.len());
-            Ok(EventParts { head, bytes })
-        }
-        ChannelEvent::BufferedAmountLow(id) => Ok(alone(alloc, 6, 0, id)),
-        ChannelEvent::Closed(id) => Ok(alone(alloc, 19, 0, id)),
-        ChannelEvent::Refused(id, why) => Ok(alone(alloc, 20, refusal_number(why), id)),
-        ChannelEvent::Socket(event) => parts_of(alloc, event),
     }
 }
 
@@ -129,6 +96,18 @@ fn take_next<S: DcSctpSocket>(
     }
 }
 
+/// Writes a struct, and lends the bytes.
+#[inline(always)]
+fn show(event: EventRecord, bytes: Vec<u8>, head: &mut [u8], lent: &mut Vec<u8>) -> u32
+    ensures answer { result ≡ 0 }
+    ensures head { head.new ≡ event_bytes event head.old }
+    ensures bytes { lent.new.items ≡ bytes.items }
+{
+    event.write(head);
+    drop(std::mem::replace(lent, bytes));
+    OK
+}
+
 /// Writes an event's struct, and lends its bytes. Where there is no memory for those of streams, the event is kept.
 fn lend(
     alloc: Global,
@@ -140,17 +119,44 @@ fn lend(
     ensures answers { IsAmong (0 ∷ 17 ∷ []) result }
     ensures shown { OnAnswer 0 result (Shows head.old head.new lent.new.items) }
 {
-    match parts_of_channel(alloc, event) {
+    let none = Vec::new(alloc);
+    match event {
+        ChannelEvent::Socket(SocketEvent::SendPacket(bytes)) => {
+            show(EventRecord::of_packet(bytes.len()), bytes, head, lent)
+        }
+        ChannelEvent::Message(id, kind, bytes) => {
+            let record = head_of(kind_number(kind), 0, id, bytes.len());
+            show(record, bytes, head, lent)
+        }
+        ChannelEvent::Opened(id) => show(head_of(16, 0, id, 0), none, head, lent),
+        ChannelEvent::BufferedAmountLow(id) => show(head_of(6, 0, id, 0), none, head, lent),
+        ChannelEvent::Closed(id) => show(head_of(19, 0, id, 0), none, head, lent),
+        ChannelEvent::Refused(id, why) => {
+            show(head_of(20, refusal_number(why), id, 0), none, head, lent)
+        }
+        ChannelEvent::Socket(event) => lend_other(alloc, event, kept, head, lent),
+    }
+}
+
+/// The same for an event of the socket that is no packet.
+#[inline(never)]
+fn lend_other(
+    alloc: Global,
+    event: SocketEvent,
+    kept: &mut Option<SocketEvent>,
+    head: &mut [u8],
+    lent: &mut Vec<u8>,
+) -> u32
+    ensures answers { IsAmong (0 ∷ 17 ∷ []) result }
+    ensures shown { OnAnswer 0 result (Shows head.old head.new lent.new.items) }
+{
+    match parts_of(alloc, event) {
         Ok(
             EventParts {
                 head: record,
                 bytes,
             },
-        ) => {
-            record.write(head);
-            drop(std::mem::replace(lent, bytes));
-            OK
-        }
+        ) => show(record, bytes, head, lent),
         Err(event) => {
             drop(std::mem::replace(kept, Some(event)));
             NO_ROOM

@@ -1,11 +1,11 @@
 //! An event as C has it: a record, and bytes that are copied.
 
-ghost use Rattle.std.specs.Prelude.{◌≡◌, IfOk};
+ghost use Rattle.std.specs.Prelude.{◌≡◌, ◌≤◌, length, IfOk};
 ghost use Rattle.std.specs.List.{flat_map};
 ghost use Rattle.sctp_state.specs.Events.{event_of, numbers_of};
 ghost use Rattle.sctp_c_records.specs.Event.{Copied, bytes_of, cause_in, cause_of, error_number, event_bytes, faulty, low_first, record_of, shown, with_length};
 
-use crate::layout::{put_u32, put_u64};
+use crate::layout::{put_u32, put_u64, set_u32, set_u64};
 use crate::streams::spelled;
 use sctp_serial::StreamId;
 use sctp_state::{ErrorKind, SocketEvent};
@@ -106,7 +106,33 @@ impl EventRecord {
     }
 
     /// Writes the struct of C, as far as there is a place behind its size.
+    #[inline(always)]
     pub fn write(&self, bytes: &mut [u8])
+        ensures { bytes.new ≡ event_bytes self.now bytes.old }
+    {
+        if EVENT_SIZE <= bytes.len() {
+            self.write_whole(bytes);
+        } else {
+            self.write_part(bytes);
+        }
+    }
+
+    #[inline(always)]
+    fn write_whole(&self, bytes: &mut [u8])
+        requires { 40 ≤ length bytes.old }
+        ensures { bytes.new ≡ event_bytes self.now bytes.old }
+    {
+        set_u32(bytes, 8, self.kind);
+        set_u32(bytes, 12, self.error);
+        set_u32(bytes, 16, self.stream);
+        set_u32(bytes, 20, self.cause);
+        set_u64(bytes, 24, self.lifecycle);
+        set_u64(bytes, 32, self.length as u64);
+    }
+
+    /// The same for a shorter struct.
+    #[inline(never)]
+    fn write_part(&self, bytes: &mut [u8])
         ensures { bytes.new ≡ event_bytes self.now bytes.old }
     {
         put_u32(bytes, 8, self.kind);

@@ -87,18 +87,34 @@ fn set_u16(bytes: &mut [u8], at: usize, number: u16)
     bytes[at + 1] = (number / 256) as u8;
 }
 
+/// Writes a number where there is a place for all of it.
+pub(crate) fn set_u32(bytes: &mut [u8], at: usize, number: u32)
+    requires { at + 4 ≤ length bytes.old }
+    ensures row { bytes.new ≡ put_u32 at number bytes.old }
+{
+    set_u16(bytes, at, (number % 65_536) as u16);
+    set_u16(bytes, at + 2, (number / 65_536) as u16);
+}
+
+/// Writes a number where there is a place for all of it.
+pub(crate) fn set_u64(bytes: &mut [u8], at: usize, number: u64)
+    requires { at + 8 ≤ length bytes.old }
+    ensures row { bytes.new ≡ put_u64 at number bytes.old }
+{
+    set_u32(bytes, at, (number % 4_294_967_296) as u32);
+    set_u32(bytes, at + 4, (number / 4_294_967_296) as u32);
+}
+
 /// Writes a number, as far as there is a place: at once where there is one for all of it.
 pub fn put_u32(bytes: &mut [u8], at: usize, number: u32)
     requires { at < 1022 }
     ensures { bytes.new ≡ put_u32 at number bytes.old }
 {
-    let (low, high) = ((number % 65_536) as u16, (number / 65_536) as u16);
     if at + 4 <= bytes.len() {
-        set_u16(bytes, at, low);
-        set_u16(bytes, at + 2, high);
+        set_u32(bytes, at, number);
     } else {
-        put_u16(bytes, at, low);
-        put_u16(bytes, at + 2, high);
+        put_u16(bytes, at, (number % 65_536) as u16);
+        put_u16(bytes, at + 2, (number / 65_536) as u16);
     }
 }
 

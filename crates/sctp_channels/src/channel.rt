@@ -1,12 +1,19 @@
 //! A channel: what it is, its lifecycle, and the data that came.
 
-ghost use Rattle.std.specs.Prelude.{◌≡◌, [], ◌++◌, length, IfOk, OnOk, OnErr};
+ghost use Rattle.std.specs.Prelude.{◌≡◌, [], ◌++◌, length, option_map, true, None, IfOk, OnOk, OnErr};
+ghost use Rattle.std.specs.Result.{is_ok};
+ghost use Rattle.std.specs.Duration.{as_nanos};
 ghost use Rattle.sctp_channels.specs.Views.{open_of};
+ghost use Rattle.sctp_channels.specs.DataChannels.{lifetime, retransmissions};
+ghost use Rattle.sctp_channels.specs.Lifecycle.{may_send};
 ghost use Rattle.sctp_channels.specs.Channel.{count_if, count_received, count_sent, exceeds, goes_unordered, keep, new_channel, nothing, on_data, received, received_as, reset_incoming, take, taken, takes_whole, with_lifecycle, with_parts};
 
-use crate::{DataChannelOpen, Lifecycle, PayloadKind, PayloadProtocol};
+use crate::{DataChannelOpen, Lifecycle, PayloadKind, PayloadProtocol, Reliability, SendRefusal};
+use sctp_serial::Message;
+use sctp_state::{DcSctpSocket, SendOptions};
 use std::alloc::{AllocError, Global};
 use std::marker::Model;
+use std::time::Duration;
 
 /// What a channel counts. Each count stops at the greatest number of its type.
 #[derive(Clone, Copy, Debug, Default)]
@@ -49,6 +56,20 @@ impl Model for Channel {
     ghost Value = { Channel };
 
     ghost view = { λ c. record { lifecycle = c.lifecycle; description = open_of c.description; parts = c.parts.items; is_too_long = c.is_too_long; statistics = c.statistics } };
+}
+
+/// How often a message is sent again at most, and for how long.
+fn limits(reliability: Reliability) -> (Option<u16>, Option<Duration>)
+    ensures again { result.0 ≡ retransmissions reliability }
+    ensures lifetime { option_map as_nanos result.1 ≡ lifetime reliability }
+{
+    match reliability {
+        Reliability::Reliable => (None, None),
+        Reliability::MaxRetransmissions(count) => (Some(count.min(65535) as u16), None),
+        Reliability::MaxLifetime(milliseconds) => {
+            (None, Some(Duration::from_millis(milliseconds as u64)))
+        }
+    }
 }
 
 impl Channel {
@@ -98,6 +119,42 @@ impl Channel {
         ensures { result ≡ goes_unordered self.now }
     {
         self.description.unordered && !self.lifecycle.is_connecting()
+    }
+
+    /// How its messages go.
+    fn send_options(&self) -> SendOptions
+        ensures unordered { result.unordered ≡ goes_unordered self.now }
+        ensures again { result.max_retransmissions ≡ retransmissions self.now.description.reliability }
+        ensures lifetime { option_map as_nanos result.lifetime ≡ lifetime self.now.description.reliability }
+        ensures silent { result.lifecycle_id ≡ None }
+    {
+        let (max_retransmissions, lifetime) = limits(self.description.reliability);
+        SendOptions {
+            unordered: self.goes_unordered(),
+            lifetime,
+            max_retransmissions,
+            lifecycle_id: None,
+        }
+    }
+
+    /// Hands a message of so many bytes to the socket, unless it is refused, and counts it.
+    pub(crate) fn send<S: DcSctpSocket>(
+        &mut self,
+        socket: &mut S,
+        size: usize,
+        given: Result<Message, SendRefusal>,
+    ) -> Result<(), SendRefusal>
+        ensures ok { OnOk result (self.new ≡ count_sent size self.old) }
+        ensures opened { OnOk result (may_send self.old.lifecycle ≡ true) }
+        ensures given { OnOk result (is_ok given ≡ true) }
+        ensures err { OnErr result (self.new ≡ self.old) }
+    {
+        if !self.lifecycle.may_send() {
+            return Err(SendRefusal::Closing);
+        }
+        socket.send(given?, &self.send_options())?;
+        self.count_sent(size);
+        Ok(())
     }
 
     /// The socket has accepted a message of so many bytes.

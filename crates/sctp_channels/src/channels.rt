@@ -1,6 +1,7 @@
 //! The channels of an association.
 
 ghost use Rattle.std.specs.Prelude.{◌≡◌, ◌<◌, ◌++◌, ◌⊎◌, [], cond, true, None, Some, IfSome, IfNone, IsSome, IfErr, IfOk, OnOk, OnErr, ℕ, length, map, option_copied, option_map, option_to_list};
+ghost use Rattle.std.specs.Result.{is_ok};
 ghost use Rattle.std.specs.Map.{keys_of};
 ghost use Rattle.sctp_state.specs.Events.{numbers_of};
 ghost use Rattle.sctp_channels.specs.Payload.{protocol_of};
@@ -8,13 +9,15 @@ ghost use Rattle.sctp_channels.specs.Steps.{each};
 ghost use Rattle.sctp_channels.specs.Views.{open_of};
 ghost use Rattle.sctp_channels.specs.Channel.{count_if, on_data, received_as};
 ghost use Rattle.sctp_channels.specs.Channels.{Emits, OnControl, OnMessage, Stands, change, close, deliver, drain, emit, end, hand, is_denied, is_own, is_whole_at, negotiate, no_channels, on_ack, on_incoming_reset, on_open, on_payload, on_reset_denied, on_reset_performed, open_from, open_own, output_of, received_on, sent, take_open, tell_closed, turn_down, with_entries};
+ghost use Rattle.sctp_channels.specs.DataChannels.{IsOpenAt};
 ghost use Rattle.sctp_channels.specs.Entries.{channel_at, forget};
 
 use crate::entries::{Entries, is_shown};
 use crate::{
     Channel, ChannelMessage, ChannelMessageFault, DataChannelOpen, Lifecycle, Outgoing, Output,
-    PayloadProtocol, Received, Refusal, Reliability,
+    PayloadProtocol, Received, Refusal, Reliability, SendRefusal,
 };
+use sctp_state::DcSctpSocket;
 use sctp_wire::{Message, StreamId};
 use std::alloc::{AllocError, Global};
 use std::collections::VecDeque;
@@ -186,11 +189,26 @@ impl Channels {
     }
 
     /// The socket has accepted a message of so many bytes.
-    #[inline(always)]
     pub fn sent(&mut self, id: StreamId, size: usize)
         ensures { self.new ≡ sent id.0 size self.old }
     {
         self.entries.count_sent(id.0, size);
+    }
+
+    /// Hands a message of so many bytes to the socket, unless it is refused, and counts it.
+    pub(crate) fn send<S: DcSctpSocket>(
+        &mut self,
+        socket: &mut S,
+        id: StreamId,
+        size: usize,
+        given: Result<Message, SendRefusal>,
+    ) -> Result<(), SendRefusal>
+        ensures ok { OnOk result (self.new ≡ sent id.0 size self.old) }
+        ensures opened { OnOk result (IsOpenAt (channel_at id.0 self.old.entries)) }
+        ensures given { OnOk result (is_ok given ≡ true) }
+        ensures err { OnErr result (self.new ≡ self.old) }
+    {
+        self.entries.send(socket, id.0, size, given)
     }
 
     /// What was opened isn't taken: its stream is reset, and a channel on it is closed.

@@ -1,29 +1,26 @@
 //! The channels of an association, and the socket below.
 
 ghost use Rattle.std.specs.Prelude.{◌≡◌, ◌⊎◌, ◌<◌, ℕ, true, IsTrue, IsFalse, None, Some, List, [], ◌∷◌, ◌++◌, length, IfOk, IfNone, OnOk, OnErr, option_copied, option_map, option_to_list};
-ghost use Rattle.std.specs.Duration.{as_nanos};
 ghost use Rattle.sctp_serial.specs.Messages.{message_of};
 ghost use Rattle.sctp_state.specs.Events.{event_of as socket_event_of, numbers_of};
-ghost use Rattle.sctp_channels.specs.Channel.{count_if, count_received, goes_unordered, received_as};
+ghost use Rattle.sctp_channels.specs.Channel.{count_if, count_received, received_as};
 ghost use Rattle.sctp_channels.specs.Views.{open_of};
 ghost use Rattle.sctp_channels.specs.Payload.{protocol_of};
 ghost use Rattle.sctp_channels.specs.declared.payload.PayloadProtocol.TheVariants.{Data};
 ghost use Rattle.sctp_channels.specs.Channels.{OnMessage, change, close, drain, hand, is_own, is_whole_at, on_payload, negotiate, no_channels, on_incoming_reset, on_reset_denied, on_reset_performed, open_own, output_of, sent};
 ghost use Rattle.sctp_channels.specs.Entries.{channel_at};
-ghost use Rattle.sctp_channels.specs.DataChannels.{IsOpenAt, IsShortEnough, is_draining_at, lifetime, retransmissions};
+ghost use Rattle.sctp_channels.specs.DataChannels.{IsOpenAt, IsShortEnough, is_draining_at};
 ghost use Rattle.sctp_channels.specs.Steps.{DataChannels, Follows, Gets, StaysTold, acknowledged_by, each, ended, event_of, heard, named, of_socket, passed_on, told_by, with_channels, with_outputs};
 
 use crate::{
     CONTROL_PPID, Channel, ChannelEvent, ChannelMessage, Channels, DataChannelOpen, OpenError,
-    Outgoing, Output, PayloadKind, PayloadProtocol, Received, Reliability, SendRefusal,
-    data_message,
+    Outgoing, Output, PayloadKind, PayloadProtocol, Received, SendRefusal, data_message,
 };
 use sctp_serial::{Message, StreamId};
 use sctp_state::{CallError, DcSctpSocket, ResetStreamsError, SendError, SendOptions, SocketEvent};
 use std::alloc::{AllocError, Global};
 use std::collections::{BTreeSet, VecDeque};
 use std::marker::Model;
-use std::time::Duration;
 
 /// More messages, or events, are not looked for in one `collect`.
 const MANY: u32 = 1_000_000;
@@ -49,35 +46,6 @@ impl Model for DataChannels {
     ghost Value = { DataChannels };
 
     ghost view = { λ d. record { channels = d.channels; peer_limit = d.peer_max_message_size; buffer_limit = d.max_buffered_amount; events = map event_of d.events.items; unanswered = map (λ id. id.0) d.unanswered.items } };
-}
-
-/// How a message of this channel goes.
-fn send_options(channel: &Channel) -> SendOptions
-    ensures unordered { result.unordered ≡ goes_unordered channel.now }
-    ensures again { result.max_retransmissions ≡ retransmissions channel.now.description.reliability }
-    ensures lifetime { option_map as_nanos result.lifetime ≡ lifetime channel.now.description.reliability }
-    ensures silent { result.lifecycle_id ≡ None }
-{
-    let (max_retransmissions, lifetime) = limits(channel.description().reliability);
-    SendOptions {
-        unordered: channel.goes_unordered(),
-        lifetime,
-        max_retransmissions,
-        lifecycle_id: None,
-    }
-}
-
-fn limits(reliability: Reliability) -> (Option<u16>, Option<Duration>)
-    ensures again { result.0 ≡ retransmissions reliability }
-    ensures lifetime { option_map as_nanos result.1 ≡ lifetime reliability }
-{
-    match reliability {
-        Reliability::Reliable => (None, None),
-        Reliability::MaxRetransmissions(count) => (Some(count.min(65535) as u16), None),
-        Reliability::MaxLifetime(milliseconds) => {
-            (None, Some(Duration::from_millis(milliseconds as u64)))
-        }
-    }
 }
 
 impl DataChannels {
@@ -178,30 +146,29 @@ impl DataChannels {
         ensures short { OnOk result (IsShortEnough (length payload.items) self.old) }
         ensures err { OnErr result (self.new ≡ self.old) }
     {
-        let Some(channel) = self.channels.get(id) else {
-            return Err(SendRefusal::NoChannel);
-        };
-        if !channel.lifecycle().may_send() {
-            return Err(SendRefusal::Closing);
-        }
-        let options = send_options(channel);
         let size = payload.len();
-        self.admit(socket.buffered_amount(id), size)?;
-        socket.send(data_message(id, kind, payload)?, &options)?;
-        self.channels.sent(id, size);
-        Ok(())
+        let given = self.given(socket.buffered_amount(id), id, kind, payload);
+        self.channels.send(socket, id, size, given)
     }
 
-    fn admit(&self, buffered: usize, size: usize) -> Result<(), SendRefusal>
-        ensures { OnOk result (IsShortEnough size self.now) }
+    /// What is to be sent, where it is short enough for the peer and for what waits on the channel.
+    fn given(
+        &self,
+        buffered: usize,
+        id: StreamId,
+        kind: PayloadKind,
+        payload: Vec<u8>,
+    ) -> Result<Message, SendRefusal>
+        ensures { OnOk result (IsShortEnough (length payload.items) self.now) }
     {
+        let size = payload.len();
         if self.peer_max_message_size != 0 && self.peer_max_message_size < size {
             return Err(SendRefusal::TooLong);
         }
         if self.max_buffered_amount < buffered.saturating_add(size) {
             return Err(SendRefusal::Full);
         }
-        Ok(())
+        Ok(data_message(id, kind, payload)?)
     }
 
     /// Closes a channel. What was accepted is sent first; `Closed` tells when the stream is free.

@@ -1,13 +1,16 @@
 //! Channels by the numbers of their streams.
 
-ghost use Rattle.std.specs.Prelude.{◌≡◌, [], ◌∷◌, ◌++◌, cond, map, option_copied, is_some, IfOk, OnOk, OnErr};
+ghost use Rattle.std.specs.Prelude.{◌≡◌, [], ◌∷◌, ◌++◌, cond, map, option_copied, is_some, true, IfOk, OnOk, OnErr};
+ghost use Rattle.std.specs.Result.{is_ok};
 ghost use Rattle.std.specs.Map.{keys_of};
 ghost use Rattle.sctp_channels.specs.Channel.{count_if, count_sent, on_data, received_as, reset_incoming, with_lifecycle};
 ghost use Rattle.sctp_channels.specs.Channels.{close_one, is_shown, is_whole_at, received_on, shown_streams};
+ghost use Rattle.sctp_channels.specs.DataChannels.{IsOpenAt};
 ghost use Rattle.sctp_channels.specs.Entries.{channel_at, changed, forget, put};
 
-use crate::{Channel, Lifecycle, Opening, Outgoing, PayloadProtocol, Received};
-use sctp_wire::StreamId;
+use crate::{Channel, Lifecycle, Opening, Outgoing, PayloadProtocol, Received, SendRefusal};
+use sctp_state::DcSctpSocket;
+use sctp_wire::{Message, StreamId};
 use std::alloc::{AllocError, Global};
 use std::collections::BTreeMap;
 use std::marker::Model;
@@ -89,6 +92,25 @@ impl Entries {
         if let Some(channel) = self.channels.get_mut(&id) {
             channel.count_sent(size);
         }
+    }
+
+    /// Hands a message of so many bytes to the socket, unless it is refused, and counts it.
+    pub(crate) fn send<S: DcSctpSocket>(
+        &mut self,
+        socket: &mut S,
+        id: u16,
+        size: usize,
+        given: Result<Message, SendRefusal>,
+    ) -> Result<(), SendRefusal>
+        ensures ok { OnOk result (self.new ≡ changed (count_sent size) id self.old) }
+        ensures opened { OnOk result (IsOpenAt (channel_at id self.old)) }
+        ensures given { OnOk result (is_ok given ≡ true) }
+        ensures err { OnErr result (self.new ≡ self.old) }
+    {
+        let Some(channel) = self.channels.get_mut(&id) else {
+            return Err(SendRefusal::NoChannel);
+        };
+        channel.send(socket, size, given)
     }
 
     pub(crate) fn reset_incoming(&mut self, id: u16)

@@ -1,6 +1,6 @@
 //! Data channels (RFC 8831, RFC 8832), lowest layer first: the messages that open a channel, and the payload protocol identifiers of its data
-//! (`message`, `payload`); one channel (`lifecycle`, `channel`); those of an association, without a socket (`channels`); and over one (`data_channels`):
-//! opened, written, read and closed, whichever socket it is.
+//! (`message`, `payload`); one channel (`lifecycle`, `channel`); those of an association, whose public calls know no socket (`channels`); and over one
+//! (`data_channels`): opened, written, read and closed, whichever socket it is.
 //!
 //! The owner drives the socket as without channels, and calls `collect` behind each call that may have emitted something: behind `handle_input`
 //! for each packet, and behind `advance_time`. What the socket emitted is then taken by `next_event` alone; or by `poll_event`, which collects too,
