@@ -1,5 +1,5 @@
 -- Where memory ran out in a packet, the chunks before did what the table says.
-use Rattle.std.proofs.Common.{◌≡◌, ◌⊎◌, inl, inr, ℕ, Bool, true, false, None, List, [], ◌∷◌, refl, ap, sym, subst, ◌∙◌, Result, Ok, Err, OnErr}
+use Rattle.std.proofs.Common.{◌≡◌, inl, inr, ℕ, Bool, true, false, List, [], ◌∷◌, refl, ap, sym, subst, ◌∙◌, Result, Ok, Err, OnErr}
 use Rattle.std.specs.Prelude.{is_err}
 use Rattle.sctp_packet.specs.Chunk.{ChunkTree, shutdown_chunk}
 use Rattle.sctp_packet.specs.Packet.{PacketTree, Accepts}
@@ -14,7 +14,7 @@ use Rattle.sctp_endpoint.proofs.KeepsReadyLemmas.{keeps_alone, keeps_same}
 use Rattle.sctp_endpoint.proofs.QuietLemmas.{quietly_emitted}
 use Rattle.spec_endpoint.specs.Association.{State, Closed, CookieWait, Open, CookieEchoed, Established, ShutdownPending, ShutdownSent, ShutdownReceived, ShutdownAckSent, Tcb, Context, EndpointState, Endpoint}
 use Rattle.spec_endpoint.specs.Calls.{ready_in}
-use Rattle.spec_endpoint.specs.Input.{AfterChunk, receive, receive_rest, receive_all, in_endpoint_state, repeats_if, has_data_chunk, packet_refusal, count_packet_at}
+use Rattle.spec_endpoint.specs.Input.{AfterChunk, receive, receive_rest, receive_all, in_endpoint_state, repeats_if}
 use Rattle.spec_endpoint.specs.Packets.{PacketDraft, add, emit_chunk, emit_if, has_chunks, header_to, new_packet}
 use Rattle.spec_endpoint.specs.Receiving.{policy_of}
 use Rattle.spec_endpoint.specs.Wire.{word_at}

@@ -111,18 +111,23 @@ fn end_packet<C: Checksum>(
     shut_if(avoids_stalls, context, phase, tcb)
 }
 
-/// After the own SHUTDOWN: it goes out again, and its timer starts anew (RFC 9260 section 9.2).
+/// After the own SHUTDOWN, DATA has it go out again and its timer start anew (RFC 9260 section 9.2).
 #[tactic(auto, using(sctp_endpoint::proofs::GoesOnLemmas::goes_on_same, sctp_endpoint::proofs::GoesOnLemmas::goes_on_through))]
 fn repeat_shutdown<C: Checksum>(
     context: &mut Context<C>,
     phase: &mut Phase,
     tcb: &TransmissionControlBlock,
+    view: &PacketView<'_>,
 ) -> Result<(), AllocError>
-    ensures ok { OnOk result (opened_of C.word_of phase.new tcb.now context.new ≡ table.repeats (phase_of phase.old) (tcb_of tcb.now) (context_of C.word_of context.old)) }
+    ensures ok { (chunks : List ChunkTree) → AreLeft view.now chunks
+        → OnOk result (opened_of C.word_of phase.new tcb.now context.new ≡ table.repeats_if (table.has_data_chunk chunks) (opened_of C.word_of phase.old tcb.now context.old)) }
     ensures goes_on { GoesOn context.old context.new }
 {
     match phase {
         Phase::ShutdownSent(t2_shutdown) => {
+            if !has_data(view) {
+                return Ok(());
+            }
             t2_shutdown.set_duration(tcb.rto.rto());
             t2_shutdown.start(context.clock);
             context.send_shutdown(tcb)
@@ -393,18 +398,16 @@ fn receive_all<R: Rng, C: Checksum>(
 fn repeat_if<C: Checksum>(
     state: &mut State,
     context: &mut Context<C>,
-    has_data: bool,
+    view: &PacketView<'_>,
 ) -> Result<(), AllocError>
-    ensures ok { OnOk result (endpoint_state_of C.word_of state.new context.new ≡ table.repeats_if has_data (endpoint_state_of C.word_of state.old context.old)) }
+    ensures ok { (chunks : List ChunkTree) → AreLeft view.now chunks
+        → OnOk result (endpoint_state_of C.word_of state.new context.new ≡ table.repeats_if (table.has_data_chunk chunks) (endpoint_state_of C.word_of state.old context.old)) }
     ensures goes_on { GoesOn context.old context.new }
     ensures received { ready_in (state_of state.new) ≡ ready_in (state_of state.old) }
 {
-    if !has_data {
-        return Ok(());
-    }
     match state {
         State::Closed | State::CookieWait(_) => Ok(()),
-        State::Open(phase, tcb) => repeat_shutdown(context, phase, tcb),
+        State::Open(phase, tcb) => repeat_shutdown(context, phase, tcb, view),
     }
 }
 
@@ -435,7 +438,7 @@ fn handle_accepted_packet<R: Rng, C: Checksum>(
     ensures stops { (chunks : List ChunkTree) → AreLeft view.entry chunks
         → OnErr result (StopsAmong tag chunks (table.in_endpoint_state (table.repeats_if (table.has_data_chunk chunks)) (endpoint_of R.stream C.word_of state.old context.old rng.old)) (endpoint_state_of C.word_of state.new context.new)) }
 {
-    repeat_if(state, context, has_data(&view))?;
+    repeat_if(state, context, &view)?;
     receive_all(state, context, rng, tag, view)?;
     on_packet_end(state, context)
 }

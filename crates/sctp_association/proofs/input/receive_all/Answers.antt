@@ -1,4 +1,4 @@
-use Rattle.std.proofs.Common.{◌≡◌, ◌∙◌, List, ◌∷◌, ap, sym, subst}
+use Rattle.std.proofs.Common.{◌∙◌, List, ◌∷◌, ap, sym, subst}
 use Rattle.sctp_packet.specs.Chunk.{ChunkTree}
 use Rattle.spec_endpoint.specs.Input.{receive_all}
 use Rattle.sctp_endpoint.specs.Views.{endpoint_of, endpoint_state_of, state_of}
