@@ -4,25 +4,26 @@ ghost use Rattle.std.specs.Prelude.{◌≡◌, IfOk};
 
 use std::alloc::{AllocError, Global};
 
-// How many are kept, and of what capacity.
-const MOST: usize = 64;
-
+// Of what capacity they are.
 const LEAST_CAPACITY: usize = 512;
 
 const LARGEST_CAPACITY: usize = 2048;
 
-/// At most 64 buffers of 512 to 2,048 bytes, which payloads left that are no more needed: most fragments of long messages are as
-/// large as a packet lets them be.
+/// Buffers of 512 to 2,048 bytes, which payloads left that are no more needed: most fragments of long messages are as large as a
+/// packet lets them be.
 #[derive(Drop)]
 pub struct SpareBuffers {
     buffers: Vec<Vec<u8>>,
+    /// How many are kept at most.
+    limit: usize,
 }
 
 impl SpareBuffers {
-    /// None. Takes no memory.
-    pub fn new(alloc: Global) -> SpareBuffers {
+    /// None, and never more than so many. Takes no memory.
+    pub fn new(alloc: Global, limit: usize) -> SpareBuffers {
         SpareBuffers {
             buffers: Vec::new(alloc),
+            limit,
         }
     }
 
@@ -30,7 +31,10 @@ impl SpareBuffers {
     #[inline(always)]
     pub fn keep(&mut self, buffer: Vec<u8>) {
         let capacity = buffer.capacity();
-        if self.buffers.len() < MOST && LEAST_CAPACITY <= capacity && capacity <= LARGEST_CAPACITY {
+        if self.buffers.len() < self.limit
+            && LEAST_CAPACITY <= capacity
+            && capacity <= LARGEST_CAPACITY
+        {
             let _is_kept = self.buffers.push(buffer).is_ok();
         }
     }

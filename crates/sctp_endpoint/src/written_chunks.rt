@@ -59,9 +59,9 @@ impl WrittenChunk {
 }
 
 // Memory is reserved for a few bytes, or for as many as most packets have.
-const FEW: usize = 256;
+const SMALL_CAPACITY: usize = 256;
 
-const MOST: usize = 1200;
+const PACKET_CAPACITY: usize = 1200;
 
 /// The bytes of chunks, behind room for the header of their packet. Its value is the list of these.
 #[derive(Drop)]
@@ -119,7 +119,8 @@ impl WrittenChunks {
         self.bytes.len().saturating_sub(COMMON_HEADER_SIZE)
     }
 
-    /// Their bytes, with their padding, behind room for a header; then there are none. Memory that they fill goes with them, else they are copied.
+    /// Their bytes, with their padding, behind room for a header; then there are none. Memory of which they
+    /// fill three quarters goes with them, else they are copied.
     #[inline(always)]
     pub fn take(&mut self) -> Result<Vec<u8>, AllocError>
         ensures bytes { IfOk result (λ bytes. drop 12 bytes.items ≡ chunks_bytes self.old) }
@@ -175,10 +176,10 @@ fn reserve(bytes: &mut Vec<u8>, size: usize) -> Result<(), AllocError>
     ensures room { OnOk result (vec_len bytes.new + size ≤ vec_capacity bytes.new) }
 {
     let len = bytes.len();
-    let least = if size <= FEW.saturating_sub(len) {
-        FEW
+    let least = if size <= SMALL_CAPACITY.saturating_sub(len) {
+        SMALL_CAPACITY
     } else {
-        MOST
+        PACKET_CAPACITY
     };
     bytes.reserve(size.max(least.saturating_sub(len)))
 }

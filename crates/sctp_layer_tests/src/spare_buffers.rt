@@ -23,7 +23,7 @@ fn part(tsn: u32, payload: &[u8], ends: (bool, bool)) -> DataView<'_> {
 
 /// A buffer of 1,000 bytes serves 600, and neither 400 nor 1,001.
 fn serves(alloc: Global, size: usize) -> Result<bool, AllocError> {
-    let mut spares = SpareBuffers::new(alloc);
+    let mut spares = SpareBuffers::new(alloc, 64);
     spares.keep(Vec::with_capacity(alloc, 1000)?);
     let bytes = vec![in alloc; 7u8; size]?;
     let copy = spares.copy(alloc, &bytes)?;

@@ -22,9 +22,7 @@ use std::mem;
 #[derive(Drop)]
 pub struct SctpPacketBuilder {
     alloc: Global,
-    verification_tag: u32,
-    source_port: u16,
-    destination_port: u16,
+    header: CommonHeader,
     limit: usize,
     write_checksum: bool,
     /// Nothing, or the packet so far, its checksum zero.
@@ -65,9 +63,12 @@ impl SctpPacketBuilder {
     {
         SctpPacketBuilder {
             alloc,
-            verification_tag,
-            source_port,
-            destination_port,
+            header: CommonHeader {
+                source_port,
+                destination_port,
+                verification_tag,
+                checksum: 0,
+            },
             limit,
             write_checksum: true,
             bytes: Vec::new(alloc),
@@ -131,13 +132,7 @@ impl SctpPacketBuilder {
         ensures later { self.old.body ≢ [] → IsOk result }
         ensures err { OnErr result (self.new ≡ self.old) }
     {
-        let header = CommonHeader {
-            source_port: self.source_port,
-            destination_port: self.destination_port,
-            verification_tag: self.verification_tag,
-            checksum: 0,
-        };
-        if let Err(e) = push_chunk(&mut self.bytes, header, self.limit, chunk) {
+        if let Err(e) = push_chunk(&mut self.bytes, self.header, self.limit, chunk) {
             self.bytes.clear();
             return Err(e);
         }
@@ -150,14 +145,8 @@ impl SctpPacketBuilder {
         requires full { length bytes.items ≡ self.old.limit }
         ensures { self.new ≡ record self.old { body = drop 12 bytes.items } }
     {
-        let header = CommonHeader {
-            source_port: self.source_port,
-            destination_port: self.destination_port,
-            verification_tag: self.verification_tag,
-            checksum: 0,
-        };
         self.bytes = bytes;
-        write_header(&mut self.bytes, header);
+        write_header(&mut self.bytes, self.header);
     }
 
     /// The packet, with `word` in the checksum's field where the checksum is on; no bytes where nothing was added.

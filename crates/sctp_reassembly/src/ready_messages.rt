@@ -13,6 +13,9 @@ use std::alloc::{AllocError, Global};
 use std::collections::VecDeque;
 use std::marker::Model;
 
+// So many buffers are kept at most.
+const SPARE_BUFFERS: usize = 64;
+
 /// Messages in the order in which they became ready, and how many bytes they have. Buffers that their fragments left are kept.
 #[derive(Drop)]
 pub struct ReadyMessages {
@@ -43,7 +46,7 @@ impl ReadyMessages {
         ReadyMessages {
             messages: VecDeque::new(alloc),
             bytes: 0,
-            spares: SpareBuffers::new(alloc),
+            spares: SpareBuffers::new(alloc, SPARE_BUFFERS),
         }
     }
 
@@ -104,7 +107,7 @@ impl ReadyMessages {
     pub fn let_buffers_go(&mut self, alloc: Global)
         ensures { self.new ≡ self.old }
     {
-        self.spares = SpareBuffers::new(alloc);
+        self.spares = SpareBuffers::new(alloc, SPARE_BUFFERS);
     }
 
     /// The one at the place, where there are so many.

@@ -52,6 +52,9 @@ pub enum HandleSackResult {
     },
 }
 
+// So many buffers are kept at most.
+const SPARE_BUFFERS: usize = 1024;
+
 // What a SACK's cumulative TSN meets.
 #[derive(Clone, Copy)]
 struct CumulativeAck {
@@ -114,7 +117,7 @@ impl RetransmissionQueue {
             ),
             rtx_packets_count: 0,
             rtx_bytes_count: 0,
-            spares: SpareBuffers::new(alloc),
+            spares: SpareBuffers::new(alloc, SPARE_BUFFERS),
         }
     }
 
@@ -269,7 +272,7 @@ impl RetransmissionQueue {
         ensures { self.new ≡ self.old }
     {
         if self.outstanding.is_empty() {
-            self.spares = SpareBuffers::new(self.alloc);
+            self.spares = SpareBuffers::new(self.alloc, SPARE_BUFFERS);
         }
     }
 

@@ -294,7 +294,7 @@ impl SendQueue {
         ensures goes_on { IfOk result (λ found. GoesOn self.old (option_map produced_of found)) }
         ensures err { OnErr result (Interrupted now max_payload self.old events.old self.new events.new) }
     {
-        let mut spares = SpareBuffers::new(self.alloc);
+        let mut spares = SpareBuffers::new(self.alloc, 0);
         self.produce_in(now, max_payload, &mut spares, events)
     }
 

@@ -85,7 +85,7 @@ fn handle(
     if !data.is_sack_valid(chunk) {
         return Answer::Refused;
     }
-    let mut spares = SpareBuffers::new(output.alloc);
+    let mut spares = SpareBuffers::new(output.alloc, 0);
     match data.handle_sack(chunk, false, &mut spares, events) {
         Ok(info) => {
             write!(
