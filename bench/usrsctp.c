@@ -1,7 +1,7 @@
-/* Two sockets of usrsctp over a link in memory, with no checksums and no threads. The arguments are eight numbers: the bytes of a
- * message, how many messages, packets lost of a hundred, milliseconds from one end to the other, streams taken in turn, 1 where
- * messages are interleaved, packets that the link keeps under way, and further associations that are opened and left idle. Time is
- * virtual: what usrsctp asks of the clock is answered here. */
+/* Two sockets of usrsctp over a link in memory, without threads. The arguments are nine numbers: the bytes of a message, how many
+ * messages, packets lost of a hundred, milliseconds from one end to the other, streams taken in turn, 1 where messages are
+ * interleaved, packets that the link keeps under way, further associations that are opened and left idle, and 1 where packets have
+ * their checksum. Time is virtual: what usrsctp asks of the clock is answered here. */
 #include <errno.h>
 #include <stdint.h>
 #include <stdio.h>
@@ -40,7 +40,7 @@ struct end {
 };
 
 struct plan {
-    uint64_t size, count, lost, delay, streams, interleaves, kept, idle;
+    uint64_t size, count, lost, delay, streams, interleaves, kept, idle, is_summed;
 };
 
 static struct plan plan;
@@ -262,7 +262,8 @@ static void open_pair(struct end *from, struct end *to)
 static void set_all(void)
 {
     usrsctp_init_nothreads(0, carry, NULL);
-    usrsctp_enable_crc32c_offload();
+    if (!plan.is_summed)
+        usrsctp_enable_crc32c_offload();
     usrsctp_sysctl_set_sctp_ecn_enable(0);
     usrsctp_sysctl_set_sctp_asconf_enable(0);
     usrsctp_sysctl_set_sctp_auto_asconf(0);
@@ -277,14 +278,14 @@ static void set_all(void)
 int main(int count, char **words)
 {
     uint64_t *numbers[] = {&plan.size,    &plan.count,       &plan.lost, &plan.delay,
-                           &plan.streams, &plan.interleaves, &plan.kept, &plan.idle};
+                           &plan.streams, &plan.interleaves, &plan.kept, &plan.idle, &plan.is_summed};
     struct end from, to;
     struct timespec start, end;
-    if (count != 9) {
-        fprintf(stderr, "eight numbers are asked for\n");
+    if (count != 10) {
+        fprintf(stderr, "nine numbers are asked for\n");
         return 1;
     }
-    for (int i = 0; i < 8; i++)
+    for (int i = 0; i < 9; i++)
         *numbers[i] = strtoull(words[i + 1], NULL, 10);
     unsigned char *payload = made(plan.size + 1);
     memset(payload, 7, plan.size);
