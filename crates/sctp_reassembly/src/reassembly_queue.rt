@@ -322,7 +322,6 @@ impl ReassemblyQueue {
     }
 
     /// Takes a forward point, but has its entries for the reset's streams wait.
-    #[tactic(auto, using(crate::proofs::ExtendsLemmas::extends_none, crate::proofs::ExtendsLemmas::extends_both, crate::proofs::ExtendsLemmas::saturating_sum_none, crate::proofs::ExtendsLemmas::counted_both, crate::proofs::InterruptedQueueLemmas::nothing_forwarded))]
     fn forward_in_parts(&mut self, number: u64, skipped: &[SkippedStream]) -> Result<(), AllocError>
         requires small { number < 2 ^ 63 }
         requires deferred { is_some self.old.deferred ≡ true }
@@ -440,7 +439,6 @@ impl ReassemblyQueue {
     }
 
     /// Takes all that waited, in order.
-    #[tactic(auto, using(crate::proofs::ExtendsLemmas::extends_none, crate::proofs::ExtendsLemmas::extends_both, crate::proofs::ExtendsLemmas::saturating_sum_none, crate::proofs::ExtendsLemmas::counted_both, crate::proofs::StandsLemmas::applies_begin))]
     fn apply_each(&mut self, mut waiting: VecDeque<Waiting>) -> Result<(), AllocError>
         requires room { queued_bytes self.old + sum_by waiting_bytes (map waiting_of waiting.items) < 2 ^ 64 }
         requires fragments { held_fragments self.old + sum_by waiting_fragments (map waiting_of waiting.items) < 2 ^ 64 }
