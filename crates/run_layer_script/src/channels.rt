@@ -6,11 +6,11 @@
 //! |---|---|
 //! | `message HEX` | what the message says, and the bytes that it is written as; or why it is refused |
 //! | `label SIZE` | whether an OPEN with a label of so many bytes can be written, and how long it is then |
-//! | `ppid NUMBER HEX` | what a payload under this PPID is, and what is handed out of it |
+//! | `ppid NUMBER` | what a payload under this PPID is |
 //! | `text HEX`, `binary HEX` | the PPID and the payload of a message of this kind |
 //! | `client COUNT LIMIT`, `server COUNT LIMIT` | an end without channels that has so many streams, and takes messages of so many bytes |
 //! | `streams COUNT` | it has so many from now on |
-//! | `open`, `negotiate ID`, `close ID`, `sent ID SIZE` | calls of its owner; the stream that was opened |
+//! | `open`, `negotiate ID`, `close ID` | calls of its owner; the stream that was opened |
 //! | `got ID PPID HEX`, `reset ID`, `performed ID`, `denied ID`, `buffered ID SIZE`, `end` | what the socket hands out: a message, a reset of the incoming stream, what became of one of the outgoing stream; the bytes that wait in it; the end of the association |
 //! | `show ID`, `list` | a channel; the streams that have one |
 
@@ -68,16 +68,10 @@ fn label(output: &mut Output, size: u32) {
     drop(open);
 }
 
-fn payload(output: &mut Output, ppid: u32, bytes: Vec<u8>) {
+fn payload(output: &mut Output, ppid: u32) {
     match PayloadProtocol::from_ppid(PpId(ppid)) {
-        Some(protocol) => {
-            let content = protocol.content(bytes);
-            writeln!(output, "{protocol:?} {}", Hex(&content));
-        }
-        None => {
-            drop(bytes);
-            output.push_str("none\n");
-        }
+        Some(protocol) => writeln!(output, "{protocol:?}"),
+        None => output.push_str("none\n"),
     }
 }
 
@@ -102,30 +96,17 @@ fn answer_bytes(output: &mut Output, name: &str, digits: &str) -> bool {
     true
 }
 
-fn answer_payload(output: &mut Output, ppid: u32, digits: &str) -> bool {
-    match bytes_of(digits, output) {
-        Some(bytes) => {
-            payload(output, ppid, bytes);
-            true
-        }
-        None => false,
-    }
-}
-
 /// Whether the line was a command over a number.
-fn answer_number(output: &mut Output, name: &str, words: &str) -> bool {
-    let (number, digits) = cut(words, ' ');
-    let Some(number) = parsed(number) else {
+fn answer_number(output: &mut Output, name: &str, word: &str) -> bool {
+    let Some(number) = parsed(word) else {
         return false;
     };
     match name {
-        "label" => {
-            label(output, number);
-            true
-        }
-        "ppid" => answer_payload(output, number, digits),
-        _ => false,
+        "label" => label(output, number),
+        "ppid" => payload(output, number),
+        _ => return false,
     }
+    true
 }
 
 /// Answers each line, at an end that begins without channels.

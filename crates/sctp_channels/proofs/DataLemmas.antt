@@ -34,14 +34,14 @@ left limit Text (b ∷ bytes) c r = ap (λ (is : Bool). take_if is (b ∷ bytes)
 left limit Binary [] c r = ap (λ (b : Bool). take_if b [] c) (fits limit [] c r)
 left limit Binary (b ∷ bytes) c r = ap (λ (is : Bool). take_if is (b ∷ bytes) c) (fits limit (b ∷ bytes) c r)
 
-pub handed_out_as_accepted : (limit stream : ℕ) (contents : List Content) (c : Channel) → c.parts ≡ [] → c.is_too_long ≡ false → All (IsShort limit) contents
-    → hands_out limit (map (sent_as stream) contents) c ≡ contents
-handed_out_as_accepted limit stream [] c parts long short = refl
-handed_out_as_accepted limit stream (m ∷ contents) c parts long short =
+pub handed_out_as_accepted : (limit : ℕ) (contents : List Content) (c : Channel) → c.parts ≡ [] → c.is_too_long ≡ false → All (IsShort limit) contents
+    → hands_out limit (map sent_as contents) c ≡ contents
+handed_out_as_accepted limit [] c parts long short = refl
+handed_out_as_accepted limit (m ∷ contents) c parts long short =
     let ready : IsReady limit m.bytes c = record { parts = parts; is_too_long = long; short = All-head (IsShort limit) m contents short } in
     let next = left limit m.kind m.bytes c ready in
-    ap (λ (r : Received). handed_out r (hands_out limit (map (sent_as stream) contents) (on_message limit (protocol_of (data_ppid m.kind m.bytes)) (data_payload m.bytes) c)))
+    ap (λ (r : Received). handed_out m.stream r (hands_out limit (map sent_as contents) (on_message limit (protocol_of (data_ppid m.kind m.bytes)) (data_payload m.bytes) c)))
     (handed limit m.kind m.bytes c ready)
     ∙ ap (λ (rest : List Content). m ∷ rest)
-    (handed_out_as_accepted limit stream contents (on_message limit (protocol_of (data_ppid m.kind m.bytes)) (data_payload m.bytes) c)
+    (handed_out_as_accepted limit contents (on_message limit (protocol_of (data_ppid m.kind m.bytes)) (data_payload m.bytes) c)
     (ap (λ (d : Channel). d.parts) next) (ap (λ (d : Channel). d.is_too_long) next ∙ long) (All-tail (IsShort limit) m contents short))

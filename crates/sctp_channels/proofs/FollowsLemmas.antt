@@ -1,5 +1,5 @@
 -- Channels that become others step by step, and what their owner is told meanwhile.
-use Rattle.std.proofs.Common.{◌≡◌, ◌⊎◌, inl, inr, Option, Some, ℕ, suc, ◌+◌, ◌<◌, List, [], ◌∷◌, ◌++◌, length, drop, get_or, map, add-one, drop-cons, refl, sym, ap, subst, ◌∙◌, arith}
+use Rattle.std.proofs.Common.{◌≡◌, Some, ℕ, suc, ◌+◌, ◌<◌, List, [], ◌∷◌, ◌++◌, length, drop, get_or, map, add-one, drop-cons, refl, sym, ap, subst, ◌∙◌, arith}
 use Rattle.std.proofs.lemmas.Grind.{flat_map-append}
 use Rattle.std.proofs.lemmas.List.{append-nil, append_assoc, map-append, nil_from_length}
 use Rattle.std.specs.List.{flat_map}
@@ -8,11 +8,8 @@ use Rattle.sctp_serial.specs.declared.api.StreamId.{StreamId}
 use Rattle.sctp_state.specs.Events as sockets
 use Rattle.sctp_state.specs.Events.{numbers_of}
 use Rattle.sctp_channels.specs.Channels as table
-use Rattle.sctp_channels.specs.Channels.{Channels, OnMessage, Output, emit, tell_message}
-use Rattle.sctp_channels.specs.Payload.{protocol_of}
+use Rattle.sctp_channels.specs.Channels.{Channels, Output, emit, tell_message}
 use Rattle.sctp_channels.specs.declared.payload.PayloadKind.{PayloadKind}
-use Rattle.sctp_channels.specs.declared.payload.PayloadProtocol.{PayloadProtocol}
-use Rattle.sctp_channels.specs.declared.payload.PayloadProtocol.TheVariants.{Data}
 use Rattle.sctp_channels.specs.declared.event.ChannelEvent.{ChannelEvent}
 use Rattle.sctp_channels.specs.Steps.{DataChannels, Does, Event, Follows, Gets, Runs, StaysTold, Step, acknowledged_by, answers, buffers, carries_out, closed_by, counts, each, event_of, gets, heard, hears, is_low, of_channels, of_socket, passed_on, passes_on, refuses, told_by, with_channels, with_outputs}
 
@@ -176,18 +173,6 @@ done_at_once id kind bytes d e none is =
     ∙ ap (λ (os : List Output). with_told (record d.channels { outputs = os }) d (d.events ++ of_channels o ∷ []) d.unanswered) none
     ∙ ap (λ (waiting : List ℕ). with_told (record d.channels { outputs = [] }) d (d.events ++ of_channels o ∷ []) waiting) (sym (append-nil d.unanswered))
     ∙ ap (λ (os : List Output). with_told (record d.channels { outputs = [] }) d (d.events ++ flat_map told_by (os ++ o ∷ [])) (d.unanswered ++ flat_map acknowledged_by (os ++ o ∷ []))) (sym none)
-
--- data of a channel: its row, and what is to be done maybe
-pub follows_data : (id ppid : ℕ) (kind : PayloadKind) (payload : List ℕ) (d e : DataChannels) → Some (Data kind) ≡ protocol_of ppid
-    → (e ≡ with_channels (table.on_payload id (Data kind) payload d.channels) d) ⊎ (e ≡ with_outputs (with_channels (table.on_payload id (Data kind) payload d.channels) d)) → Follows d e
-follows_data id ppid kind payload d e is done =
-    let cs = table.on_payload id (Data kind) payload d.channels in
-    let m : Message = record { stream = id; ppid = ppid; payload = payload } in
-    let got : Follows d (with_channels cs d) = follows_gets m d (with_channels cs d) (record { channels = cs; row = subst (λ (o : Option PayloadProtocol). OnMessage o id payload d.channels cs) is refl; done = refl }) in
-    elim done [
-      | inl same ↦ subst (Follows d) (sym same) got
-      | inr carried ↦ follows_then d (with_channels cs d) e got (follows_carried (with_channels cs d) e carried)
-    ]
 
 pub told_of_outputs : (o : Output) (d e : DataChannels) → d ≡ with_channels (record e.channels { outputs = o ∷ e.channels.outputs }) e → StaysTold d (with_output o e)
 told_of_outputs o d e is = record { more = told_by o; events = ap (λ (x : DataChannels). x.events ++ told_by o) (sym is) }

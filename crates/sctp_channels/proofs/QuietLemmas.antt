@@ -9,13 +9,15 @@ use Rattle.std.proofs.lemmas.Grind.{flat_map-append}
 use Rattle.std.proofs.lemmas.List.{append-nil}
 use Rattle.std.proofs.lemmas.List.Elements.{All-nil}
 use Rattle.std.proofs.lemmas.Map.Views.{All-map-remove_entry, All-values-insert_entry, All-values-set_value, IfSome-lookup_from_All}
-use Rattle.sctp_channels.specs.Channel.{Channel, new_channel, reset_incoming, with_lifecycle}
-use Rattle.sctp_channels.specs.Channels.{Channels, Output, acknowledge, change, close, close_one, confirm_from, confirm_one, denied_from, deny_one, drain, drain_from, drain_one, emit, end, finish_one, is_denied, is_own, is_shown, no_description, on_ack, on_establishment, on_incoming_reset, on_open, on_reset_denied, on_reset_performed, open_from, reopen_if, reset, settle_from, shown_streams, take_open, tell_closed, tell_end, tell_opened, tell_refused, turn_down, turn_down_from, with_entries}
+use Rattle.sctp_channels.specs.Channel.{Channel, change_lifecycle, new_channel, reset_incoming, with_lifecycle}
+use Rattle.sctp_channels.specs.Channels.{Channels, Output, acknowledge, change, close, denied, drain, emit, end, is_denied, is_own, is_shown, no_description, on_ack, on_establishment, on_incoming_reset, on_open, on_reset_denied, on_reset_performed, open_from, reopen_if, reset, settle, shown_streams, take_open, tell_closed, tell_end, tell_opened, tell_refused, turn_down, turn_down_from, where_there, with_entries}
 use Rattle.sctp_channels.specs.Steps.{each}
+use Rattle.sctp_channels.proofs.StandsLemmas.{confirm_from}
 use Rattle.sctp_channels.specs.Entries.{Entries, channel_at, changed_from, forget, put}
 use Rattle.sctp_channels.specs.Lifecycle as life
 use Rattle.sctp_channels.specs.Message.{Establishment, Open, opens, acknowledges}
-use Rattle.sctp_channels.specs.TwoEnds.{AreWhole, Content, HasNoParts, message_in}
+use Rattle.sctp_channels.specs.TwoEnds.{AreWhole, HasNoParts, message_in}
+use Rattle.sctp_channels.specs.Runs.{Content}
 use Rattle.sctp_channels.specs.declared.lifecycle.Lifecycle.{Lifecycle}
 use Rattle.sctp_channels.specs.declared.output.Refusal.{Refusal}
 use Rattle.sctp_channels.specs.declared.output.Refusal.TheVariants.{NoSuchStream, StreamInUse, WrongParity}
@@ -78,7 +80,7 @@ keeps_parts l c h = record { parts = h.parts; is_whole = h.is_whole }
 -- ---- rows
 
 pub closes : (id : ℕ) (cs : Channels) → IsQuiet cs (close id cs)
-closes id cs = changes close_one id cs (λ c h. keeps_parts (life.close c.lifecycle) c h)
+closes id cs = changes (change_lifecycle life.close) id cs (λ c h. keeps_parts (life.close c.lifecycle) c h)
 
 turns_down_from : (o : Option Channel) (id : ℕ) (why : Refusal) (cs : Channels) → IsQuiet cs (turn_down_from o id why cs)
 turns_down_from None id why cs =
@@ -101,7 +103,7 @@ reopens_if true id description cs =
 reopens_if false id description cs = turns_down id StreamInUse cs
 
 opens_from : (o : Option Channel) (id : ℕ) (description : Open) (cs : Channels) → IsQuiet cs (open_from o id description cs)
-opens_from None id description cs = takes_open id description life.accepted cs
+opens_from None id description cs = takes_open id description life.negotiated cs
 opens_from (Some c) id description cs = reopens_if (life.may_reopen c.lifecycle) id description cs
 
 on_opening : (id : ℕ) (description : Open) (cs : Channels) → IsQuiet cs (on_open id description cs)
@@ -111,14 +113,14 @@ on_opening id description cs =
     (either (is_own cs.is_client id) cs (turn_down id WrongParity cs) (open_from (channel_at id cs.entries) id description cs) (turns_down id WrongParity cs)
     (opens_from (channel_at id cs.entries) id description cs))
 
-confirms : (id : ℕ) (cs : Channels) → IsQuiet cs (emit (tell_opened id) (change confirm_one id cs))
+confirms : (id : ℕ) (cs : Channels) → IsQuiet cs (emit (tell_opened id) (change (change_lifecycle life.confirm) id cs))
 confirms id cs =
-    and_then cs (change confirm_one id cs) (emit (tell_opened id) (change confirm_one id cs)) (changes confirm_one id cs (λ c h. keeps_parts (life.confirm c.lifecycle) c h))
-    (emits (tell_opened id) (change confirm_one id cs) refl)
+    and_then cs (change (change_lifecycle life.confirm) id cs) (emit (tell_opened id) (change (change_lifecycle life.confirm) id cs)) (changes (change_lifecycle life.confirm) id cs (λ c h. keeps_parts (life.confirm c.lifecycle) c h))
+    (emits (tell_opened id) (change (change_lifecycle life.confirm) id cs) refl)
 
 confirms_from : (o : Option Channel) (id : ℕ) (cs : Channels) → IsQuiet cs (confirm_from o id cs)
 confirms_from None id cs = same cs
-confirms_from (Some c) id cs = either (life.is_connecting c.lifecycle) cs (emit (tell_opened id) (change confirm_one id cs)) cs (confirms id cs) (same cs)
+confirms_from (Some c) id cs = either (life.is_connecting c.lifecycle) cs (emit (tell_opened id) (change (change_lifecycle life.confirm) id cs)) cs (confirms id cs) (same cs)
 
 pub acknowledged : (id : ℕ) (cs : Channels) → IsQuiet cs (on_ack id cs)
 acknowledged id cs = confirms_from (channel_at id cs.entries) id cs
@@ -129,6 +131,9 @@ establishes id acknowledges cs = acknowledged id cs
 
 tells_end : (l : Lifecycle) (id : ℕ) (cs : Channels) → IsQuiet cs (tell_end l id cs)
 tells_end l id cs = either (is_shown l) cs (emit (tell_closed id) cs) cs (emits (tell_closed id) cs refl) (same cs)
+
+abbrev settle_from : Option Channel → (Channel → Channel) → ℕ → Channels → Channels
+settle_from o f id cs = where_there o (λ c. settle f c id cs) cs
 
 settles_from : (o : Option Channel) (f : Channel → Channel) (id : ℕ) (cs : Channels) → ((c : Channel) → HasNoParts c → HasNoParts (f c)) → IsQuiet cs (settle_from o f id cs)
 settles_from None f id cs keeps = same cs
@@ -141,24 +146,31 @@ pub resets : (id : ℕ) (cs : Channels) → IsQuiet cs (on_incoming_reset id cs)
 resets id cs = settles_from (channel_at id cs.entries) reset_incoming id cs (λ c h. record { parts = refl; is_whole = refl })
 
 pub performs : (id : ℕ) (cs : Channels) → IsQuiet cs (on_reset_performed id cs)
-performs id cs = settles_from (channel_at id cs.entries) finish_one id cs (λ c h. keeps_parts (life.finish c.lifecycle) c h)
+performs id cs = settles_from (channel_at id cs.entries) (change_lifecycle life.finish) id cs (λ c h. keeps_parts (life.finish c.lifecycle) c h)
+
+abbrev denied_from : Option Channel → ℕ → Channels → Channels
+denied_from o id cs = where_there o (λ c. denied c id (change (change_lifecycle life.deny) id cs)) cs
 
 denies_from : (o : Option Channel) (id : ℕ) (cs : Channels) → IsQuiet cs (denied_from o id cs)
 denies_from None id cs = same cs
 denies_from (Some c) id cs =
-    let less = change deny_one id cs in
-    let quiet = changes deny_one id cs (λ x h. keeps_parts (life.deny x.lifecycle) x h) in
-    either (is_denied (deny_one c).lifecycle.outgoing) cs (tell_end c.lifecycle id less) less (and_then cs less (tell_end c.lifecycle id less) quiet (tells_end c.lifecycle id less)) quiet
+    let less = change (change_lifecycle life.deny) id cs in
+    let quiet = changes (change_lifecycle life.deny) id cs (λ x h. keeps_parts (life.deny x.lifecycle) x h) in
+    either (is_denied (life.deny c.lifecycle).outgoing) cs (tell_end c.lifecycle id less) less (and_then cs less (tell_end c.lifecycle id less) quiet (tells_end c.lifecycle id less)) quiet
 
 pub denies : (id : ℕ) (cs : Channels) → IsQuiet cs (on_reset_denied id cs)
 denies id cs = denies_from (channel_at id cs.entries) id cs
 
+abbrev drain_from : Option Channel → (id buffered : ℕ) → Channels → Channels
+drain_from o id buffered cs =
+    where_there o (λ c. cond (life.asks_for_reset buffered c.lifecycle) (emit (reset id) (change (change_lifecycle (life.drain buffered)) id cs)) cs) cs
+
 drains_from : (o : Option Channel) (id buffered : ℕ) (cs : Channels) → IsQuiet cs (drain_from o id buffered cs)
 drains_from None id buffered cs = same cs
 drains_from (Some c) id buffered cs =
-    let less = change (drain_one buffered) id cs in
+    let less = change (change_lifecycle (life.drain buffered)) id cs in
     either (life.asks_for_reset buffered c.lifecycle) cs (emit (reset id) less) cs
-    (and_then cs less (emit (reset id) less) (changes (drain_one buffered) id cs (λ x h. keeps_parts (life.drain buffered x.lifecycle) x h)) (emits (reset id) less refl)) (same cs)
+    (and_then cs less (emit (reset id) less) (changes (change_lifecycle (life.drain buffered)) id cs (λ x h. keeps_parts (life.drain buffered x.lifecycle) x h)) (emits (reset id) less refl)) (same cs)
 
 pub drains : (id buffered : ℕ) (cs : Channels) → IsQuiet cs (drain id buffered cs)
 drains id buffered cs = drains_from (channel_at id cs.entries) id buffered cs

@@ -1,13 +1,19 @@
 -- What stands where memory ran out between two steps.
-use Rattle.std.proofs.Common.{◌≡◌, ℕ, cond, Bool, true, false, Option, None, Some, List, [], ◌∷◌, ◌++◌, refl, sym, ap, subst, ◌∙◌}
-use Rattle.std.proofs.lemmas.List.{append-nil, append_assoc}
+use Rattle.std.proofs.Common.{◌≡◌, ℕ, cond, Bool, true, false, Option, None, Some, List, [], ◌∷◌, ◌++◌, map, refl, sym, ap, subst, ◌∙◌}
+use Rattle.std.proofs.lemmas.List.{append-nil, append_assoc, map-append}
 use Rattle.std.proofs.lemmas.Map.{keys-set_value}
+use Rattle.std.proofs.lemmas.Map.Steps.{set_value_same}
 use Rattle.std.specs.BTreeMap.{is_at}
-use Rattle.std.specs.Map.{keys_of}
+use Rattle.std.specs.Map.{keys_of, set_value}
 use Rattle.std.specs.Ordering.{nat_cmp}
-use Rattle.sctp_channels.specs.Channel.{Channel}
-use Rattle.sctp_channels.specs.Lifecycle.{is_connecting}
-use Rattle.sctp_channels.specs.Channels.{Channels, Output, Stands, change, confirm_from, confirm_one, emit, on_ack, tell_opened}
+use Rattle.sctp_channels.specs.Channel.{Channel, change_lifecycle, on_data, received}
+use Rattle.sctp_channels.specs.Lifecycle.{confirm, is_connecting, takes_data}
+use Rattle.sctp_channels.specs.Channels.{Channels, Output, Stands, change, data_from, deliver, emit, hand, on_ack, output_of, tell_closed, tell_opened, tell_refused, where_there}
+use Rattle.sctp_channels.specs.declared.payload.PayloadProtocol.{PayloadProtocol}
+use Rattle.sctp_channels.specs.declared.output.Refusal.TheVariants.{NoChannel}
+use Rattle.sctp_channels.specs.declared.output.Output as given
+use Rattle.sctp_channels.specs.declared.output.Output.TheVariants as outputs
+use Rattle.sctp_serial.specs.declared.api.StreamId.{StreamId}
 use Rattle.sctp_channels.specs.Entries.{Entries, channel_at, changed, changed_from}
 
 keys_changed_from : (o : Option Channel) (f : Channel → Channel) (id : ℕ) (es : Entries) → keys_of (changed_from o f id es) ≡ keys_of es
@@ -20,9 +26,12 @@ keys_changed f id es = keys_changed_from (channel_at id es) f id es
 same : (cs : Channels) → Stands cs cs
 same cs = record { more = []; outputs = sym (append-nil cs.outputs); streams = refl }
 
-opened_if : (b : Bool) (id : ℕ) (cs : Channels) → Stands cs (cond b (emit (tell_opened id) (change confirm_one id cs)) cs)
-opened_if true id cs = record { more = tell_opened id ∷ []; outputs = refl; streams = keys_changed confirm_one id cs.entries }
+opened_if : (b : Bool) (id : ℕ) (cs : Channels) → Stands cs (cond b (emit (tell_opened id) (change (change_lifecycle confirm) id cs)) cs)
+opened_if true id cs = record { more = tell_opened id ∷ []; outputs = refl; streams = keys_changed (change_lifecycle confirm) id cs.entries }
 opened_if false id cs = same cs
+
+abbrev pub confirm_from : Option Channel → ℕ → Channels → Channels
+confirm_from o id cs = where_there o (λ c. cond (is_connecting c.lifecycle) (emit (tell_opened id) (change (change_lifecycle confirm) id cs)) cs) cs
 
 confirmed_from : (o : Option Channel) (id : ℕ) (cs : Channels) → Stands cs (confirm_from o id cs)
 confirmed_from None id cs = same cs
@@ -47,3 +56,28 @@ stands_told o old new is = subst (Stands old) (sym is) (record { more = o ∷ []
 
 pub stands_changed : (f : Channel → Channel) (id : ℕ) (old new : Channels) → new ≡ change f id old → Stands old new
 stands_changed f id old new is = subst (Stands old) (sym is) (record { more = []; outputs = sym (append-nil old.outputs); streams = keys_changed f id old.entries })
+
+-- a channel that is written back as it was
+pub unchanged : (id : ℕ) (c d : Channel) (es fs : Entries) → fs ≡ set_value (is_at (nat_cmp id)) es d → Some c ≡ channel_at id es → d ≡ c → fs ≡ es
+unchanged id c d es fs is found same = is ∙ ap (λ (it : Channel). set_value (is_at (nat_cmp id)) es it) same ∙ set_value_same (is_at (nat_cmp id)) es c (sym found)
+
+abbrev pub made_of : Bool → (stream_count limit : ℕ) → List Output → Entries → Channels
+made_of is_client stream_count limit outputs es = record { is_client = is_client; stream_count = stream_count; limit = limit; entries = es; outputs = outputs }
+
+-- one that is told to be closed
+pub told_closed : (os new : List given.Output) (id : StreamId) (told : List Output) → new ≡ os ++ outputs.Closed id ∷ [] → map output_of new ++ told ≡ map output_of os ++ tell_closed id.0 ∷ told
+told_closed os new id told is =
+    ap (λ (xs : List given.Output). map output_of xs ++ told) is
+    ∙ ap (λ (xs : List Output). xs ++ told) (map-append output_of os (outputs.Closed id ∷ []))
+    ∙ append_assoc (map output_of os) (tell_closed id.0 ∷ []) told
+
+not_taken_if : (takes : Bool) (id : ℕ) (protocol : PayloadProtocol) (payload : List ℕ) (c : Channel) (cs : Channels) → takes ≡ false
+    → emit (tell_refused id NoChannel) cs ≡ cond takes (hand (received cs.limit protocol payload c) id (change (on_data cs.limit protocol payload) id cs)) (emit (tell_refused id NoChannel) cs)
+not_taken_if true id protocol payload c cs is = cc
+not_taken_if false id protocol payload c cs is = refl
+
+-- data on a stream whose channel takes none
+pub not_taken : (id : ℕ) (protocol : PayloadProtocol) (payload : List ℕ) (c : Channel) (cs : Channels) → Some c ≡ channel_at id cs.entries → takes_data c.lifecycle ≡ false
+    → emit (tell_refused id NoChannel) cs ≡ deliver id protocol payload cs
+not_taken id protocol payload c cs found is =
+    not_taken_if (takes_data c.lifecycle) id protocol payload c cs is ∙ ap (λ (o : Option Channel). data_from o id protocol payload cs) found

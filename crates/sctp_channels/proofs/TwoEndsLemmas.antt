@@ -14,7 +14,8 @@ use Rattle.sctp_channels.specs.Steps.{DataChannels, Does, Event, Gets, PassesOn,
 use Rattle.sctp_channels.specs.Entries.{channel_at}
 use Rattle.sctp_channels.specs.Lifecycle.{takes_data}
 use Rattle.sctp_channels.specs.Payload.{data_payload, data_ppid, protocol_of}
-use Rattle.sctp_channels.specs.TwoEnds.{AreAccepted, AreWhole, Content, HasNoParts, IsShort, Offer, WhatIsToldWasAccepted, chosen, content_of, contents_at, got_by, message_in, of_opening, of_owner, offered_as, to_tell, told_in}
+use Rattle.sctp_channels.specs.Runs.{Content}
+use Rattle.sctp_channels.specs.TwoEnds.{AreAccepted, AreWhole, HasNoParts, IsShort, Offer, WhatIsToldWasAccepted, chosen, content_of, contents_at, got_by, message_in, of_opening, of_owner, offered_as, to_tell, told_in}
 use Rattle.sctp_channels.specs.declared.output.Refusal.TheVariants.{NoChannel}
 use Rattle.sctp_channels.specs.declared.payload.PayloadKind.{PayloadKind}
 use Rattle.sctp_channels.specs.declared.payload.PayloadKind.TheVariants.{Text, Binary}

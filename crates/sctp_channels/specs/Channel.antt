@@ -40,6 +40,10 @@ new_channel l description = record { lifecycle = l; description = description; p
 abbrev pub with_lifecycle : Lifecycle → Channel → Channel
 with_lifecycle l c = record c { lifecycle = l }
 
+-- what f makes of its lifecycle
+abbrev pub change_lifecycle : (Lifecycle → Lifecycle) → Channel → Channel
+change_lifecycle f c = with_lifecycle (f c.lifecycle) c
+
 -- the next message may overtake others: never before an answer came
 abbrev pub goes_unordered : Channel → Bool
 goes_unordered c = c.description.unordered && not (is_connecting c.lifecycle)
@@ -52,17 +56,13 @@ abbrev pub count_received : ℕ → Channel → Channel
 count_received size c =
     record c { statistics = record c.statistics { messages_received = plus c.statistics.messages_received 1; bytes_received = plus c.statistics.bytes_received size } }
 
-abbrev pub count_if : Bool → ℕ → Channel → Channel
-count_if true size c = count_received size c
-count_if false size c = c
-
--- a message of so many bytes is handed out as it came
-abbrev pub takes_whole : (limit size : ℕ) → Channel → Bool
-takes_whole limit size c = not (is_connecting c.lifecycle) && (takes_data c.lifecycle && (not c.is_too_long && ((length c.parts == 0) && nat_le size limit)))
-
 -- with so many bytes more the message is longer than it may be
 abbrev pub exceeds : (limit size : ℕ) → Channel → Bool
 exceeds limit size c = c.is_too_long || nat_lt limit (length c.parts + size)
+
+-- a message of so many bytes is handed out as it came: both ends have the channel, no part waits in front of it, and it isn't too long
+abbrev pub takes_whole : (limit size : ℕ) → Channel → Bool
+takes_whole limit size c = not (is_connecting c.lifecycle) && (takes_data c.lifecycle && (not c.is_too_long && ((length c.parts == 0) && nat_le size limit)))
 
 abbrev pub with_parts : List ℕ → Bool → Channel → Channel
 with_parts parts is_too_long c = record c { parts = parts; is_too_long = is_too_long }
@@ -104,4 +104,4 @@ received limit _ payload c = nothing
 
 -- the peer has reset its outgoing stream: no further part comes
 abbrev pub reset_incoming : Channel → Channel
-reset_incoming c = with_parts [] false (with_lifecycle (stop_incoming c.lifecycle) c)
+reset_incoming c = with_parts [] false (change_lifecycle stop_incoming c)

@@ -9,7 +9,7 @@ use Rattle.sctp_channels.specs.declared.payload.PayloadProtocol.{PayloadProtocol
 use Rattle.sctp_channels.specs.declared.payload.PayloadProtocol.TheVariants.{Control}
 use Rattle.sctp_channels.specs.declared.reliability.Reliability.TheVariants.{Reliable}
 use Rattle.sctp_channels.specs.Message.{Establishment, Open, RefusedAs, Says, opens, acknowledges}
-use Rattle.sctp_channels.specs.Channel.{Channel, Received, count_sent, message, new_channel, nothing, on_data, received, reset_incoming, takes_whole, too_long, with_lifecycle}
+use Rattle.sctp_channels.specs.Channel.{Channel, Received, change_lifecycle, count_sent, message, new_channel, nothing, on_data, received, reset_incoming, too_long}
 use Rattle.sctp_channels.specs.Lifecycle as life
 use Rattle.sctp_channels.specs.declared.lifecycle.Lifecycle.{Lifecycle}
 use Rattle.sctp_channels.specs.declared.lifecycle.Outgoing.{Outgoing}
@@ -62,6 +62,11 @@ with_entries es cs = record cs { entries = es }
 abbrev pub change : (Channel → Channel) → ℕ → Channels → Channels
 change f id cs = with_entries (changed f id cs.entries) cs
 
+-- what is made of them where the stream has a channel
+abbrev pub where_there : Option Channel → (Channel → Channels) → Channels → Channels
+where_there None row cs = cs
+where_there (Some c) row cs = row c
+
 -- the client opens even streams, the server odd ones
 abbrev pub is_own : Bool → ℕ → Bool
 is_own true id = id % 2 == 0
@@ -77,11 +82,8 @@ open_own id description cs = with_entries (put id (new_channel life.opened descr
 abbrev pub negotiate : ℕ → Open → Channels → Channels
 negotiate id description cs = with_entries (put id (new_channel life.negotiated description) cs.entries) cs
 
-abbrev pub close_one : Channel → Channel
-close_one c = with_lifecycle (life.close c.lifecycle) c
-
 abbrev pub close : ℕ → Channels → Channels
-close id cs = change close_one id cs
+close id cs = change (change_lifecycle life.close) id cs
 
 -- the socket has accepted a message of so many bytes
 abbrev pub sent : ℕ → ℕ → Channels → Channels
@@ -113,7 +115,7 @@ reopen_if true id description cs = take_open id description life.reopened (emit 
 reopen_if false id description cs = turn_down id StreamInUse cs
 
 abbrev pub open_from : Option Channel → ℕ → Open → Channels → Channels
-open_from None id description cs = take_open id description life.accepted cs
+open_from None id description cs = take_open id description life.negotiated cs
 open_from (Some c) id description cs = reopen_if (life.may_reopen c.lifecycle) id description cs
 
 -- the peer opens a channel: on a stream of its own parity that there is
@@ -122,16 +124,10 @@ on_open id description cs =
     cond (nat_le cs.stream_count id) (emit (tell_refused id NoSuchStream) cs)
     (cond (is_own cs.is_client id) (turn_down id WrongParity cs) (open_from (channel_at id cs.entries) id description cs))
 
-abbrev pub confirm_one : Channel → Channel
-confirm_one c = with_lifecycle (life.confirm c.lifecycle) c
-
-abbrev pub confirm_from : Option Channel → ℕ → Channels → Channels
-confirm_from None id cs = cs
-confirm_from (Some c) id cs = cond (life.is_connecting c.lifecycle) (emit (tell_opened id) (change confirm_one id cs)) cs
-
 -- an answer, or a message, that says that the peer has the channel
 abbrev pub on_ack : ℕ → Channels → Channels
-on_ack id cs = confirm_from (channel_at id cs.entries) id cs
+on_ack id cs =
+    where_there (channel_at id cs.entries) (λ c. cond (life.is_connecting c.lifecycle) (emit (tell_opened id) (change (change_lifecycle life.confirm) id cs)) cs) cs
 
 -- ---- data
 
@@ -147,15 +143,6 @@ data_from (Some c) id protocol payload cs =
 
 abbrev pub deliver : ℕ → PayloadProtocol → List ℕ → Channels → Channels
 deliver id protocol payload cs = data_from (channel_at id cs.entries) id protocol payload cs
-
--- what becomes of data on a stream
-abbrev pub received_on : Option Channel → ℕ → PayloadProtocol → List ℕ → Received
-received_on None limit protocol payload = nothing
-received_on (Some c) limit protocol payload = received limit protocol payload c
-
-abbrev pub is_whole_at : Option Channel → (limit size : ℕ) → Bool
-is_whole_at None limit size = false
-is_whole_at (Some c) limit size = takes_whole limit size c
 
 abbrev pub on_payload : ℕ → PayloadProtocol → List ℕ → Channels → Channels
 on_payload id protocol payload cs = deliver id protocol payload (on_ack id cs)
@@ -177,42 +164,25 @@ tell_end l id cs = cond (is_shown l) (emit (tell_closed id) cs) cs
 abbrev pub settle : (Channel → Channel) → Channel → ℕ → Channels → Channels
 settle f c id cs = cond (life.is_over (f c).lifecycle) (tell_end (f c).lifecycle id (with_entries (forget id cs.entries) cs)) (change f id cs)
 
-abbrev pub settle_from : Option Channel → (Channel → Channel) → ℕ → Channels → Channels
-settle_from None f id cs = cs
-settle_from (Some c) f id cs = settle f c id cs
-
 -- the peer has reset its outgoing stream
 abbrev pub on_incoming_reset : ℕ → Channels → Channels
-on_incoming_reset id cs = settle_from (channel_at id cs.entries) reset_incoming id cs
-
-abbrev pub finish_one : Channel → Channel
-finish_one c = with_lifecycle (life.finish c.lifecycle) c
+on_incoming_reset id cs = where_there (channel_at id cs.entries) (λ c. settle reset_incoming c id cs) cs
 
 -- the peer has performed a reset
 abbrev pub on_reset_performed : ℕ → Channels → Channels
-on_reset_performed id cs = settle_from (channel_at id cs.entries) finish_one id cs
+on_reset_performed id cs = where_there (channel_at id cs.entries) (λ c. settle (change_lifecycle life.finish) c id cs) cs
 
-abbrev pub deny_one : Channel → Channel
-deny_one c = with_lifecycle (life.deny c.lifecycle) c
-
-abbrev pub denied_from : Option Channel → ℕ → Channels → Channels
-denied_from None id cs = cs
-denied_from (Some c) id cs = cond (is_denied (deny_one c).lifecycle.outgoing) (tell_end c.lifecycle id (change deny_one id cs)) (change deny_one id cs)
+abbrev pub denied : Channel → ℕ → Channels → Channels
+denied c id cs = cond (is_denied (life.deny c.lifecycle).outgoing) (tell_end c.lifecycle id cs) cs
 
 -- a reset was refused: the channel is closed, and its stream stays in use
 abbrev pub on_reset_denied : ℕ → Channels → Channels
-on_reset_denied id cs = denied_from (channel_at id cs.entries) id cs
-
-abbrev pub drain_one : ℕ → Channel → Channel
-drain_one buffered c = with_lifecycle (life.drain buffered c.lifecycle) c
-
-abbrev pub drain_from : Option Channel → ℕ → ℕ → Channels → Channels
-drain_from None id buffered cs = cs
-drain_from (Some c) id buffered cs = cond (life.asks_for_reset buffered c.lifecycle) (emit (reset id) (change (drain_one buffered) id cs)) cs
+on_reset_denied id cs = where_there (channel_at id cs.entries) (λ c. denied c id (change (change_lifecycle life.deny) id cs)) cs
 
 -- so many bytes of the stream wait in the socket
 abbrev pub drain : ℕ → ℕ → Channels → Channels
-drain id buffered cs = drain_from (channel_at id cs.entries) id buffered cs
+drain id buffered cs =
+    where_there (channel_at id cs.entries) (λ c. cond (life.asks_for_reset buffered c.lifecycle) (emit (reset id) (change (change_lifecycle (life.drain buffered)) id cs)) cs) cs
 
 -- ---- a message of SCTP
 

@@ -9,7 +9,7 @@ use Rattle.sctp_channels.specs.declared.lifecycle.Outgoing.TheVariants.{Sending,
 
 -- ---- how it begins
 
--- agreed on beforehand
+-- agreed on beforehand, or opened by the peer and answered
 abbrev pub negotiated : Lifecycle
 negotiated = record { opening = Established; outgoing = Sending; is_incoming_reset = false; awaits_answer = false }
 
@@ -17,15 +17,11 @@ negotiated = record { opening = Established; outgoing = Sending; is_incoming_res
 abbrev pub opened : Lifecycle
 opened = record negotiated { opening = Connecting }
 
--- this end has answered an OPEN by ACK
-abbrev pub accepted : Lifecycle
-accepted = negotiated
-
 -- this end doesn't take what was opened
 abbrev pub refused : Lifecycle
 refused = record negotiated { opening = Refused; outgoing = Draining }
 
--- as accepted, while the reset of the channel before is unanswered
+-- opened by the peer and answered, while the reset of the channel before is unanswered
 abbrev pub reopened : Lifecycle
 reopened = record negotiated { awaits_answer = true }
 

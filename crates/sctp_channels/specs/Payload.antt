@@ -11,12 +11,7 @@ abbrev pub protocol_of : ℕ → Option PayloadProtocol
 protocol_of n = cond (n == 50) (Some Control) (cond (n == 51) (Some (Data Text)) (cond (n == 52) (Some (Part Binary)) (cond (n == 53) (Some (Data Binary))
     (cond (n == 54) (Some (Part Text)) (cond (n == 56) (Some (Empty Text)) (cond (n == 57) (Some (Empty Binary)) None))))))
 
--- the byte of an empty message isn't handed out
-abbrev pub content : PayloadProtocol → List ℕ → List ℕ
-content (Empty kind) payload = []
-content _ payload = payload
-
--- what is handed out of a message that came whole
+-- what is handed out of a message that came whole; the byte of an empty one isn't
 abbrev pub handed_out : Option PayloadProtocol → List ℕ → Option (PayloadKind × List ℕ)
 handed_out (Some (Data kind)) payload = Some (kind, payload)
 handed_out (Some (Empty kind)) payload = Some (kind, [])

@@ -57,6 +57,7 @@ has is (a ∷ acts) = is a || has is acts
 -- ---- data: messages of the owner of one end, as they come at the other
 
 pub record Content : Type 0 where
+  pub stream : ℕ
   pub kind : PayloadKind
   pub bytes : List ℕ
 
@@ -64,12 +65,12 @@ pub record Content : Type 0 where
 abbrev pub IsShort : ℕ → Content → Type 0
 IsShort limit m = length m.bytes ≤ limit
 
-abbrev pub sent_as : ℕ → Content → Message
-sent_as stream m = data_message stream m.kind m.bytes
+abbrev pub sent_as : Content → Message
+sent_as m = data_message m.stream m.kind m.bytes
 
-abbrev pub handed_out : Received → List Content → List Content
-handed_out (message kind bytes) rest = record { kind = kind; bytes = bytes } ∷ rest
-handed_out _ rest = rest
+abbrev pub handed_out : (stream : ℕ) → Received → List Content → List Content
+handed_out stream (message kind bytes) rest = record { stream = stream; kind = kind; bytes = bytes } ∷ rest
+handed_out stream _ rest = rest
 
 abbrev pub on_message : ℕ → Option PayloadProtocol → List ℕ → Channel → Channel
 on_message limit (Some protocol) payload c = on_data limit protocol payload c
@@ -83,4 +84,4 @@ received_from limit None payload c = nothing
 abbrev pub hands_out : ℕ → List Message → Channel → List Content
 hands_out limit [] c = []
 hands_out limit (m ∷ messages) c =
-    handed_out (received_from limit (protocol_of m.ppid) m.payload c) (hands_out limit messages (on_message limit (protocol_of m.ppid) m.payload c))
+    handed_out m.stream (received_from limit (protocol_of m.ppid) m.payload c) (hands_out limit messages (on_message limit (protocol_of m.ppid) m.payload c))

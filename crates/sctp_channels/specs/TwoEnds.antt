@@ -6,22 +6,16 @@ use Rattle.sctp_serial.specs.Messages.{Message}
 use Rattle.sctp_channels.specs.Channel.{Channel}
 use Rattle.sctp_channels.specs.Channels.{Channels, Output, tell_message}
 use Rattle.sctp_channels.specs.Steps.{DataChannels, Event, Runs, Step, gets, of_channels}
-use Rattle.sctp_channels.specs.Payload.{data_message}
-use Rattle.sctp_channels.specs.declared.payload.PayloadKind.{PayloadKind}
+use Rattle.sctp_channels.specs.Runs.{Content, sent_as}
 
 -- ---- what one end accepts: a message of its owner on a channel, or one that opens a channel or answers
-
-pub record Content : Type 0 where
-  pub stream : ℕ
-  pub kind : PayloadKind
-  pub bytes : List ℕ
 
 pub data Offer : Type 0 where
   of_owner : (m : Content) → Offer
   of_opening : (stream : ℕ) (payload : List ℕ) → Offer
 
 abbrev pub offered_as : Offer → Message
-offered_as (of_owner m) = data_message m.stream m.kind m.bytes
+offered_as (of_owner m) = sent_as m
 offered_as (of_opening stream payload) = record { stream = stream; ppid = 50; payload = payload }
 
 -- a message of the owner is no longer than the other end takes

@@ -1,12 +1,12 @@
 //! A channel: what it is, its lifecycle, and the data that came.
 
-ghost use Rattle.std.specs.Prelude.{◌≡◌, [], ◌++◌, length, option_map, true, None, IfOk, OnOk, OnErr};
+ghost use Rattle.std.specs.Prelude.{◌≡◌, [], ◌++◌, length, option_map, true, IsTrue, IsFalse, None, IfOk, OnOk, OnErr};
 ghost use Rattle.std.specs.Result.{is_ok};
 ghost use Rattle.std.specs.Duration.{as_nanos};
 ghost use Rattle.sctp_channels.specs.Views.{open_of};
 ghost use Rattle.sctp_channels.specs.DataChannels.{lifetime, retransmissions};
 ghost use Rattle.sctp_channels.specs.Lifecycle.{may_send};
-ghost use Rattle.sctp_channels.specs.Channel.{count_if, count_received, count_sent, exceeds, goes_unordered, keep, new_channel, nothing, on_data, received, received_as, reset_incoming, take, taken, takes_whole, with_lifecycle, with_parts};
+ghost use Rattle.sctp_channels.specs.Channel.{count_received, count_sent, exceeds, goes_unordered, keep, new_channel, nothing, on_data, received, received_as, reset_incoming, take, taken, takes_whole, with_lifecycle, with_parts};
 
 use crate::{DataChannelOpen, Lifecycle, PayloadKind, PayloadProtocol, Reliability, SendRefusal};
 use sctp_serial::Message;
@@ -193,23 +193,18 @@ impl Channel {
         self.is_too_long || limit < self.parts.len() + payload.len()
     }
 
-    fn takes_whole(&self, limit: usize, size: usize) -> bool
-        ensures { result ≡ takes_whole limit size self.now }
-    {
-        !self.lifecycle.is_connecting()
-            && self.lifecycle.takes_data()
-            && !self.is_too_long
-            && self.parts.len() == 0
-            && size <= limit
-    }
-
     /// Counts a message of so many bytes that is handed out as it came, and answers whether it is: both ends have the channel, no part waits
     /// in front of it, and it isn't too long. Otherwise nothing changes.
     pub(crate) fn count_whole(&mut self, limit: usize, size: usize) -> bool
         ensures answer { result ≡ takes_whole limit size self.old }
-        ensures row { self.new ≡ count_if result size self.old }
+        ensures row { IsTrue result → self.new ≡ count_received size self.old }
+        ensures none { IsFalse result → self.new ≡ self.old }
     {
-        let is_whole = self.takes_whole(limit, size);
+        let is_whole = !self.lifecycle.is_connecting()
+            && self.lifecycle.takes_data()
+            && !self.is_too_long
+            && self.parts.len() == 0
+            && size <= limit;
         if is_whole {
             self.count_received(size);
         }

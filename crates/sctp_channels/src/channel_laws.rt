@@ -32,6 +32,6 @@ pub fn ordered_until_it_is_confirmed()
 /// A channel hands out the messages that were accepted at the other end, of the same kind and in their order, where its stream hands out all that was
 /// sent and in order; none is longer than it may be.
 pub fn data_is_handed_out_as_it_was_accepted()
-    ensures { (limit stream : ℕ) (contents : List Content) (c : Channel) → c.parts ≡ [] → c.is_too_long ≡ false → All (IsShort limit) contents
-        → hands_out limit (map (sent_as stream) contents) c ≡ contents }
+    ensures { (limit : ℕ) (contents : List Content) (c : Channel) → c.parts ≡ [] → c.is_too_long ≡ false → All (IsShort limit) contents
+        → hands_out limit (map sent_as contents) c ≡ contents }
 {}

@@ -1,26 +1,25 @@
 //! The channels of an association.
 
-ghost use Rattle.std.specs.Prelude.{◌≡◌, ◌<◌, ◌++◌, ◌⊎◌, [], cond, true, None, Some, IfSome, IfNone, IsSome, IfErr, IfOk, OnOk, OnErr, ℕ, length, map, option_copied, option_map, option_to_list};
+ghost use Rattle.std.specs.Prelude.{◌≡◌, ◌<◌, ◌≤◌, ◌++◌, [], true, List, None, Some, IfSome, IfNone, IsSome, IsTrue, IsFalse, IfOk, OnOk, OnErr, ℕ, length, map, option_copied, option_map, option_to_list};
 ghost use Rattle.std.specs.Result.{is_ok};
 ghost use Rattle.std.specs.Map.{keys_of};
 ghost use Rattle.sctp_state.specs.Events.{numbers_of};
 ghost use Rattle.sctp_channels.specs.Payload.{protocol_of};
 ghost use Rattle.sctp_channels.specs.Steps.{each};
 ghost use Rattle.sctp_channels.specs.Views.{open_of};
-ghost use Rattle.sctp_channels.specs.Channel.{count_if, on_data, received_as};
-ghost use Rattle.sctp_channels.specs.Channels.{Emits, OnControl, OnMessage, Stands, change, close, deliver, drain, emit, end, hand, is_denied, is_own, is_whole_at, negotiate, no_channels, on_ack, on_incoming_reset, on_open, on_payload, on_reset_denied, on_reset_performed, open_from, open_own, output_of, received_on, sent, take_open, tell_closed, turn_down, with_entries};
+ghost use Rattle.sctp_channels.specs.Channel.{count_received, new_channel, received_as, takes_whole, with_lifecycle};
+ghost use Rattle.sctp_channels.specs.Channels.{Emits, OnControl, OnMessage, Output as output, Stands, change, close, deliver, drain, emit, end, hand, is_denied, is_own, is_shown, negotiate, no_channels, on_ack, on_incoming_reset, on_open, on_payload, on_reset_denied, on_reset_performed, open_from, open_own, output_of, sent, shown_streams, take_open, tell_closed, tell_end, turn_down, with_entries};
 ghost use Rattle.sctp_channels.specs.DataChannels.{IsOpenAt};
-ghost use Rattle.sctp_channels.specs.Entries.{channel_at, forget};
+ghost use Rattle.sctp_channels.specs.Entries.{channel_at, forget, put};
 
-use crate::entries::{Entries, is_shown};
 use crate::{
-    Channel, ChannelMessage, ChannelMessageFault, DataChannelOpen, Lifecycle, Outgoing, Output,
-    PayloadProtocol, Received, Refusal, Reliability, SendRefusal,
+    Channel, ChannelMessage, ChannelMessageFault, DataChannelOpen, Lifecycle, Opening, Outgoing,
+    Output, PayloadProtocol, Received, Refusal, Reliability, SendRefusal,
 };
 use sctp_state::DcSctpSocket;
 use sctp_wire::{Message, StreamId};
 use std::alloc::{AllocError, Global};
-use std::collections::VecDeque;
+use std::collections::{BTreeMap, VecDeque};
 use std::marker::Model;
 
 /// The channels of an association, and what is to be done for them.
@@ -30,7 +29,7 @@ pub struct Channels {
     is_client: bool,
     stream_count: u16,
     limit: usize,
-    entries: Entries,
+    entries: BTreeMap<u16, Channel>,
     outputs: VecDeque<Output>,
     // where `free_stream` begins: behind the stream that was opened last, since a peer may still close what stands on one that was just freed
     first_candidate: u16,
@@ -42,7 +41,7 @@ impl Model for Channels {
 
     ghost Value = { Channels };
 
-    ghost view = { λ c. record { is_client = c.is_client; stream_count = c.stream_count; limit = c.limit; entries = c.entries; outputs = map output_of c.outputs.items } };
+    ghost view = { λ c. record { is_client = c.is_client; stream_count = c.stream_count; limit = c.limit; entries = c.entries.entries; outputs = map output_of c.outputs.items } };
 }
 
 /// Whether this end opens channels on streams of this number.
@@ -58,6 +57,39 @@ fn is_denied(outgoing: Outgoing) -> bool
     matches!(outgoing, Outgoing::Denied)
 }
 
+/// Whether the owner knows the channel, and was not told that it is closed.
+fn is_shown(lifecycle: Lifecycle) -> bool
+    ensures { result ≡ is_shown lifecycle }
+{
+    !matches!(lifecycle.opening, Opening::Refused) && !is_denied(lifecycle.outgoing)
+}
+
+/// Says that each channel is closed whose owner knows it.
+fn tell_all_closed(
+    channels: &BTreeMap<u16, Channel>,
+    outputs: &mut VecDeque<Output>,
+) -> Result<(), AllocError>
+    ensures ok { OnOk result (map output_of outputs.new.items ≡ map output_of outputs.old.items ++ map tell_closed (shown_streams channels.now.entries)) }
+    ensures err { (more : List output) × (map output_of outputs.new.items ≡ map output_of outputs.old.items ++ more) }
+{
+    for (id, channel) in channels {
+        if is_shown(channel.lifecycle()) {
+            outputs.push_back(Output::Closed(StreamId(*id)))?;
+        }
+    }
+    Ok(())
+}
+
+fn stream_ids(alloc: Global, channels: &BTreeMap<u16, Channel>) -> Result<Vec<StreamId>, AllocError>
+    ensures { IfOk result (λ ids. map (λ id. id.0) ids.items ≡ keys_of channels.now.entries) }
+{
+    let mut ids = Vec::new(alloc);
+    for (id, _) in channels {
+        ids.push(StreamId(*id))?;
+    }
+    Ok(ids)
+}
+
 impl Channels {
     /// No channels. The client of DTLS opens even streams, the server odd ones, below `stream_count`. A message of more than `limit` bytes isn't
     /// taken.
@@ -69,7 +101,7 @@ impl Channels {
             is_client,
             stream_count,
             limit,
-            entries: Entries::new(alloc),
+            entries: BTreeMap::new(alloc),
             outputs: VecDeque::new(alloc),
             first_candidate: 0,
         }
@@ -86,7 +118,7 @@ impl Channels {
     pub fn get(&self, id: StreamId) -> Option<&Channel>
         ensures { option_copied result ≡ channel_at id.0 self.now.entries }
     {
-        self.entries.get(id.0)
+        self.entries.get(&id.0)
     }
 
     /// Takes what is to be done first.
@@ -123,7 +155,7 @@ impl Channels {
     {
         let id = match self.free_stream_from(self.first_candidate) {
             Some(id) => id,
-            None => self.first_free_stream()?,
+            None => self.free_stream_from(0)?,
         };
         self.first_candidate = id.0;
         Some(id)
@@ -134,28 +166,38 @@ impl Channels {
         ensures free { IfSome result (λ id. channel_at id.0 self.now.entries ≡ None) }
         ensures own { IfSome result (λ id. is_own self.now.is_client id.0 ≡ true) }
         ensures there { IfSome result (λ id. id.0 < self.now.stream_count) }
+        ensures none { IfNone result ((id : ℕ) → start ≤ id → id < self.now.stream_count → is_own self.now.is_client id ≡ true → IsSome (channel_at id self.now.entries)) }
     {
         for id in start..self.stream_count {
-            if !self.entries.contains(id) && is_own(self.is_client, id) {
+            if is_own(self.is_client, id) && !self.entries.contains_key(&id) {
                 return Some(StreamId(id));
             }
         }
         None
     }
 
-    /// The first one of all.
-    fn first_free_stream(&self) -> Option<StreamId>
-        ensures free { IfSome result (λ id. channel_at id.0 self.now.entries ≡ None) }
-        ensures own { IfSome result (λ id. is_own self.now.is_client id.0 ≡ true) }
-        ensures there { IfSome result (λ id. id.0 < self.now.stream_count) }
-        ensures none { IfNone result ((id : ℕ) → id < self.now.stream_count → is_own self.now.is_client id ≡ true → IsSome (channel_at id self.now.entries)) }
+    /// Puts a channel to its place, where there is none, or in place of another one.
+    fn put(
+        &mut self,
+        id: StreamId,
+        lifecycle: Lifecycle,
+        description: DataChannelOpen,
+    ) -> Result<(), AllocError>
+        ensures ok { OnOk result (self.new ≡ with_entries (put id.0 (new_channel lifecycle (open_of description)) self.old.entries) self.old) }
+        ensures err { OnErr result (self.new ≡ self.old) }
     {
-        for id in 0..self.stream_count {
-            if is_own(self.is_client, id) && !self.entries.contains(id) {
-                return Some(StreamId(id));
-            }
+        let channel = Channel::new(self.alloc, lifecycle, description);
+        self.entries.insert(id.0, channel)?;
+        Ok(())
+    }
+
+    /// Goes on with this lifecycle on a stream that has a channel.
+    fn set_lifecycle(&mut self, id: StreamId, lifecycle: Lifecycle)
+        ensures { self.new ≡ change (with_lifecycle lifecycle) id.0 self.old }
+    {
+        if let Some(channel) = self.entries.get_mut(&id.0) {
+            channel.set_lifecycle(lifecycle);
         }
-        None
     }
 
     /// Opens a channel on a stream that is free, of this end's parity (`free_stream`). DATA_CHANNEL_OPEN is to be sent first of all on it.
@@ -163,9 +205,8 @@ impl Channels {
         ensures ok { OnOk result (self.new ≡ open_own id.0 (open_of description) self.old) }
         ensures err { OnErr result (self.new ≡ self.old) }
     {
-        let channel = Channel::new(self.alloc, Lifecycle::opened(), description);
         self.first_candidate = id.0.saturating_add(1);
-        self.entries.put(id.0, channel)
+        self.put(id, Lifecycle::opened(), description)
     }
 
     /// A channel that both ends have agreed on, on a stream that is free, of any parity.
@@ -177,22 +218,18 @@ impl Channels {
         ensures ok { OnOk result (self.new ≡ negotiate id.0 (open_of description) self.old) }
         ensures err { OnErr result (self.new ≡ self.old) }
     {
-        let channel = Channel::new(self.alloc, Lifecycle::negotiated(), description);
-        self.entries.put(id.0, channel)
+        self.put(id, Lifecycle::negotiated(), description)
     }
 
     /// The owner closes the channel: what was accepted is sent, then its stream is reset (`drain`).
     pub fn close(&mut self, id: StreamId)
         ensures { self.new ≡ close id.0 self.old }
     {
-        self.entries.close(id.0);
-    }
-
-    /// The socket has accepted a message of so many bytes.
-    pub fn sent(&mut self, id: StreamId, size: usize)
-        ensures { self.new ≡ sent id.0 size self.old }
-    {
-        self.entries.count_sent(id.0, size);
+        if let Some(channel) = self.entries.get_mut(&id.0) {
+            let mut lifecycle = channel.lifecycle();
+            lifecycle.close();
+            channel.set_lifecycle(lifecycle);
+        }
     }
 
     /// Hands a message of so many bytes to the socket, unless it is refused, and counts it.
@@ -208,7 +245,10 @@ impl Channels {
         ensures given { OnOk result (is_ok given ≡ true) }
         ensures err { OnErr result (self.new ≡ self.old) }
     {
-        self.entries.send(socket, id.0, size, given)
+        let Some(channel) = self.entries.get_mut(&id.0) else {
+            return Err(SendRefusal::NoChannel);
+        };
+        channel.send(socket, size, given)
     }
 
     /// What was opened isn't taken: its stream is reset, and a channel on it is closed.
@@ -217,8 +257,8 @@ impl Channels {
         ensures err { OnErr result (Emits self.old self.new) }
     {
         self.emit(Output::Refused(id, why))?;
-        if self.entries.contains(id.0) {
-            self.entries.close(id.0);
+        if self.entries.contains_key(&id.0) {
+            self.close(id);
             return Ok(());
         }
         let nothing = DataChannelOpen {
@@ -228,8 +268,7 @@ impl Channels {
             label: String::new(self.alloc),
             protocol: String::new(self.alloc),
         };
-        let channel = Channel::new(self.alloc, Lifecycle::refused(), nothing);
-        self.entries.put(id.0, channel)
+        self.put(id, Lifecycle::refused(), nothing)
     }
 
     fn take_open(
@@ -243,19 +282,18 @@ impl Channels {
     {
         self.emit(Output::Acknowledge(id))?;
         self.emit(Output::Opened(id))?;
-        let channel = Channel::new(self.alloc, lifecycle, description);
-        self.entries.put(id.0, channel)
+        self.put(id, lifecycle, description)
     }
 
     /// Says that a channel is closed whose owner knows it, and forgets it.
-    fn end_one(&mut self, id: StreamId, is_shown: bool) -> Result<(), AllocError>
-        ensures ok { OnOk result (self.new ≡ cond is_shown (emit (tell_closed id.0) (with_entries (forget id.0 self.old.entries) self.old)) (with_entries (forget id.0 self.old.entries) self.old)) }
+    fn end_one(&mut self, id: StreamId, lifecycle: Lifecycle) -> Result<(), AllocError>
+        ensures ok { OnOk result (self.new ≡ tell_end lifecycle id.0 (with_entries (forget id.0 self.old.entries) self.old)) }
         ensures err { OnErr result (self.new ≡ self.old) }
     {
-        if is_shown {
+        if is_shown(lifecycle) {
             self.emit(Output::Closed(id))?;
         }
-        self.entries.forget(id.0);
+        self.entries.remove(&id.0);
         Ok(())
     }
 
@@ -264,7 +302,7 @@ impl Channels {
         ensures ok { OnOk result (self.new ≡ on_ack id.0 self.old) }
         ensures err { OnErr result (self.new ≡ self.old) }
     {
-        let Some(channel) = self.entries.get(id.0) else {
+        let Some(channel) = self.entries.get(&id.0) else {
             return Ok(());
         };
         let mut lifecycle = channel.lifecycle();
@@ -273,7 +311,7 @@ impl Channels {
         }
         self.emit(Output::Opened(id))?;
         lifecycle.confirm();
-        self.entries.set_lifecycle(id.0, lifecycle);
+        self.set_lifecycle(id, lifecycle);
         Ok(())
     }
 
@@ -282,15 +320,15 @@ impl Channels {
         ensures ok { OnOk result (self.new ≡ on_reset_performed id.0 self.old) }
         ensures err { OnErr result (self.new ≡ self.old) }
     {
-        let Some(channel) = self.entries.get(id.0) else {
+        let Some(channel) = self.entries.get(&id.0) else {
             return Ok(());
         };
         let mut lifecycle = channel.lifecycle();
         lifecycle.finish();
         if lifecycle.is_over() {
-            return self.end_one(id, is_shown(lifecycle));
+            return self.end_one(id, lifecycle);
         }
-        self.entries.set_lifecycle(id.0, lifecycle);
+        self.set_lifecycle(id, lifecycle);
         Ok(())
     }
 
@@ -309,15 +347,17 @@ impl Channels {
         ensures ok { OnOk result (self.new ≡ on_incoming_reset id.0 self.old) }
         ensures err { OnErr result (self.new ≡ self.old) }
     {
-        let Some(channel) = self.entries.get(id.0) else {
+        let Some(channel) = self.entries.get(&id.0) else {
             return Ok(());
         };
         let mut lifecycle = channel.lifecycle();
         lifecycle.stop_incoming();
         if lifecycle.is_over() {
-            return self.end_one(id, is_shown(lifecycle));
+            return self.end_one(id, lifecycle);
         }
-        self.entries.reset_incoming(id.0);
+        if let Some(channel) = self.entries.get_mut(&id.0) {
+            channel.reset_incoming();
+        }
         Ok(())
     }
 
@@ -326,7 +366,7 @@ impl Channels {
         ensures ok { OnOk result (self.new ≡ drain id.0 buffered_amount self.old) }
         ensures err { OnErr result (self.new ≡ self.old) }
     {
-        let Some(channel) = self.entries.get(id.0) else {
+        let Some(channel) = self.entries.get(&id.0) else {
             return Ok(());
         };
         let mut lifecycle = channel.lifecycle();
@@ -334,7 +374,7 @@ impl Channels {
             return Ok(());
         }
         self.emit(Output::Reset(id))?;
-        self.entries.set_lifecycle(id.0, lifecycle);
+        self.set_lifecycle(id, lifecycle);
         Ok(())
     }
 
@@ -357,7 +397,7 @@ impl Channels {
         ensures ok { OnOk result (self.new ≡ open_from (channel_at id.0 self.old.entries) id.0 (open_of description) self.old) }
         ensures err { OnErr result (Emits self.old self.new) }
     {
-        let Some(channel) = self.entries.get(id.0) else {
+        let Some(channel) = self.entries.get(&id.0) else {
             return self.take_open(id, description, Lifecycle::negotiated());
         };
         if !channel.lifecycle().may_reopen() {
@@ -375,7 +415,7 @@ impl Channels {
         self.emit(output)
     }
 
-    pub(crate) fn hand(&mut self, received: Received, id: StreamId) -> Result<(), AllocError>
+    fn hand(&mut self, received: Received, id: StreamId) -> Result<(), AllocError>
         ensures ok { OnOk result (self.new ≡ hand (received_as received) id.0 self.old) }
         ensures err { OnErr result (self.new ≡ self.old) }
     {
@@ -393,34 +433,18 @@ impl Channels {
         id: StreamId,
         protocol: PayloadProtocol,
         payload: Vec<u8>,
-    ) -> Result<Received, AllocError>
-        ensures ok { IfOk result (λ it. deliver id.0 protocol payload.items self.old ≡ hand (received_as it) id.0 self.new) }
-        ensures stands { Stands self.old self.new }
+    ) -> Result<(), AllocError>
+        ensures ok { OnOk result (self.new ≡ deliver id.0 protocol payload.items self.old) }
+        ensures err { OnErr result (Stands self.old self.new) }
     {
-        let takes = match self.entries.get(id.0) {
-            Some(channel) => channel.lifecycle().takes_data(),
-            None => false,
+        let Some(channel) = self.entries.get_mut(&id.0) else {
+            return self.emit(Output::Refused(id, Refusal::NoChannel));
         };
-        if !takes {
-            self.emit(Output::Refused(id, Refusal::NoChannel))?;
-            return Ok(Received::Nothing);
+        if !channel.lifecycle().takes_data() {
+            return self.emit(Output::Refused(id, Refusal::NoChannel));
         }
-        let received = self.on_data(id, protocol, payload)?;
-        Ok(received)
-    }
-
-    /// Data of the channel on the stream, which takes it.
-    fn on_data(
-        &mut self,
-        id: StreamId,
-        protocol: PayloadProtocol,
-        payload: Vec<u8>,
-    ) -> Result<Received, AllocError>
-        ensures row { OnOk result (self.new ≡ change (on_data self.old.limit protocol payload.items) id.0 self.old) }
-        ensures received { IfOk result (λ it. received_as it ≡ received_on (channel_at id.0 self.old.entries) self.old.limit protocol payload.items) }
-        ensures err { OnErr result (self.new ≡ self.old) }
-    {
-        self.entries.on_data(id.0, self.limit, protocol, payload)
+        let received = channel.on_data(self.alloc, self.limit, protocol, payload)?;
+        self.hand(received, id)
     }
 
     /// The peer, or the socket, has refused to reset this outgoing stream.
@@ -428,7 +452,7 @@ impl Channels {
         ensures ok { OnOk result (self.new ≡ on_reset_denied id.0 self.old) }
         ensures err { OnErr result (self.new ≡ self.old) }
     {
-        let Some(channel) = self.entries.get(id.0) else {
+        let Some(channel) = self.entries.get(&id.0) else {
             return Ok(());
         };
         let before = channel.lifecycle();
@@ -437,7 +461,7 @@ impl Channels {
         if is_denied(lifecycle.outgoing) && is_shown(before) {
             self.emit(Output::Closed(id))?;
         }
-        self.entries.set_lifecycle(id.0, lifecycle);
+        self.set_lifecycle(id, lifecycle);
         Ok(())
     }
 
@@ -451,54 +475,25 @@ impl Channels {
         Ok(())
     }
 
-    /// Counts a message of so many bytes where the channel on the stream hands it out as it came, and answers whether it does.
-    pub(crate) fn count_whole(&mut self, id: StreamId, size: usize) -> bool
-        ensures answer { result ≡ is_whole_at (channel_at id.0 self.old.entries) self.old.limit size }
-        ensures row { self.new ≡ change (count_if result size) id.0 self.old }
+    /// Counts a message of so many bytes that may be told at once, and answers whether it may: nothing is to be done before it, and the channel
+    /// on the stream hands it out as it came. Otherwise nothing changes.
+    pub(crate) fn counts_at_once(&mut self, id: StreamId, size: usize) -> bool
+        ensures quiet { IsTrue result → self.old.outputs ≡ [] }
+        ensures whole { IsTrue result → option_map (takes_whole self.old.limit size) (channel_at id.0 self.old.entries) ≡ Some true }
+        ensures row { IsTrue result → self.new ≡ change (count_received size) id.0 self.old }
+        ensures none { IsFalse result → self.new ≡ self.old }
     {
-        self.entries.count_whole(id.0, self.limit, size)
-    }
-
-    /// Data came on the stream, and with it the news that the peer has the channel. What becomes of it is still to be told (`hand`).
-    pub(crate) fn take_payload(
-        &mut self,
-        id: StreamId,
-        protocol: PayloadProtocol,
-        payload: Vec<u8>,
-    ) -> Result<Received, AllocError>
-        ensures ok { IfOk result (λ it. on_payload id.0 protocol payload.items self.old ≡ hand (received_as it) id.0 self.new) }
-        ensures stands { Stands self.old self.new }
-    {
-        let is_plain = match self.entries.get(id.0) {
-            Some(channel) => {
-                let lifecycle = channel.lifecycle();
-                !lifecycle.is_connecting() && lifecycle.takes_data()
-            }
-            None => false,
-        };
-        if !is_plain {
-            return self.take_first(id, protocol, payload);
+        if self.outputs.len() != 0 {
+            return false;
         }
-        let received = self.on_data(id, protocol, payload)?;
-        Ok(received)
+        let Some(channel) = self.entries.get_mut(&id.0) else {
+            return false;
+        };
+        channel.count_whole(self.limit, size)
     }
 
-    /// The same, where it may be the first data of the channel, or is not taken.
-    #[inline(never)]
+    /// Data came on the stream, and with it the news that the peer has the channel.
     #[tactic(auto, using(crate::proofs::StandsLemmas::stands_then, crate::proofs::StandsLemmas::stands_same, crate::proofs::StandsLemmas::stands_ack))]
-    fn take_first(
-        &mut self,
-        id: StreamId,
-        protocol: PayloadProtocol,
-        payload: Vec<u8>,
-    ) -> Result<Received, AllocError>
-        ensures ok { IfOk result (λ it. on_payload id.0 protocol payload.items self.old ≡ hand (received_as it) id.0 self.new) }
-        ensures stands { Stands self.old self.new }
-    {
-        self.on_ack(id)?;
-        self.deliver(id, protocol, payload)
-    }
-
     fn on_payload(
         &mut self,
         id: StreamId,
@@ -508,8 +503,8 @@ impl Channels {
         ensures ok { OnOk result (self.new ≡ on_payload id.0 protocol payload.items self.old) }
         ensures err { OnErr result (Stands self.old self.new) }
     {
-        let received = self.take_payload(id, protocol, payload)?;
-        self.hand(received, id)
+        self.on_ack(id)?;
+        self.deliver(id, protocol, payload)
     }
 
     fn on_control(&mut self, id: StreamId, payload: &[u8]) -> Result<(), AllocError>
@@ -549,17 +544,7 @@ impl Channels {
     pub fn streams(&self) -> Result<Vec<StreamId>, AllocError>
         ensures { IfOk result (λ ids. map (λ id. id.0) ids.items ≡ keys_of self.now.entries) }
     {
-        self.entries.streams()
-    }
-
-    fn tell_closed(&mut self, ids: &[StreamId]) -> Result<(), AllocError>
-        ensures ok { OnOk result (self.new ≡ record self.old { outputs = self.old.outputs ++ map tell_closed (map (λ id. id.0) ids.now) }) }
-        ensures err { OnErr result (Emits self.old self.new) }
-    {
-        for id in ids {
-            self.emit(Output::Closed(*id))?;
-        }
-        Ok(())
+        stream_ids(self.alloc, &self.entries)
     }
 
     /// The association has ended: each channel is closed, and its stream is free.
@@ -567,9 +552,8 @@ impl Channels {
         ensures ok { OnOk result (self.new ≡ end self.old) }
         ensures err { OnErr result (Emits self.old self.new) }
     {
-        let ids = self.entries.shown_streams()?;
-        self.tell_closed(&ids)?;
-        self.entries = Entries::new(self.alloc);
+        tell_all_closed(&self.entries, &mut self.outputs)?;
+        self.entries.clear();
         self.first_candidate = 0;
         Ok(())
     }

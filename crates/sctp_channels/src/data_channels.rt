@@ -1,20 +1,19 @@
 //! The channels of an association, and the socket below.
 
-ghost use Rattle.std.specs.Prelude.{◌≡◌, ◌⊎◌, ◌<◌, ℕ, true, IsTrue, IsFalse, None, Some, List, [], ◌∷◌, ◌++◌, length, IfOk, IfNone, OnOk, OnErr, option_copied, option_map, option_to_list};
+ghost use Rattle.std.specs.Prelude.{◌≡◌, ◌<◌, ℕ, true, IsTrue, IsFalse, None, Some, List, [], ◌∷◌, ◌++◌, length, IfOk, IfNone, OnOk, OnErr, option_copied, option_map, option_to_list};
 ghost use Rattle.sctp_serial.specs.Messages.{message_of};
 ghost use Rattle.sctp_state.specs.Events.{event_of as socket_event_of, numbers_of};
-ghost use Rattle.sctp_channels.specs.Channel.{count_if, count_received, received_as};
+ghost use Rattle.sctp_channels.specs.Channel.{count_received, takes_whole};
 ghost use Rattle.sctp_channels.specs.Views.{open_of};
 ghost use Rattle.sctp_channels.specs.Payload.{protocol_of};
-ghost use Rattle.sctp_channels.specs.declared.payload.PayloadProtocol.TheVariants.{Data};
-ghost use Rattle.sctp_channels.specs.Channels.{OnMessage, change, close, drain, hand, is_own, is_whole_at, on_payload, negotiate, no_channels, on_incoming_reset, on_reset_denied, on_reset_performed, open_own, output_of, sent};
+ghost use Rattle.sctp_channels.specs.Channels.{OnMessage, change, close, drain, is_own, negotiate, no_channels, on_incoming_reset, open_own, output_of, sent};
 ghost use Rattle.sctp_channels.specs.Entries.{channel_at};
 ghost use Rattle.sctp_channels.specs.DataChannels.{IsOpenAt, IsShortEnough, is_draining_at};
-ghost use Rattle.sctp_channels.specs.Steps.{DataChannels, Follows, Gets, StaysTold, acknowledged_by, each, ended, event_of, heard, named, of_socket, passed_on, told_by, with_channels, with_outputs};
+ghost use Rattle.sctp_channels.specs.Steps.{DataChannels, Follows, Gets, StaysTold, acknowledged_by, each, ended, event_of, heard, named, passed_on, told_by, with_channels, with_outputs};
 
 use crate::{
     CONTROL_PPID, Channel, ChannelEvent, ChannelMessage, Channels, DataChannelOpen, OpenError,
-    Outgoing, Output, PayloadKind, PayloadProtocol, Received, SendRefusal, data_message,
+    Outgoing, Output, PayloadKind, PayloadProtocol, SendRefusal, data_message,
 };
 use sctp_serial::{Message, StreamId};
 use sctp_state::{CallError, DcSctpSocket, ResetStreamsError, SendError, SendOptions, SocketEvent};
@@ -314,24 +313,35 @@ impl DataChannels {
         Ok(())
     }
 
-    #[tactic(auto, using(crate::proofs::FollowsLemmas::follows_gets, crate::proofs::FollowsLemmas::told_same))]
+    /// Takes a message. A whole one of a channel is told at once, where nothing is to be done or told before it.
+    #[tactic(auto, using(crate::proofs::FollowsLemmas::follows_gets, crate::proofs::FollowsLemmas::told_same, crate::proofs::FollowsLemmas::told_more))]
     fn take_message(&mut self, message: Message) -> Result<(), AllocError>
         ensures steps { OnOk result (Follows self.old self.new) }
         ensures told { StaysTold self.old self.new }
     {
-        match PayloadProtocol::from_ppid(message.ppid) {
-            Some(PayloadProtocol::Data(kind)) => {
-                self.take_data(message.stream_id, kind, message.payload)?;
-                Ok(())
-            }
-            _ => {
-                self.take_other(message)?;
-                Ok(())
+        let id = message.stream_id;
+        if let Some(PayloadProtocol::Data(kind)) = PayloadProtocol::from_ppid(message.ppid) {
+            if self.counts_at_once(id, message.payload.len()) {
+                self.tell(ChannelEvent::Message(id, kind, message.payload))?;
+                return Ok(());
             }
         }
+        self.take_other(message)?;
+        Ok(())
     }
 
-    /// A message of the opening may close the channel of its stream.
+    fn counts_at_once(&mut self, id: StreamId, size: usize) -> bool
+        ensures quiet { IsTrue result → self.old.channels.outputs ≡ [] }
+        ensures whole { IsTrue result → option_map (takes_whole self.old.channels.limit size) (channel_at id.0 self.old.channels.entries) ≡ Some true }
+        ensures row { IsTrue result → self.new ≡ with_channels (change (count_received size) id.0 self.old.channels) self.old }
+        ensures none { IsFalse result → self.new ≡ self.old }
+        ensures told { self.new.events ≡ self.old.events }
+    {
+        self.channels.counts_at_once(id, size)
+    }
+
+    /// What is not told at once. A message of the opening may close the channel of its stream.
+    #[inline(never)]
     fn take_other(&mut self, message: Message) -> Result<(), AllocError>
         ensures row { OnOk result (Gets (message_of message) self.old self.new) }
         ensures told { self.new.events ≡ self.old.events }
@@ -339,84 +349,6 @@ impl DataChannels {
         let id = message.stream_id;
         self.on_message(message)?;
         self.note_closing(id)?;
-        Ok(())
-    }
-
-    /// Data of a channel. A whole message is told at once, where nothing is to be done or told before it.
-    #[tactic(auto, using(crate::proofs::FollowsLemmas::told_then, crate::proofs::FollowsLemmas::told_same, crate::proofs::FollowsLemmas::told_more))]
-    fn take_data(
-        &mut self,
-        id: StreamId,
-        kind: PayloadKind,
-        payload: Vec<u8>,
-    ) -> Result<(), AllocError>
-        ensures row { OnOk result ((self.new ≡ with_channels (on_payload id.0 (Data kind) payload.items self.old.channels) self.old)
-            ⊎ (self.new ≡ with_outputs (with_channels (on_payload id.0 (Data kind) payload.items self.old.channels) self.old))) }
-        ensures told { StaysTold self.old self.new }
-    {
-        if self.counts_at_once(id, payload.len()) {
-            self.tell(ChannelEvent::Message(id, kind, payload))?;
-            return Ok(());
-        }
-        self.take_other_data(id, kind, payload)?;
-        Ok(())
-    }
-
-    /// Counts a message of so many bytes that may be told at once, and answers whether it may.
-    #[tactic(auto, using(crate::proofs::FollowsLemmas::no_outputs, crate::proofs::WholeLemmas::counted))]
-    fn counts_at_once(&mut self, id: StreamId, size: usize) -> bool
-        ensures quiet { IsTrue result → self.old.channels.outputs ≡ [] }
-        ensures whole { IsTrue result → is_whole_at (channel_at id.0 self.old.channels.entries) self.old.channels.limit size ≡ true }
-        ensures row { IsTrue result → self.new ≡ with_channels (change (count_received size) id.0 self.old.channels) self.old }
-        ensures none { IsFalse result → self.new ≡ self.old }
-        ensures told { self.new.events ≡ self.old.events }
-    {
-        self.channels.output_count() == 0 && self.count_whole(id, size)
-    }
-
-    fn count_whole(&mut self, id: StreamId, size: usize) -> bool
-        ensures answer { result ≡ is_whole_at (channel_at id.0 self.old.channels.entries) self.old.channels.limit size }
-        ensures row { self.new ≡ with_channels (change (count_if result size) id.0 self.old.channels) self.old }
-        ensures told { self.new.events ≡ self.old.events }
-    {
-        self.channels.count_whole(id, size)
-    }
-
-    /// The same, where a part waits, or it may be the first data of the channel, or is not taken.
-    #[inline(never)]
-    #[tactic(auto, using(crate::proofs::FollowsLemmas::told_same))]
-    fn take_other_data(
-        &mut self,
-        id: StreamId,
-        kind: PayloadKind,
-        payload: Vec<u8>,
-    ) -> Result<(), AllocError>
-        ensures row { OnOk result ((self.new ≡ with_channels (on_payload id.0 (Data kind) payload.items self.old.channels) self.old)
-            ⊎ (self.new ≡ with_outputs (with_channels (on_payload id.0 (Data kind) payload.items self.old.channels) self.old))) }
-        ensures told { StaysTold self.old self.new }
-    {
-        let received = self
-            .channels
-            .take_payload(id, PayloadProtocol::Data(kind), payload)?;
-        self.hand(received, id)?;
-        Ok(())
-    }
-
-    /// A message is told at once, where nothing is to be done or told before it.
-    #[tactic(auto, using(crate::proofs::FollowsLemmas::told_same, crate::proofs::FollowsLemmas::told_more, crate::proofs::FollowsLemmas::no_outputs, crate::proofs::FollowsLemmas::done_at_once))]
-    fn hand(&mut self, received: Received, id: StreamId) -> Result<(), AllocError>
-        ensures row { OnOk result ((self.new ≡ with_channels (hand (received_as received) id.0 self.old.channels) self.old)
-            ⊎ (self.new ≡ with_outputs (with_channels (hand (received_as received) id.0 self.old.channels) self.old))) }
-        ensures told { StaysTold self.old self.new }
-    {
-        if self.channels.output_count() != 0 {
-            self.channels.hand(received, id)?;
-            return Ok(());
-        }
-        match received {
-            Received::Message(kind, bytes) => self.tell(ChannelEvent::Message(id, kind, bytes))?,
-            received => self.channels.hand(received, id)?,
-        }
         Ok(())
     }
 

@@ -11,7 +11,6 @@ mod channel;
 mod channel_laws;
 mod channels;
 mod data_channels;
-mod entries;
 mod event;
 mod fault;
 mod header;

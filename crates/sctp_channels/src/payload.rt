@@ -2,7 +2,7 @@
 
 ghost use Rattle.std.specs.Prelude.{◌≡◌, IfOk};
 ghost use Rattle.sctp_serial.specs.Messages.{message_of};
-ghost use Rattle.sctp_channels.specs.Payload.{content, data_message, data_ppid, protocol_of};
+ghost use Rattle.sctp_channels.specs.Payload.{data_message, data_ppid, protocol_of};
 
 use sctp_wire::{Message, PpId, StreamId};
 use std::alloc::AllocError;
@@ -47,17 +47,6 @@ impl PayloadProtocol {
             57 => Some(PayloadProtocol::Empty(PayloadKind::Binary)),
             _ => None,
         }
-    }
-
-    /// What the owner gets of a payload.
-    pub fn content(self, payload: Vec<u8>) -> Vec<u8>
-        ensures { result.items ≡ content self payload.items }
-    {
-        let mut payload = payload;
-        if let PayloadProtocol::Empty(_kind) = self {
-            payload.clear();
-        }
-        payload
     }
 }
 

@@ -77,7 +77,6 @@ fn call(output: &mut Output, channels: &mut Channels, name: &str, first: u32, se
         "client" => drop(mem::replace(channels, begin(output.alloc, true, first, second))),
         "server" => drop(mem::replace(channels, begin(output.alloc, false, first, second))),
         "close" => channels.close(id),
-        "sent" => channels.sent(id, size),
         "streams" => channels.set_stream_count(id.0),
         "show" => show(output, channels, id),
         _ => return call_noted(output, channels, name, id, size),

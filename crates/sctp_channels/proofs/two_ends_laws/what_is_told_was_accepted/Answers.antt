@@ -1,4 +1,4 @@
-use Rattle.std.proofs.Common.{◌≡◌, ◌++◌, List, append-nil, ap, sym, ◌∙◌}
+use Rattle.std.proofs.Common.{◌++◌, List, append-nil, ap, sym, ◌∙◌}
 use Rattle.std.specs.List.{flat_map}
 use Rattle.sctp_channels.specs.Channels.{Output}
 use Rattle.sctp_channels.specs.TwoEnds.{message_in, told_in}

@@ -1,7 +1,0 @@
-use Rattle.std.proofs.Common.{◌≡◌, ◌<◌, ℕ, true, IsSome}
-use Rattle.sctp_channels.specs.Channels.{is_own}
-use Rattle.sctp_channels.specs.Entries.{channel_at}
-use Rattle.sctp_channels.proofs.channels.Channels.first_free_stream.Given as goal
-
-abbrev pub invariant-loop-id : goal.invariant-loop-id
-invariant-loop-id l = (k : ℕ) → k < l.id → is_own l.self.is_client k ≡ true → IsSome (channel_at k l.self.entries)
