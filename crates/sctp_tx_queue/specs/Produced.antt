@@ -97,6 +97,10 @@ made_of id size n m = record {
 abbrev pub move_past : ℕ → MessageNumbers → Queued → Queued
 move_past size n m = record m { offset = m.offset + size; numbers = Some n; fsn = (m.fsn + 1) % 2 ^ 32 }
 
+-- it takes its numbers with a fragment of this size, and goes on
+abbrev pub needs_room : ℕ → Queued → Bool
+needs_room size m = not (is_some m.numbers) && not (ends size m)
+
 -- no message is partly sent any more
 abbrev pub pause_if_pending : PauseState → PauseState
 pause_if_pending NotPaused = NotPaused
@@ -116,6 +120,10 @@ front_took (m ∷ rest) s = took m s
 abbrev pub front_made : ℕ → ℕ → MessageNumbers → List Queued → Option Produced
 front_made id size n [] = None
 front_made id size n (m ∷ rest) = Some (made_of id size n m)
+
+abbrev pub front_needs_room : ℕ → List Queued → Bool
+front_needs_room size [] = false
+front_needs_room size (m ∷ rest) = needs_room size m
 
 abbrev pub front_ends : ℕ → List Queued → Bool
 front_ends size [] = false

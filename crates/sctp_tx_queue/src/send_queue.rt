@@ -153,7 +153,7 @@ impl SendQueue {
     {
         let id = message.stream_id;
         let message_id = self.next_message_id;
-        let message = QueuedMessage::new(message_id, now, message, options);
+        let message = QueuedMessage::new(self.alloc, message_id, now, message, options)?;
         let demand = self.streams.demand_with(id, &message);
         if demand.bytes == 0 {
             self.streams.push(self.alloc, id, message)?;

@@ -1,11 +1,11 @@
 //! A message that waits or is partly sent, and its fragments.
 
-ghost use Rattle.std.specs.Prelude.{◌≡◌, ◌+◌, ◌-◌, ◌<◌, ◌^◌, length, IfOk, IsTrue, None, option_map, min, take, drop, if◌then◌else◌};
+ghost use Rattle.std.specs.Prelude.{◌≡◌, ◌+◌, ◌-◌, ◌<◌, ◌^◌, length, IfOk, IsTrue, None, option_map, unwrap_or, is_some, min, take, drop, if◌then◌else◌};
 ghost use Rattle.std.specs.Duration.{as_nanos};
 ghost use Rattle.sctp_chunk.specs.Written.{key_stream};
 ghost use Rattle.sctp_chunk.specs.Views.{is_unordered_key};
 ghost use Rattle.sctp_tx_queue.specs.SendQueue.{remaining_bytes, expiry_of};
-ghost use Rattle.sctp_tx_queue.specs.Produced.{is_stale, is_expired, ends, made_of, move_past};
+ghost use Rattle.sctp_tx_queue.specs.Produced.{is_stale, is_expired, ends, made_of, move_past, needs_room};
 ghost use Rattle.sctp_tx_queue.specs.Resets.{is_partly};
 ghost use Rattle.sctp_tx_queue.specs.Whole.{is_whole, with_payload};
 ghost use Rattle.sctp_serial.specs.Unwrapped.{u32_space, halves, wire};
@@ -37,29 +37,35 @@ pub struct MessageNumbers {
     pub mid: u64,
 }
 
-/// A message of the send queue.
+/// What few messages have that wait: a lifetime, a lifecycle, and what the next fragment is numbered by once one is sent.
+#[derive(Clone, Copy)]
+pub struct Details {
+    expires_at: Option<SocketTime>,
+    lifecycle_id: Option<LifecycleId>,
+    numbers: Option<MessageNumbers>,
+    next_fsn: Fsn,
+}
+
+/// A message of the send queue. It takes 56 bytes beside those of its payload, and a box where it has details.
 #[derive(Drop)]
 pub struct QueuedMessage {
     payload: Vec<u8>,
+    details: Option<Box<Details>>,
     // how much of the payload was sent
-    offset: usize,
-    expires_at: Option<SocketTime>,
-    numbers: Option<MessageNumbers>,
-    lifecycle_id: Option<LifecycleId>,
+    offset: u32,
     message_id: OutgoingMessageId,
     ppid: PpId,
-    next_fsn: Fsn,
     max_retransmissions: u16,
     is_unordered: bool,
 }
 
 impl Model for QueuedMessage {
-    ghost use Rattle.std.specs.Prelude.{◌<◌, ◌^◌, length};
+    ghost use Rattle.std.specs.Prelude.{◌<◌, ◌^◌, None, length, option_map, unwrap_or};
     ghost use Rattle.sctp_tx_queue.specs.SendQueue.{Queued};
 
     ghost Value = { Queued };
 
-    ghost view = { λ m. record { number = m.message_id.0; ppid = m.ppid.0; payload = m.payload.items; is_unordered = m.is_unordered; expires = m.expires_at; limit = m.max_retransmissions; lifecycle = m.lifecycle_id; offset = m.offset; numbers = m.numbers; fsn = m.next_fsn.0 } };
+    ghost view = { λ m. record { number = m.message_id.0; ppid = m.ppid.0; payload = m.payload.items; is_unordered = m.is_unordered; expires = unwrap_or (option_map (λ d. d.value.expires_at) m.details) None; limit = m.max_retransmissions; lifecycle = unwrap_or (option_map (λ d. d.value.lifecycle_id) m.details) None; offset = m.offset; numbers = unwrap_or (option_map (λ d. d.value.numbers) m.details) None; fsn = unwrap_or (option_map (λ d. d.value.next_fsn.0) m.details) 0 } };
 
     ghost invariant = { λ m. (m.offset < length m.payload.items) × (length m.payload.items < 2 ^ 32) };
 }
@@ -122,6 +128,28 @@ fn numbers_from(mid: Option<u32>, ssn: Option<u16>) -> Option<MessageNumbers>
     }
 }
 
+/// No details.
+const NO_DETAILS: Details = Details {
+    expires_at: None,
+    lifecycle_id: None,
+    numbers: None,
+    next_fsn: Fsn(0),
+};
+
+/// Details, where there are any.
+fn boxed(alloc: Global, details: Details) -> Result<Option<Box<Details>>, AllocError>
+    ensures expiry { IfOk result (λ boxed. unwrap_or (option_map (λ d. d.value.expires_at) boxed) None ≡ details.expires_at) }
+    ensures lifecycle { IfOk result (λ boxed. unwrap_or (option_map (λ d. d.value.lifecycle_id) boxed) None ≡ details.lifecycle_id) }
+    ensures numbers { IfOk result (λ boxed. unwrap_or (option_map (λ d. d.value.numbers) boxed) None ≡ details.numbers) }
+    ensures fsn { IfOk result (λ boxed. unwrap_or (option_map (λ d. d.value.next_fsn.0) boxed) 0 ≡ details.next_fsn.0) }
+{
+    let is_timed = details.expires_at.is_some() || details.lifecycle_id.is_some();
+    if is_timed || details.numbers.is_some() || details.next_fsn.0 != 0 {
+        return Ok(Some(Box::new(alloc, details)?));
+    }
+    Ok(None)
+}
+
 impl QueuedMessage {
     /// The message of a record, in the socket that takes it up now.
     pub(crate) fn restored(
@@ -134,17 +162,20 @@ impl QueuedMessage {
         requires number { message.now.message_id < 2 ^ 32 }
         ensures { IfOk result (λ m. m ≡ message_from now (stream_message_of message.now)) }
     {
+        let details = Details {
+            expires_at: expiry_from(now, message.expires_in_ms),
+            lifecycle_id: lifecycle_from(message.lifecycle_id),
+            numbers: numbers_from(message.mid, message.ssn),
+            next_fsn: Fsn(message.fsn),
+        };
         Ok(QueuedMessage {
             message_id: OutgoingMessageId(message.message_id as u32),
             ppid: PpId(message.ppid),
             payload: Vec::from_slice(alloc, &message.payload)?,
             is_unordered: message.unordered,
-            expires_at: expiry_from(now, message.expires_in_ms),
+            details: boxed(alloc, details)?,
             max_retransmissions: message.max_retransmissions,
-            lifecycle_id: lifecycle_from(message.lifecycle_id),
-            offset: message.remaining_offset,
-            numbers: numbers_from(message.mid, message.ssn),
-            next_fsn: Fsn(message.fsn),
+            offset: message.remaining_offset as u32,
         })
     }
 
@@ -161,41 +192,46 @@ impl QueuedMessage {
             stream_id: id.0,
             ppid: self.ppid.0,
             payload: Vec::from_slice(alloc, &self.payload)?,
-            expires_in_ms: expires_in(now, self.expires_at),
+            expires_in_ms: expires_in(now, self.expires_at()),
             max_retransmissions: self.max_retransmissions,
             unordered: self.is_unordered,
-            lifecycle_id: lifecycle_number(self.lifecycle_id),
+            lifecycle_id: lifecycle_number(self.lifecycle_id()),
             message_id: u64::from(self.message_id.0),
-            remaining_offset: self.offset,
-            mid: mid_of(self.numbers),
-            ssn: ssn_of(self.is_unordered, self.numbers),
-            fsn: self.next_fsn.0,
+            remaining_offset: self.sent(),
+            mid: mid_of(self.numbers()),
+            ssn: ssn_of(self.is_unordered, self.numbers()),
+            fsn: self.next_fsn().0,
         })
     }
 
     /// A message that is accepted now. It expires a millisecond after its lifetime.
+    #[inline(always)]
     pub(crate) fn new(
+        alloc: Global,
         message_id: OutgoingMessageId,
         now: SocketTime,
         message: Message,
         options: &SendOptions,
-    ) -> QueuedMessage
+    ) -> Result<QueuedMessage, AllocError>
         requires some { 0 < length message.payload.items }
         requires small { length message.payload.items < 2 ^ 32 }
-        ensures { result ≡ queued_of message_id.0 now message options.now }
+        ensures { IfOk result (λ m. m ≡ queued_of message_id.0 now message options.now) }
     {
-        QueuedMessage {
+        let details = Details {
+            expires_at: expiry(now, options.lifetime),
+            lifecycle_id: options.lifecycle_id,
+            numbers: None,
+            next_fsn: Fsn(0),
+        };
+        Ok(QueuedMessage {
             message_id,
             ppid: message.ppid,
             payload: message.payload,
             is_unordered: options.unordered,
-            expires_at: expiry(now, options.lifetime),
+            details: boxed(alloc, details)?,
             max_retransmissions: options.max_retransmissions.unwrap_or(u16::MAX),
-            lifecycle_id: options.lifecycle_id,
             offset: 0,
-            numbers: None,
-            next_fsn: Fsn(0),
-        }
+        })
     }
 
     pub(crate) fn message_id(&self) -> OutgoingMessageId
@@ -207,7 +243,20 @@ impl QueuedMessage {
     pub(crate) fn lifecycle_id(&self) -> Option<LifecycleId>
         ensures { result ≡ self.now.lifecycle }
     {
-        self.lifecycle_id
+        match &self.details {
+            Some(details) => details.lifecycle_id,
+            None => None,
+        }
+    }
+
+    /// The moment from which it is expired.
+    fn expires_at(&self) -> Option<SocketTime>
+        ensures { result ≡ self.now.expires }
+    {
+        match &self.details {
+            Some(details) => details.expires_at,
+            None => None,
+        }
     }
 
     pub(crate) fn is_unordered(&self) -> bool
@@ -219,14 +268,27 @@ impl QueuedMessage {
     pub(crate) fn numbers(&self) -> Option<MessageNumbers>
         ensures { result ≡ self.now.numbers }
     {
-        self.numbers
+        match &self.details {
+            Some(details) => details.numbers,
+            None => None,
+        }
+    }
+
+    /// The FSN of its next fragment.
+    fn next_fsn(&self) -> Fsn
+        ensures { result.0 ≡ self.now.fsn }
+    {
+        match &self.details {
+            Some(details) => details.next_fsn,
+            None => Fsn(0),
+        }
     }
 
     /// Whether it expired before a fragment of it was sent.
     pub(crate) fn is_stale(&self, now: SocketTime) -> bool
         ensures { result ≡ is_stale now self.now }
     {
-        self.numbers.is_none() && is_due(self.expires_at, now)
+        self.numbers().is_none() && is_due(self.expires_at(), now)
     }
 
     /// Whether a fragment of it was sent.
@@ -243,15 +305,16 @@ impl QueuedMessage {
         ensures small { result < 2 ^ 32 }
         ensures whole { length self.now.payload < 2 ^ 32 }
     {
-        self.payload.len() - self.offset
+        self.payload.len() - self.sent()
     }
 
     /// The bytes that are sent.
     pub(crate) fn sent(&self) -> usize
+        ensures value { result ≡ self.now.offset }
         ensures whole { remaining_bytes self.now + result ≡ length self.now.payload }
         ensures small { result < 2 ^ 32 }
     {
-        self.offset
+        self.offset as usize
     }
 
     /// It is sent from its beginning again.
@@ -259,8 +322,10 @@ impl QueuedMessage {
         ensures { self.new ≡ whole self.old }
     {
         self.offset = 0;
-        self.numbers = None;
-        self.next_fsn = Fsn(0);
+        if let Some(details) = &mut self.details {
+            details.numbers = None;
+            details.next_fsn = Fsn(0);
+        }
     }
 
     /// The bytes of the next fragment, of at most `size`, in one of these buffers where it serves.
@@ -272,9 +337,9 @@ impl QueuedMessage {
     ) -> Result<Vec<u8>, AllocError>
         ensures { IfOk result (λ bytes. bytes.items ≡ take size (drop self.now.offset self.now.payload)) }
     {
-        let left = self.payload.len() - self.offset;
-        let end = self.offset + left.min(size);
-        spares.copy(alloc, &self.payload[self.offset..end])
+        let start = self.sent();
+        let end = start + self.left().min(size);
+        spares.copy(alloc, &self.payload[start..end])
     }
 
     /// The lifecycle ends with the last fragment alone.
@@ -282,7 +347,7 @@ impl QueuedMessage {
         ensures { result ≡ (if ends size self.now then self.now.lifecycle else None) }
     {
         if self.left() <= size {
-            self.lifecycle_id
+            self.lifecycle_id()
         } else {
             None
         }
@@ -303,14 +368,14 @@ impl QueuedMessage {
                 stream_key: stream_key(self.is_unordered, turn.id),
                 ssn: Ssn::wrapped(Ssn(0), numbers.ssn),
                 mid: Mid::wrapped(Mid(0), numbers.mid),
-                fsn: self.next_fsn,
+                fsn: self.next_fsn(),
                 ppid: self.ppid,
                 payload,
-                is_beginning: self.offset == 0,
+                is_beginning: !self.is_partly_sent(),
                 is_end: self.left() <= turn.size,
             },
             max_retransmissions: self.max_retransmissions,
-            expires_at: self.expires_at,
+            expires_at: self.expires_at(),
             lifecycle_id: self.lifecycle_ended(turn.size),
         }
     }
@@ -332,7 +397,7 @@ impl QueuedMessage {
     pub(crate) fn is_whole(&self, size: usize) -> bool
         ensures { result ≡ is_whole size self.now }
     {
-        self.offset == 0 && self.left() <= size
+        !self.is_partly_sent() && self.left() <= size
     }
 
     /// The fragment that is all of it, with its payload and not a copy.
@@ -345,13 +410,42 @@ impl QueuedMessage {
         made
     }
 
+    /// The room that it needs for its numbers, where it takes them with a fragment of this size and isn't ended.
+    pub(crate) fn room_to_move_on(
+        &self,
+        alloc: Global,
+        size: usize,
+    ) -> Result<Option<Box<Details>>, AllocError>
+        ensures { IfOk result (λ room. is_some room ≡ needs_room size self.now) }
+    {
+        if self.numbers().is_some() || self.left() <= size {
+            return Ok(None);
+        }
+        Ok(Some(Box::new(alloc, NO_DETAILS)?))
+    }
+
     /// That fragment was sent, and it was not the end.
-    pub(crate) fn move_on(&mut self, numbers: MessageNumbers, size: usize)
-        requires { size < remaining_bytes self.old }
+    #[inline(always)]
+    pub(crate) fn move_on(
+        &mut self,
+        numbers: MessageNumbers,
+        size: usize,
+        room: Option<Box<Details>>,
+    )
+        requires more { size < remaining_bytes self.old }
+        requires room { is_some room ≡ needs_room size self.old }
         ensures { self.new ≡ move_past size numbers self.old }
     {
-        self.offset += size;
-        self.numbers = Some(numbers);
-        self.next_fsn += 1;
+        if let Some(mut room) = room {
+            room.expires_at = self.expires_at();
+            room.lifecycle_id = self.lifecycle_id();
+            room.next_fsn = self.next_fsn();
+            self.details = Some(room);
+        }
+        if let Some(details) = &mut self.details {
+            details.numbers = Some(numbers);
+            details.next_fsn += 1;
+        }
+        self.offset += size as u32;
     }
 }

@@ -1,10 +1,10 @@
 //! The messages of a stream, and the rooms that they lie in.
 
-ghost use Rattle.std.specs.Prelude.{◌≡◌, ◌+◌, ◌-◌, ◌<◌, ◌≤◌, ◌^◌, ◌==◌, [], ◌∷◌, ◌++◌, length, sum_by, drop, IsSome, ◌↔◌, slice_index_or, IfSome, IfOk, OnOk, OnErr, option_map, filter, map};
+ghost use Rattle.std.specs.Prelude.{◌≡◌, ◌+◌, ◌-◌, ◌<◌, ◌≤◌, ◌^◌, ◌==◌, [], ◌∷◌, ◌++◌, length, sum_by, drop, IsSome, is_some, ◌↔◌, slice_index_or, IfSome, IfOk, OnOk, OnErr, option_map, filter, map};
 ghost use Rattle.std.specs.Slice.{IsItemAt};
 ghost use Rattle.sctp_state.specs.Events.{Grown};
 ghost use Rattle.sctp_tx_queue.specs.SendQueue.{remaining_bytes, front_left};
-ghost use Rattle.sctp_tx_queue.specs.Produced.{is_front_stale, fresh, emit_expired, front_made, front_ends, moved_front, front_left_after};
+ghost use Rattle.sctp_tx_queue.specs.Produced.{is_front_stale, fresh, emit_expired, front_made, front_ends, moved_front, front_left_after, front_needs_room};
 ghost use Rattle.sctp_tx_queue.specs.Settings.{is_front};
 ghost use Rattle.sctp_tx_queue.specs.Resets.{is_partly, emit_unsent};
 ghost use Rattle.sctp_tx_queue.specs.Emptied.{emit_ended};
@@ -16,7 +16,7 @@ ghost use Rattle.sctp_tx_queue.specs.Views.{produced_of};
 
 use crate::data_to_send::DataToSend;
 use crate::send_queue::emitting::{emit_dropped, emit_ended, emit_waiting};
-use crate::send_queue::message::{MessageNumbers, QueuedMessage};
+use crate::send_queue::message::{Details, MessageNumbers, QueuedMessage};
 use crate::send_queue::sending::StreamTurn;
 use sctp_chunk::SpareBuffers;
 use sctp_serial::{OutgoingMessageId, SocketTime, StreamId};
@@ -47,7 +47,7 @@ impl Model for Messages {
 }
 
 /// Rooms that streams left whose last message went. A stream that has none takes one of them with its next message: so
-/// streams keep no memory for messages that they don't have, and a message takes none beside its payload.
+/// streams keep no memory for messages that they don't have, and a short message takes none beside its payload.
 #[derive(Drop)]
 pub struct SpareRooms {
     rooms: Vec<Box<VecDeque<QueuedMessage>>>,
@@ -160,17 +160,20 @@ fn drop_stale_front(
 }
 
 /// A fragment of the message at the front is sent. The answer is the message, where that ends it.
+#[inline(always)]
 fn move_front_on(
     messages: &mut VecDeque<QueuedMessage>,
     numbers: MessageNumbers,
     size: usize,
+    room: Option<Box<Details>>,
 ) -> Option<QueuedMessage>
+    requires { is_some room ≡ front_needs_room size messages.old.items }
     ensures messages { messages.new.items ≡ moved_front size numbers messages.old.items }
     ensures ended { result ≡ front_ended size messages.old.items }
 {
     let message = messages.front_mut()?;
     if message.left() > size {
-        message.move_on(numbers, size);
+        message.move_on(numbers, size, room);
         return None;
     }
     messages.pop_front()
@@ -366,16 +369,19 @@ impl Messages {
     }
 
     /// A fragment of the message at the front is sent. The answer is the message, where that ends it.
+    #[inline(always)]
     pub(crate) fn move_front_on(
         &mut self,
         numbers: MessageNumbers,
         size: usize,
+        front_room: Option<Box<Details>>,
     ) -> Option<QueuedMessage>
+        requires { is_some front_room ≡ front_needs_room size self.old }
         ensures messages { self.new ≡ moved_front size numbers self.old }
         ensures ended { result ≡ front_ended size self.old }
     {
         match &mut self.room {
-            Some(room) => move_front_on(room, numbers, size),
+            Some(room) => move_front_on(room, numbers, size, front_room),
             None => None,
         }
     }
@@ -434,6 +440,20 @@ impl Messages {
     {
         match self.front() {
             Some(message) => Ok(Some(message.fragment(turn, spares, numbers)?)),
+            None => Ok(None),
+        }
+    }
+
+    /// The room that the message at the front needs to move on by a fragment of this size.
+    pub(crate) fn room_to_move_on(
+        &self,
+        alloc: Global,
+        size: usize,
+    ) -> Result<Option<Box<Details>>, AllocError>
+        ensures { IfOk result (λ room. is_some room ≡ front_needs_room size self.now) }
+    {
+        match self.front() {
+            Some(message) => message.room_to_move_on(alloc, size),
             None => Ok(None),
         }
     }

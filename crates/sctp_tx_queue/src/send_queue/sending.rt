@@ -128,16 +128,17 @@ fn send_part(
     ensures err { OnErr result (Unsent stream.old scheduler.old events.old stream.new scheduler.new events.new) }
 {
     let turn = counted.turn;
+    let room = stream.room_to_move_on(turn.alloc, turn.size)?;
     match stream.fragment(turn, spares)? {
         Some(made) => {
             let next = next_after(stream, turn.size, counted.is_total_low);
             go_in_line(scheduler, events, turn.id, next, made.lifecycle_id)?;
-            stream.advance(turn.size);
+            stream.advance(turn.size, room);
             Ok(Some(made))
         }
         None => {
             scheduler.leave(turn.id);
-            stream.advance(turn.size);
+            stream.advance(turn.size, room);
             Ok(None)
         }
     }

@@ -1,10 +1,10 @@
 //! What waits on one stream.
 
-ghost use Rattle.std.specs.Prelude.{◌≡◌, ◌+◌, ◌-◌, ◌<◌, ◌≤◌, ◌^◌, ◌==◌, [], ◌++◌, length, sum_by, IsTrue, IfOk, OnOk, OnErr, option_map, map, if◌then◌else◌};
+ghost use Rattle.std.specs.Prelude.{◌≡◌, ◌+◌, ◌-◌, ◌<◌, ◌≤◌, ◌^◌, ◌==◌, [], ◌++◌, length, sum_by, IsTrue, is_some, IfOk, OnOk, OnErr, option_map, map, if◌then◌else◌};
 ghost use Rattle.sctp_state.specs.Events.{Grown};
 ghost use Rattle.sctp_state.specs.ThresholdWatcher.{crosses};
 ghost use Rattle.sctp_tx_queue.specs.SendQueue.{remaining_bytes, amount_of, watched_amount, blank_stream, sendable, push, is_stopped};
-ghost use Rattle.sctp_tx_queue.specs.Produced.{is_front_stale, emit_expired, without_stale, front_numbers, front_took, next_fragment, advance, pause_after, pause_if_pending};
+ghost use Rattle.sctp_tx_queue.specs.Produced.{is_front_stale, emit_expired, without_stale, front_numbers, front_took, next_fragment, advance, pause_after, pause_if_pending, front_needs_room};
 ghost use Rattle.sctp_tx_queue.specs.Settings.{with_threshold, without_front, front_discarded};
 ghost use Rattle.sctp_tx_queue.specs.Resets.{is_ready, after_step, emit_unsent, prepare_stream, pause_for_reset};
 ghost use Rattle.sctp_tx_queue.specs.Emptied.{emptied, emit_ended};
@@ -18,7 +18,7 @@ ghost use Rattle.sctp_tx_queue.specs.Whole.{is_front_whole, front_ended, front_l
 ghost use Rattle.sctp_tx_queue.specs.Views.{produced_of};
 
 use crate::data_to_send::DataToSend;
-use crate::send_queue::message::{MessageNumbers, QueuedMessage};
+use crate::send_queue::message::{Details, MessageNumbers, QueuedMessage};
 use crate::send_queue::messages::{Messages, SpareRooms};
 use crate::send_queue::sending::StreamTurn;
 use sctp_chunk::SpareBuffers;
@@ -362,7 +362,8 @@ impl Stream {
 
     /// The next fragment is sent. The answer is the message that it ends.
     #[inline(always)]
-    fn send_front(&mut self, size: usize) -> Option<QueuedMessage>
+    fn send_front(&mut self, size: usize, room: Option<Box<Details>>) -> Option<QueuedMessage>
+        requires { is_some room ≡ front_needs_room size self.old.messages }
         ensures ended { result ≡ front_ended size self.old.messages }
         ensures after { self.new ≡ advance size self.old }
         ensures less { amount_of self.new ≤ amount_of self.old }
@@ -371,7 +372,7 @@ impl Stream {
         let numbers = self.front_numbers();
         let is_end = self.messages.front_ends(size);
         self.number_front();
-        let ended = self.messages.move_front_on(numbers, size);
+        let ended = self.messages.move_front_on(numbers, size, room);
         self.pause_state = pause_after(is_end, self.pause_state);
         self.buffered.decrease(bytes);
         ended
@@ -384,12 +385,24 @@ impl Stream {
         self.messages.leave_room_to(spare_rooms);
     }
 
+    /// The room that the message at the front needs to move on by a fragment of this size.
+    pub(crate) fn room_to_move_on(
+        &self,
+        alloc: Global,
+        size: usize,
+    ) -> Result<Option<Box<Details>>, AllocError>
+        ensures { IfOk result (λ room. is_some room ≡ front_needs_room size self.now.messages) }
+    {
+        self.messages.room_to_move_on(alloc, size)
+    }
+
     /// The next fragment is sent.
-    pub(crate) fn advance(&mut self, size: usize)
+    pub(crate) fn advance(&mut self, size: usize, room: Option<Box<Details>>)
+        requires { is_some room ≡ front_needs_room size self.old.messages }
         ensures after { self.new ≡ advance size self.old }
         ensures less { amount_of self.new ≤ amount_of self.old }
     {
-        drop(self.send_front(size));
+        drop(self.send_front(size, room));
     }
 
     /// Whether the next fragment is a whole message.
@@ -420,7 +433,7 @@ impl Stream {
         ensures less { amount_of self.new ≤ amount_of self.old }
     {
         let numbers = self.front_numbers();
-        match self.send_front(turn.size) {
+        match self.send_front(turn.size, None) {
             Some(message) => Some(message.into_fragment(turn, numbers)),
             None => None,
         }
