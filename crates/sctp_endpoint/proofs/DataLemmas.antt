@@ -1,5 +1,5 @@
 -- Fragments that a packet takes one after the other, as they are sent.
-use Rattle.std.proofs.Common.{◌≡◌, ◌*◌, ℕ, zero, suc, Bool, List, [], ◌∷◌, map, refl, sym, ap, ◌∙◌, subst, arith}
+use Rattle.std.proofs.Common.{◌≡◌, ◌*◌, ◌<◌, ◌^◌, ℕ, zero, suc, Bool, true, List, [], ◌∷◌, map, refl, sym, ap, ◌∙◌, subst, arith}
 use Rattle.std.specs.Prelude.{◌==◌, not, nat_lt, length}
 use Rattle.std.proofs.lemmas.Bool.Decides.{nat_tests}
 use Rattle.sctp_state.specs.Events.{Emitted}
@@ -8,11 +8,12 @@ use Rattle.sctp_tx_queue.specs.SendQueue.{Queue}
 use Rattle.sctp_tx.specs.Taken.{taken_all}
 use Rattle.sctp_tx.specs.RetransmissionQueue.{Sender}
 use Rattle.sctp_tx.specs.Sending as fragments
-use Rattle.sctp_tx.specs.Sending.{send}
+use Rattle.sctp_tx.specs.Sending.{send, is_idle}
+use Rattle.sctp_tx.proofs.IdleLemmas.{idle_send}
 use Rattle.spec_endpoint.specs.Association.{Context}
 use Rattle.spec_endpoint.specs.Heartbeats.{restart_interval_if}
 use Rattle.spec_endpoint.specs.Packets.{PacketDraft, add, add_all, room}
-use Rattle.spec_endpoint.specs.Sending.{Filling, data_chunk_of, is_small, with_data}
+use Rattle.spec_endpoint.specs.Sending.{Filling, data_chunk_of, is_small, with_data, with_fragments}
 use Rattle.sctp_endpoint.specs.declared.transmission_control_block.TransmissionControlBlock.{TransmissionControlBlock}
 use Rattle.sctp_endpoint.specs.Views.{ContextValue, filling_of}
 
@@ -27,6 +28,10 @@ module _ (is_interleaved is_immediate : Bool) where
 pub some_or_none : (n : ℕ) → nat_lt 0 n ≡ not (n == 0)
 some_or_none zero = refl
 some_or_none (suc n) = grind (arith, nat_tests)
+
+-- with nothing to send nothing changes
+pub nothing_added : {P : Type 0} (x : Filling P) → x.tcb.sender.rtx_bytes < 2 ^ 64 → is_idle x.tcb.sender x.context.queue ≡ true → x ≡ with_data x
+nothing_added {P} x small idle = ap (λ (f : fragments.Filling P). with_fragments f x) (sym (idle_send x.context.now (room x.packet) x.tcb.sender x.context.queue x.context.emitted small idle))
 
 -- what a sending hands over, in the words of the rules
 module _ {P : Type 0} (x : Filling P) where

@@ -167,6 +167,9 @@ impl<C: Checksum> Context<C> {
         ensures received { tcb.new.reassembly_queue ≡ tcb.old.reassembly_queue }
         ensures identity { tcb.new.identity ≡ tcb.old.identity }
     {
+        if tcb.retransmission_queue.is_idle(&self.send_queue) {
+            return Ok(());
+        }
         let form = ChunkForm {
             is_interleaved: tcb.capabilities.message_interleaving,
             is_immediate: tcb.retransmission_queue.cwnd() < self.immediate_sack_cwnd(),

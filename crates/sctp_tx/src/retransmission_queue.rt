@@ -506,10 +506,14 @@ impl RetransmissionQueue {
         Ok(is_sent)
     }
 
-    /// Whether nothing is left of messages that were given up, no item waits to be sent again, and the queue has nothing to send.
-    fn is_idle(&self, queue: &SendQueue) -> bool
-        ensures { result ≡ is_idle self.now queue.now }
+    /// Whether nothing is left of messages that were given up, no item waits to be sent again, and the queue has nothing to
+    /// send: then `send_into` does nothing.
+    pub fn is_idle(&self, queue: &SendQueue) -> bool
+        ensures idle { result ≡ is_idle self.now queue.now }
+        ensures small { self.now.rtx_bytes < 2 ^ 64 }
     {
+        // (read for its bound)
+        let _count = self.rtx_bytes_count();
         if self.outstanding.has_unsent_messages_to_discard() {
             return false;
         }

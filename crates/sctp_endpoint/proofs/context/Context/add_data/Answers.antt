@@ -1,8 +1,15 @@
-use Rattle.std.proofs.Common.{refl, true, false}
-use Rattle.sctp_endpoint.proofs.DataLemmas.{data_added}
+use Rattle.std.proofs.Common.{refl, ap, sym, ◌∙◌, true, false}
+use Rattle.sctp_tx.specs.Sending.{is_idle}
+use Rattle.sctp_endpoint.specs.Views.{ContextValue, filling_of}
+use Rattle.sctp_endpoint.proofs.DataLemmas.{data_added, nothing_added}
 use Rattle.sctp_endpoint.proofs.GoesOnLemmas.{goes_on_from, goes_on_through}
 use Rattle.sctp_endpoint.proofs.GrownLemmas.{sent_events, partly_sent_events}
 use Rattle.sctp_endpoint.proofs.context.Context.add_data.Goals as goal
+
+pub returns-then-is_idle-clause-ok : goal.returns-then-is_idle-clause-ok
+returns-then-is_idle-clause-ok g c =
+    let idle = ap (λ (v : ContextValue _). is_idle c.args.tcb.now.retransmission_queue v.queue) (sym c.self.view_is) ∙ sym c.is_idle.ensures.idle ∙ c.if-is_idle.true in
+    nothing_added (filling_of g.C.Checksum.word_of c.args.packet.now c.args.tcb.now c.args.self.now) c.is_idle.ensures.small idle
 
 pub returns-then-not-is_sent-clause-ok : goal.returns-then-not-is_sent-clause-ok
 returns-then-not-is_sent-clause-ok g c =

@@ -18,7 +18,7 @@ returns-then-is_idle-clause-sender g c =
     let s = c.args.self.now in
     let small : s.rtx_bytes < 2 ^ 64 = omega (arith, c.rtx_bytes_count-count.ensures) in
     let none : send c.args.opportunity.now c.args.opportunity.max_bytes s c.args.queue.now c.args.events.now ≡ filling s c.args.queue.now c.args.events.now [] (c.args.opportunity.max_bytes - 0) =
-    idle_send c.args.opportunity.now c.args.opportunity.max_bytes s c.args.queue.now c.args.events.now small (sym c.is_idle.ensures ∙ c.if-is_idle.true) in
+    idle_send c.args.opportunity.now c.args.opportunity.max_bytes s c.args.queue.now c.args.events.now small (sym c.is_idle.ensures.idle ∙ c.if-is_idle.true) in
     ap (λ (f : Filling (List ℕ)). f.sender) (sym none)
 
 pub returns-then-is_idle-clause-queue : goal.returns-then-is_idle-clause-queue
@@ -26,7 +26,7 @@ returns-then-is_idle-clause-queue g c =
     let s = c.args.self.now in
     let small : s.rtx_bytes < 2 ^ 64 = omega (arith, c.rtx_bytes_count-count.ensures) in
     let none : send c.args.opportunity.now c.args.opportunity.max_bytes s c.args.queue.now c.args.events.now ≡ filling s c.args.queue.now c.args.events.now [] (c.args.opportunity.max_bytes - 0) =
-    idle_send c.args.opportunity.now c.args.opportunity.max_bytes s c.args.queue.now c.args.events.now small (sym c.is_idle.ensures ∙ c.if-is_idle.true) in
+    idle_send c.args.opportunity.now c.args.opportunity.max_bytes s c.args.queue.now c.args.events.now small (sym c.is_idle.ensures.idle ∙ c.if-is_idle.true) in
     ap (λ (f : Filling (List ℕ)). f.queue) (sym none)
 
 pub returns-then-is_idle-clause-emitted : goal.returns-then-is_idle-clause-emitted
@@ -34,7 +34,7 @@ returns-then-is_idle-clause-emitted g c =
     let s = c.args.self.now in
     let small : s.rtx_bytes < 2 ^ 64 = omega (arith, c.rtx_bytes_count-count.ensures) in
     let none : send c.args.opportunity.now c.args.opportunity.max_bytes s c.args.queue.now c.args.events.now ≡ filling s c.args.queue.now c.args.events.now [] (c.args.opportunity.max_bytes - 0) =
-    idle_send c.args.opportunity.now c.args.opportunity.max_bytes s c.args.queue.now c.args.events.now small (sym c.is_idle.ensures ∙ c.if-is_idle.true) in
+    idle_send c.args.opportunity.now c.args.opportunity.max_bytes s c.args.queue.now c.args.events.now small (sym c.is_idle.ensures.idle ∙ c.if-is_idle.true) in
     ap (λ (f : Filling (List ℕ)). f.emitted) (sym none)
 
 pub returns-then-is_idle-clause-packet : goal.returns-then-is_idle-clause-packet
@@ -42,7 +42,7 @@ returns-then-is_idle-clause-packet g c =
     let s = c.args.self.now in
     let small : s.rtx_bytes < 2 ^ 64 = omega (arith, c.rtx_bytes_count-count.ensures) in
     let none : send c.args.opportunity.now c.args.opportunity.max_bytes s c.args.queue.now c.args.events.now ≡ filling s c.args.queue.now c.args.events.now [] (c.args.opportunity.max_bytes - 0) =
-    idle_send c.args.opportunity.now c.args.opportunity.max_bytes s c.args.queue.now c.args.events.now small (sym c.is_idle.ensures ∙ c.if-is_idle.true) in
+    idle_send c.args.opportunity.now c.args.opportunity.max_bytes s c.args.queue.now c.args.events.now small (sym c.is_idle.ensures.idle ∙ c.if-is_idle.true) in
     ap (λ (f : Filling (List ℕ)). taken_all (g.P.TakesFragments.taken c.args.opportunity.form) f.chunks c.args.packet.now) (sym none)
 
 pub returns-then-is_idle-clause-sent : goal.returns-then-is_idle-clause-sent
@@ -50,7 +50,7 @@ returns-then-is_idle-clause-sent g c =
     let s = c.args.self.now in
     let small : s.rtx_bytes < 2 ^ 64 = omega (arith, c.rtx_bytes_count-count.ensures) in
     let none : send c.args.opportunity.now c.args.opportunity.max_bytes s c.args.queue.now c.args.events.now ≡ filling s c.args.queue.now c.args.events.now [] (c.args.opportunity.max_bytes - 0) =
-    idle_send c.args.opportunity.now c.args.opportunity.max_bytes s c.args.queue.now c.args.events.now small (sym c.is_idle.ensures ∙ c.if-is_idle.true) in
+    idle_send c.args.opportunity.now c.args.opportunity.max_bytes s c.args.queue.now c.args.events.now small (sym c.is_idle.ensures.idle ∙ c.if-is_idle.true) in
     ap (λ (f : Filling (List ℕ)). nat_lt 0 (length f.chunks)) (sym none)
 
 pub returns-then-is_idle-clause-fits : goal.returns-then-is_idle-clause-fits
