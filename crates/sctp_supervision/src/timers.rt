@@ -1,6 +1,6 @@
 //! Time: which timers a state looks at, and what their expiries lead to.
 
-ghost use Rattle.std.specs.Prelude.{◌≡◌, ◌||◌, cond, IfOk, OnErr, OnOk};
+ghost use Rattle.std.specs.Prelude.{◌≡◌, ◌||◌, true, cond, IfOk, OnErr, OnOk};
 ghost use Rattle.sctp_endpoint.specs.GoesOn.{GoesOn};
 ghost use Rattle.sctp_endpoint.specs.Views.{context_of, timer_outcome_of, phase_of, endpoint_state_after, endpoint_state_of, state_of, tcb_of, ticking_of, init_outcome_of};
 ghost use Rattle.sctp_state.specs.Timer.{expire};
@@ -15,7 +15,6 @@ use sctp_endpoint::{
 };
 use sctp_serial::SocketTime;
 use sctp_state::Timer;
-use sctp_transfer::stream_reset::tick_requests;
 use sctp_wire::Checksum;
 use std::alloc::AllocError;
 
@@ -49,6 +48,50 @@ fn tick_t3<C: Checksum>(
         return Ok(true);
     }
     Ok(has_expired)
+}
+
+/// The own request to reset streams goes out again, unless there were too many errors.
+#[tactic(auto, using(sctp_endpoint::proofs::GoesOnLemmas::goes_on_same, sctp_endpoint::proofs::GoesOnLemmas::goes_on_through))]
+fn send_request_again<C: Checksum>(
+    context: &mut Context<C>,
+    tcb: &mut TransmissionControlBlock,
+) -> Result<(), AllocError>
+    ensures ok { OnOk result (ticking_of C.word_of tcb.new context.new true ≡ table.requests_again (ticking_of C.word_of tcb.old context.old true)) }
+    ensures goes_on { GoesOn context.old context.new }
+    ensures received { tcb.new.reassembly_queue ≡ tcb.old.reassembly_queue }
+    ensures identity { tcb.new.identity ≡ tcb.old.identity }
+{
+    if context.tx_error_counter.is_exhausted() {
+        return Ok(());
+    }
+    tcb.reset_requests.update_rto(tcb.rto.rto());
+    match tcb.reset_requests.current_chunk()? {
+        Some(chunk) => context.emit_chunk(tcb, chunk),
+        None => Ok(()),
+    }
+}
+
+/// The reconfiguration timer (RFC 6525 section 5.1.1), after the other ones have expired or not. The answer is whether
+/// any did.
+#[tactic(auto, using(sctp_endpoint::proofs::GoesOnLemmas::goes_on_same, sctp_endpoint::proofs::GoesOnLemmas::goes_on_through, sctp_endpoint::proofs::GoesOnLemmas::goes_on_as))]
+fn tick_requests<C: Checksum>(
+    context: &mut Context<C>,
+    tcb: &mut TransmissionControlBlock,
+    has_expired: bool,
+) -> Result<bool, AllocError>
+    ensures ok { IfOk result (λ any. ticking_of C.word_of tcb.new context.new any ≡ table.tick_requests (ticking_of C.word_of tcb.old context.old has_expired)) }
+    ensures goes_on { GoesOn context.old context.new }
+    ensures received { tcb.new.reassembly_queue ≡ tcb.old.reassembly_queue }
+    ensures identity { tcb.new.identity ≡ tcb.old.identity }
+{
+    if !tcb.reset_requests.expire(context.clock) {
+        return Ok(has_expired);
+    }
+    if tcb.reset_requests.wake() {
+        context.tx_error_counter.increment();
+    }
+    send_request_again(context, tcb)?;
+    Ok(true)
 }
 
 /// The timers of a control block, and those of heartbeats, one after the other. The answer is whether any expired.

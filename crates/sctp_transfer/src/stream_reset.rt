@@ -1,4 +1,4 @@
-//! Streams that are reset (RFC 6525): the peer's requests, the answers to the own one, its timer, and the call.
+//! Streams that are reset (RFC 6525): the peer's requests, the answers to the own one, and the call.
 
 ghost use Rattle.std.specs.Prelude.{◌≡◌, ◌++◌, ◌∷◌, [], false, true, None, map, IfOk, OnErr, OnOk};
 ghost use Rattle.sctp_wire.specs.Parameter.{reset_response};
@@ -11,9 +11,8 @@ ghost use Rattle.sctp_rx.specs.Delivery.{Extends};
 ghost use Rattle.spec_endpoint.specs.Calls.{ready_in};
 ghost use Rattle.spec_endpoint.specs.Shown.{association_in};
 ghost use Rattle.sctp_endpoint.specs.GoesOn.{GoesOn};
-ghost use Rattle.sctp_endpoint.specs.Views.{context_of, handled_parameters_of, handling_of, opened_of, phase_of, after_sending_of, endpoint_state_of, state_of, tcb_of, ticking_of};
+ghost use Rattle.sctp_endpoint.specs.Views.{context_of, handled_parameters_of, handling_of, opened_of, phase_of, after_sending_of, endpoint_state_of, state_of, tcb_of};
 ghost use Rattle.spec_endpoint.specs.StreamReset as table;
-ghost use Rattle.spec_endpoint.specs.Timers as timers;
 
 use sctp_endpoint::reset_requests::ResetOutcome;
 use sctp_endpoint::sending::send_waiting;
@@ -363,50 +362,6 @@ fn reconfig_open<C: Checksum>(
         return emit_reconfig_error(context, phase, tcb);
     }
     take_parameters(context, phase, tcb, parameters)
-}
-
-/// The own request to reset streams goes out again, unless there were too many errors.
-#[tactic(auto, using(sctp_endpoint::proofs::GoesOnLemmas::goes_on_same, sctp_endpoint::proofs::GoesOnLemmas::goes_on_through))]
-fn send_request_again<C: Checksum>(
-    context: &mut Context<C>,
-    tcb: &mut TransmissionControlBlock,
-) -> Result<(), AllocError>
-    ensures ok { OnOk result (ticking_of C.word_of tcb.new context.new true ≡ timers.requests_again (ticking_of C.word_of tcb.old context.old true)) }
-    ensures goes_on { GoesOn context.old context.new }
-    ensures received { tcb.new.reassembly_queue ≡ tcb.old.reassembly_queue }
-    ensures identity { tcb.new.identity ≡ tcb.old.identity }
-{
-    if context.tx_error_counter.is_exhausted() {
-        return Ok(());
-    }
-    tcb.reset_requests.update_rto(tcb.rto.rto());
-    match tcb.reset_requests.current_chunk()? {
-        Some(chunk) => context.emit_chunk(tcb, chunk),
-        None => Ok(()),
-    }
-}
-
-/// The reconfiguration timer (RFC 6525 section 5.1.1), after the other ones have expired or not. The answer is whether
-/// any did.
-#[tactic(auto, using(sctp_endpoint::proofs::GoesOnLemmas::goes_on_same, sctp_endpoint::proofs::GoesOnLemmas::goes_on_through, sctp_endpoint::proofs::GoesOnLemmas::goes_on_as))]
-pub fn tick_requests<C: Checksum>(
-    context: &mut Context<C>,
-    tcb: &mut TransmissionControlBlock,
-    has_expired: bool,
-) -> Result<bool, AllocError>
-    ensures ok { IfOk result (λ any. ticking_of C.word_of tcb.new context.new any ≡ timers.tick_requests (ticking_of C.word_of tcb.old context.old has_expired)) }
-    ensures goes_on { GoesOn context.old context.new }
-    ensures received { tcb.new.reassembly_queue ≡ tcb.old.reassembly_queue }
-    ensures identity { tcb.new.identity ≡ tcb.old.identity }
-{
-    if !tcb.reset_requests.expire(context.clock) {
-        return Ok(has_expired);
-    }
-    if tcb.reset_requests.wake() {
-        context.tx_error_counter.increment();
-    }
-    send_request_again(context, tcb)?;
-    Ok(true)
 }
 
 /// The reset of a stream is prepared: its messages of which nothing is sent are dropped.
