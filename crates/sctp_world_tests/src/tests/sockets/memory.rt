@@ -1,9 +1,9 @@
 //! A message crosses, and its sender goes on in a new socket, while any allocation may be refused: each call answers as with
 //! ample memory, or that memory lacks, and then its socket fails.
 
-use crate::tests::Seven;
-use crate::tests::crossing::crosses;
-use crate::tests::opening::{
+use crate::tests::sockets::Seven;
+use crate::tests::sockets::crossing::crosses;
+use crate::tests::sockets::opening::{
     Emitted, Fault, Watched, emits_connected, is_mute, lacks, next_emitted, opens, right,
 };
 use rand_core::Rng;

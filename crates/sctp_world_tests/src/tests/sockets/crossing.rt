@@ -1,6 +1,6 @@
 //! A message that crosses, and the SACK that comes back.
 
-use crate::tests::opening::{
+use crate::tests::sockets::opening::{
     Emitted, Fault, Watched, answers, lacks, next_emitted, packet, receives, right,
 };
 use sctp_association::{DcSctpSocket, Message, PpId, SendOptions, StreamId};
