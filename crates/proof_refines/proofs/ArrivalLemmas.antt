@@ -8,10 +8,10 @@ use Rattle.sctp_serial.specs.Unwrapped.{origin}
 use Rattle.sctp_rx.specs.ReassemblyKey.{pair_rank}
 use Rattle.sctp_rx.specs.Runs.{is_held, put_in, with_item}
 use Rattle.sctp_rx.specs.Held.{Held, rank_of, intervals_of, is_complete, left_by}
-use Rattle.sctp_rx.specs.SettledLaws.{AreInOrder, AreSettled, IsSettledInOrder, IsSettled}
+use Rattle.proof_refines.specs.SettledStreams.{AreInOrder, AreSettled, IsSettledInOrder, IsSettled}
 use Rattle.sctp_rx.specs.Delivery.{OrderedDelivery, UnorderedDelivery, fresh_ordered, fresh_unordered, deliver, first_complete, at_rest, deliver_first_complete, ordered_arrival, unordered_arrival}
 use Rattle.sctp_rx.specs.ReassemblyStreams.{Streams, Outcome, with_ordered, with_unordered, unchanged, is_far, add_ordered, add_unordered}
-use Rattle.sctp_reassembly.proofs.SettledInsertLemmas.{came_in}
+use Rattle.proof_refines.proofs.SettledInsertLemmas.{came_in}
 use Rattle.proof_protocol.specs.Reassembly.{Queue, KeyOf, next_of, Added}
 use Rattle.proof_refines.specs.View.{View, IsFiled, IsSeenAs, chunk_of_held, key_of_held, ordered_at, unordered_at, held_on, view_with}
 use Rattle.proof_refines.proofs.AmongLemmas.{held_item}
@@ -20,7 +20,7 @@ use Rattle.proof_refines.proofs.SeenAsLemmas.{with_chunk, added, seen_with}
 use Rattle.proof_refines.proofs.TakesLemmas.{Leads, AreAlike, is_place, moved, moved_at, moved_none, moved_twice, leads_alike, after_delivery, delivers, completes}
 use Rattle.proof_refines.proofs.StreamLemmas.{changed_here, changed_off, all_at}
 use Rattle.proof_refines.proofs.ReceiverRestLemmas.{IsAtRest}
-use Rattle.sctp_reassembly.proofs.SettledStreamsLemmas.{first_ordered, first_unordered}
+use Rattle.proof_refines.proofs.SettledStreamsLemmas.{first_ordered, first_unordered}
 
 -- ---- streams at rest
 

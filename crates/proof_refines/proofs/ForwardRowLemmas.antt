@@ -8,14 +8,14 @@ use Rattle.sctp_serial.specs.Unwrapped.{origin}
 use Rattle.sctp_chunk.specs.declared.forward_tsn.SkippedStream.{SkippedStream}
 use Rattle.sctp_chunk.specs.declared.forward_tsn.SkippedStream.TheVariants.{ForwardTsn, IForwardTsn}
 use Rattle.sctp_rx.specs.Held.{Held}
-use Rattle.sctp_rx.specs.SettledLaws.{AreSettled}
+use Rattle.proof_refines.specs.SettledStreams.{AreSettled}
 use Rattle.sctp_rx.specs.ReassemblyStreams as streams
 use Rattle.sctp_rx.specs.ReassemblyStreams.{Streams, Outcome, is_far, by_stream, dropped_to, entries_in}
 use Rattle.sctp_rx.specs.ReassemblyQueue.{Reassembly, number_of, came, apply_outcome, forward, forward_now, forward_or_wait, point_waits, wait_with, resetting}
 use Rattle.sctp_rx.specs.DataTracker as tracker
 use Rattle.sctp_rx.specs.DataTracker.{Tracker}
 use Rattle.sctp_rx.proofs.SeenOneFormLemmas.{contains_up_to}
-use Rattle.sctp_reassembly.proofs.SettledQueueLemmas.{settled_passes}
+use Rattle.proof_refines.proofs.SettledQueueLemmas.{settled_passes}
 use Rattle.proof_protocol.specs.State.{Message, Entry, ForwardPoint, Transfer, IsAmong, place_of, ordered_of}
 use Rattle.proof_protocol.specs.Rules.{forward_comes, become_ready}
 use Rattle.proof_protocol.specs.Invariant.{Invariant}

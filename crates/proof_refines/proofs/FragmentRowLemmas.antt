@@ -7,13 +7,13 @@ use Rattle.sctp_serial.specs.Unwrapped.{origin}
 use Rattle.sctp_packet.specs.Chunk.{FragmentTree}
 use Rattle.sctp_rx.specs.Held.{Held}
 use Rattle.sctp_rx.specs.Delivery.{ordered_arrival, unordered_arrival}
-use Rattle.sctp_rx.specs.SettledLaws.{AreInOrder, AreSettled}
+use Rattle.proof_refines.specs.SettledStreams.{AreInOrder, AreSettled}
 use Rattle.sctp_rx.specs.ReassemblyStreams as streams
 use Rattle.sctp_rx.specs.ReassemblyStreams.{Streams, Outcome, unchanged, with_ordered, with_unordered, is_far, held_as, add_in_order, add_ordered, add_unordered}
 use Rattle.sctp_rx.specs.ReassemblyQueue.{Reassembly, number_of, came, apply_outcome, add, is_kept_back}
 use Rattle.sctp_rx.specs.DataTracker.{Tracker, IsTracker, observe}
 use Rattle.sctp_rx.proofs.SeenOneFormLemmas.{contains_add}
-use Rattle.sctp_reassembly.proofs.SettledQueueLemmas.{settled_arrives}
+use Rattle.proof_refines.proofs.SettledQueueLemmas.{settled_arrives}
 use Rattle.proof_protocol.specs.State.{Message, Transfer, put}
 use Rattle.proof_protocol.specs.Rules.{data_comes, late_comes, become_ready}
 use Rattle.proof_protocol.specs.Invariant.{Invariant}

@@ -4,7 +4,7 @@ use Rattle.std.specs.List.{find}
 use Rattle.proof_protocol.specs.State.{IsAmong}
 use Rattle.sctp_rx.specs.Runs.{IsLinked, flat, AreRuns, IsMessage}
 use Rattle.sctp_rx.specs.Held.{Held, rank_of, goes_on, begins, ends, intervals_of, is_complete, is_in_turn, NonePass, without_first_of, left_by}
-use Rattle.sctp_rx.specs.SettledLaws.{AreInOrder}
+use Rattle.proof_refines.specs.SettledStreams.{AreInOrder}
 use Rattle.sctp_fragments.proofs.RunLemmas.{AreRuns_back, flat_append, flat_runs_of, runs_of_around}
 use Rattle.sctp_reassembly.proofs.ListLemmas.{first_stops, last_stops}
 use Rattle.proof_refines.proofs.RisingLemmas.{Rising, rising_runs, segment}

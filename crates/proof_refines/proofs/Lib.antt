@@ -65,3 +65,9 @@ pub mod NearComesLemmas
 pub mod ResetRowLemmas
 pub mod DeferralLemmas
 pub mod DeferralRowLemmas
+pub mod SettledRunsLemmas
+pub mod SettledInsertLemmas
+pub mod SettledStreamsLemmas
+pub mod SettledQueueLemmas
+pub mod ReadyLemmas
+pub mod ReassemblyRowsLemmas

@@ -6,7 +6,7 @@ use Rattle.sctp_serial.specs.Unwrapped.{origin}
 use Rattle.sctp_rx.specs.ReassemblyKey.{pair_rank}
 use Rattle.sctp_rx.specs.Runs.{is_next, last_of, IsLinked, IsMessage}
 use Rattle.sctp_rx.specs.Held.{Held, rank_of, goes_on, begins, ends, intervals_of, is_complete, is_in_turn, NoneComplete, NoneInTurn}
-use Rattle.sctp_rx.specs.SettledLaws.{AreInOrder}
+use Rattle.proof_refines.specs.SettledStreams.{AreInOrder}
 use Rattle.proof_protocol.specs.State.{Message, Sender, IsAmong, fragment, place_of, count}
 use Rattle.proof_protocol.specs.Reassembly.{Chunk, MessageKey, Queue, KeyOf, next_of, key_of, below_of, chunk_of, nth, ReadyRun, KeyLaws}
 use Rattle.proof_protocol.specs.Lifted.{up_key, up_chunk}

@@ -2,7 +2,7 @@
 use Rattle.std.proofs.Common.{◌≡◌, ℕ, Bool, Option, Some, None, List, ◌∷◌, ◌++◌, refl, ap, sym, ◌∙◌, subst}
 use Rattle.sctp_serial.specs.Messages as messages
 use Rattle.sctp_rx.specs.Held.{Held}
-use Rattle.sctp_rx.specs.SettledLaws.{AreSettled}
+use Rattle.proof_refines.specs.SettledStreams.{AreSettled}
 use Rattle.sctp_rx.specs.ReassemblyStreams.{Streams}
 use Rattle.sctp_rx.specs.ReassemblyQueue.{Reassembly, Deferred}
 use Rattle.sctp_rx.specs.DataTracker.{Tracker}

@@ -12,12 +12,12 @@ use Rattle.sctp_serial.specs.Unwrapped.{origin}
 use Rattle.sctp_serial.specs.declared.api.StreamId.{StreamId}
 use Rattle.sctp_rx.specs.Held.{Held}
 use Rattle.sctp_rx.specs.Delivery.{fresh_ordered, fresh_unordered}
-use Rattle.sctp_rx.specs.SettledLaws.{AreSettled}
+use Rattle.proof_refines.specs.SettledStreams.{AreSettled}
 use Rattle.sctp_rx.specs.ReassemblyStreams as streams
 use Rattle.sctp_rx.specs.ReassemblyStreams.{Entries, Streams, stream_at, is_named, forget}
 use Rattle.sctp_rx.specs.ReassemblyQueue.{Reassembly, waiting_in, reset, apply_each}
 use Rattle.sctp_rx.specs.DataTracker.{Tracker}
-use Rattle.sctp_reassembly.proofs.SettledQueueLemmas.{settled_begins_anew}
+use Rattle.proof_refines.proofs.SettledQueueLemmas.{settled_begins_anew}
 use Rattle.proof_protocol.specs.State.{Message, IsAmong, put, place_of, count, stream_of}
 use Rattle.proof_protocol.specs.Reassembly.{Chunk, Queue, KeyOf, next_of, nth, ResetPerformed, NoneReady, keep_other_streams}
 use Rattle.proof_protocol.specs.Invariant.{Invariant}

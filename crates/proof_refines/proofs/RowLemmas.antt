@@ -12,7 +12,7 @@ use Rattle.sctp_rx.specs.Seen.{in_runs}
 use Rattle.sctp_rx.specs.DataTracker.{Tracker, IsTracker, tracker, observe, forward, moves_on}
 use Rattle.sctp_rx.specs.ReassemblyQueue.{Reassembly, reassembly}
 use Rattle.sctp_rx.proofs.SeenOneFormLemmas.{contains_up_to}
-use Rattle.sctp_reassembly.proofs.SettledQueueLemmas.{settled_new}
+use Rattle.proof_refines.proofs.SettledQueueLemmas.{settled_new}
 use Rattle.proof_protocol.specs.State.{Message, Transfer, IsAmong, start, put}
 use Rattle.proof_protocol.specs.Rules.{TransferEvent, IsAllowed, after, send_sack}
 use Rattle.proof_protocol.specs.Invariant.{Invariant}

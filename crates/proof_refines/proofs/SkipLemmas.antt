@@ -10,10 +10,10 @@ use Rattle.sctp_chunk.specs.declared.forward_tsn.SkippedStream.TheVariants.{Forw
 use Rattle.sctp_rx.specs.ReassemblyKey.{pair_rank}
 use Rattle.sctp_rx.specs.Runs.{from_rank}
 use Rattle.sctp_rx.specs.Held.{rank_of, intervals_of}
-use Rattle.sctp_rx.specs.SettledLaws.{AreInOrder}
+use Rattle.proof_refines.specs.SettledStreams.{AreInOrder}
 use Rattle.sctp_rx.specs.Delivery.{OrderedDelivery, fresh_ordered, fresh_unordered, ordered_forward, unordered_forward}
 use Rattle.sctp_rx.specs.ReassemblyStreams.{Streams, Outcome, set_stream, with_ordered, unchanged, is_far, skip, skip_of, skip_ordered, skip_unordered, skip_each}
-use Rattle.sctp_reassembly.proofs.SettledRunsLemmas.{from_order}
+use Rattle.proof_refines.proofs.SettledRunsLemmas.{from_order}
 use Rattle.proof_protocol.specs.State.{Entry, IsAmong}
 use Rattle.proof_protocol.specs.Reassembly.{Queue, KeyOf, next_of}
 use Rattle.proof_refines.specs.View.{IsSeenAs, ordered_at, unordered_at, held_on, view_with}

@@ -5,10 +5,10 @@ use Rattle.std.specs.List.{find}
 use Rattle.std.proofs.lemmas.Bool.{cases_eq, and_parts, eqb-true, eq-eqb, ne_eqb, cond-true, cond-false}
 use Rattle.sctp_serial.specs.Messages.{Message}
 use Rattle.sctp_rx.specs.Held.{Held, rank_of, intervals_of, is_complete, is_in_turn, left_by}
-use Rattle.sctp_rx.specs.SettledLaws.{AreInOrder}
+use Rattle.proof_refines.specs.SettledStreams.{AreInOrder}
 use Rattle.sctp_rx.specs.Delivery.{OrderedDelivery, preceded_by, delivering, deliver_within, first_complete}
 use Rattle.sctp_rx.specs.Held.{message_of_run}
-use Rattle.sctp_reassembly.proofs.SettledRunsLemmas.{left_order}
+use Rattle.proof_refines.proofs.SettledRunsLemmas.{left_order}
 use Rattle.sctp_reassembly.proofs.FindLemmas.{left_unfound}
 use Rattle.proof_protocol.specs.Rules.{same}
 use Rattle.proof_protocol.proofs.ToolsLemmas.{same_is, same_self}

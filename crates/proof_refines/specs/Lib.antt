@@ -16,3 +16,5 @@ pub mod ReceiverRefinement
 pub mod Runs
 pub mod Near
 pub mod Resets
+pub mod SettledStreams
+pub mod ReadyMessages

@@ -3,7 +3,7 @@ use Rattle.std.specs.Prelude.{◌≡◌, ℕ, Bool, Option, None, List}
 use Rattle.sctp_serial.specs.Messages as messages
 use Rattle.sctp_rx.specs.DataTracker.{Tracker}
 use Rattle.sctp_rx.specs.Held.{Held}
-use Rattle.sctp_rx.specs.SettledLaws.{AreSettled}
+use Rattle.proof_refines.specs.SettledStreams.{AreSettled}
 use Rattle.sctp_rx.specs.ReassemblyQueue.{Reassembly, Deferred}
 use Rattle.proof_protocol.specs.State.{Message, Transfer, IsAmong}
 use Rattle.proof_protocol.specs.Rules.{TransferEvent, Happens, run}

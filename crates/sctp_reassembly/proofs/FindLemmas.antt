@@ -43,3 +43,12 @@ module _ (test : List Held → Bool) where
 
   pub left_unfound : (hs : List Held) → find test (intervals_of hs) ≡ None → left_by test hs ≡ hs
   left_unfound hs none = ap flat (without_unfound (intervals_of hs) none) ∙ flat_runs_of rank_of goes_on hs
+
+  -- where nothing is found, nothing passes
+  pub find_none : (rs : List (List Held)) → find test rs ≡ None → NonePass test rs
+  find_none [] h = tt
+  find_none (r ∷ rs) h = go (find_none rs) (test r) refl h
+    where
+      go : (find test rs ≡ None → NonePass test rs) → (b : Bool) → test r ≡ b → cond b (Some r) (find test rs) ≡ None → (test r ≡ false) × NonePass test rs
+      go rest true is h = absurd (cc)
+      go rest false is h = (is, rest h)

@@ -3,7 +3,6 @@ pub mod ListLemmas
 pub mod CountLemmas
 pub mod PopLemmas
 pub mod FindLemmas
-pub mod ReassemblyRowsLemmas
 pub mod DeliverLemmas
 pub mod InterruptedLemmas
 mod JoinedLemmas
@@ -23,14 +22,9 @@ pub mod WaitingLemmas
 pub mod ExtendsLemmas
 pub mod RestoredLemmas
 pub mod ReceptionLemmas
-pub mod SettledRunsLemmas
-pub mod SettledInsertLemmas
-pub mod SettledStreamsLemmas
-pub mod SettledQueueLemmas
 pub mod WrittenLemmas
 pub mod HeldLemmas
 pub mod NoteLemmas
-pub mod ReadyLemmas
 pub mod ForgetLemmas
 pub mod NamedLemmas
 pub mod TurnLemmas

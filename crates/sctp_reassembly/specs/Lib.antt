@@ -12,7 +12,5 @@ pub mod Places
 pub mod Listed
 pub mod Turns
 pub mod ReassemblyHandover
-pub mod SettledLaws
-pub mod ReadyLaws
 pub mod UnorderedByTsn
 pub mod KeyAt

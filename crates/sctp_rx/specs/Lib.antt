@@ -15,5 +15,3 @@ pub use Rattle.sctp_reassembly.specs.ReassemblyQueue
 pub use Rattle.sctp_reassembly.specs.ReassemblyMode
 pub use Rattle.sctp_reassembly.specs.Waiting
 pub use Rattle.sctp_reassembly.specs.ReassemblyHandover
-pub use Rattle.sctp_reassembly.specs.SettledLaws
-pub use Rattle.sctp_reassembly.specs.ReadyLaws

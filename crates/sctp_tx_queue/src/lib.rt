@@ -2,7 +2,6 @@
 #![tactic(auto)]
 
 pub mod data_to_send;
-pub mod laws;
 pub mod send_queue;
 
 pub use data_to_send::DataToSend;

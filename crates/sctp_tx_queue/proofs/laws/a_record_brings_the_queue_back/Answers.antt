@@ -1,5 +1,0 @@
-use Rattle.sctp_tx_queue.proofs.AgainLemmas.{comes_back}
-use Rattle.sctp_tx_queue.proofs.laws.a_record_brings_the_queue_back.Goals as goal
-
-pub returns : goal.returns
-returns c = comes_back

@@ -1,5 +1,0 @@
-use Rattle.sctp_tx_queue.proofs.UnfinishedLemmas.{order_kept, numbers_kept, rests_kept}
-use Rattle.sctp_tx_queue.proofs.laws.want_of_memory_keeps_the_order.Goals as goal
-
-pub returns : goal.returns
-returns c = record { order = order_kept; numbers = numbers_kept; rests = rests_kept }
