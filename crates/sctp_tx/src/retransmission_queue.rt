@@ -487,12 +487,8 @@ impl RetransmissionQueue {
         ensures flight { OnOk result (StaysWithin self.old self.new) }
         ensures err { OnErr result (PartlySent opportunity.now opportunity.max_bytes self.old queue.old events.old self.new queue.new events.new) }
     {
-        // (read for their bounds: neither a sum that nothing is added to nor what the window lets go is capped)
-        let _count = self.rtx_bytes_count();
+        // (read for its bound)
         let _cwnd = self.cwnd();
-        if self.is_idle(queue) {
-            return Ok(false);
-        }
         discard_all(&mut self.outstanding, queue, events)?;
         let (is_again, bytes) = self.resend(opportunity.max_bytes, opportunity.form, packet)?;
         let left = opportunity.max_bytes.saturating_sub(bytes);

@@ -220,8 +220,7 @@ impl QueuedMessage {
         let details = Details {
             expires_at: expiry(now, options.lifetime),
             lifecycle_id: options.lifecycle_id,
-            numbers: None,
-            next_fsn: Fsn(0),
+            ..NO_DETAILS
         };
         Ok(QueuedMessage {
             message_id,

@@ -47,7 +47,7 @@ impl Model for Messages {
 }
 
 /// Rooms that streams left whose last message went. A stream that has none takes one of them with its next message: so
-/// streams keep no memory for messages that they don't have, and a short message takes none beside its payload.
+/// streams keep no memory for messages that they don't have, and most messages take none for their place.
 #[derive(Drop)]
 pub struct SpareRooms {
     rooms: Vec<Box<VecDeque<QueuedMessage>>>,

@@ -8,59 +8,9 @@ use Rattle.sctp_tx.specs.Interrupted.{Stands, PartlySent}
 use Rattle.sctp_tx.specs.Taken.{taken_all}
 use Rattle.sctp_tx.proofs.FitLemmas.{sent_fits}
 use Rattle.sctp_tx.proofs.FlightLemmas.{itself, stays_within}
-use Rattle.sctp_tx.proofs.IdleLemmas.{idle_send}
 use Rattle.sctp_tx.proofs.PartlyLemmas.{on_err, stopped_discarding, stopped_resending, stopped_filling}
 use Rattle.sctp_tx.proofs.TakenLemmas.{begun, filling_stopped, sender_is, sent_as, sent_is, taken_is}
 use Rattle.sctp_tx.proofs.retransmission_queue.RetransmissionQueue.send_into.Goals as goal
-
-pub returns-then-is_idle-clause-sender : goal.returns-then-is_idle-clause-sender
-returns-then-is_idle-clause-sender g c =
-    let s = c.args.self.now in
-    let small : s.rtx_bytes < 2 ^ 64 = omega (arith, c.rtx_bytes_count-count.ensures) in
-    let none : send c.args.opportunity.now c.args.opportunity.max_bytes s c.args.queue.now c.args.events.now ≡ filling s c.args.queue.now c.args.events.now [] (c.args.opportunity.max_bytes - 0) =
-    idle_send c.args.opportunity.now c.args.opportunity.max_bytes s c.args.queue.now c.args.events.now small (sym c.is_idle.ensures.idle ∙ c.if-is_idle.true) in
-    ap (λ (f : Filling (List ℕ)). f.sender) (sym none)
-
-pub returns-then-is_idle-clause-queue : goal.returns-then-is_idle-clause-queue
-returns-then-is_idle-clause-queue g c =
-    let s = c.args.self.now in
-    let small : s.rtx_bytes < 2 ^ 64 = omega (arith, c.rtx_bytes_count-count.ensures) in
-    let none : send c.args.opportunity.now c.args.opportunity.max_bytes s c.args.queue.now c.args.events.now ≡ filling s c.args.queue.now c.args.events.now [] (c.args.opportunity.max_bytes - 0) =
-    idle_send c.args.opportunity.now c.args.opportunity.max_bytes s c.args.queue.now c.args.events.now small (sym c.is_idle.ensures.idle ∙ c.if-is_idle.true) in
-    ap (λ (f : Filling (List ℕ)). f.queue) (sym none)
-
-pub returns-then-is_idle-clause-emitted : goal.returns-then-is_idle-clause-emitted
-returns-then-is_idle-clause-emitted g c =
-    let s = c.args.self.now in
-    let small : s.rtx_bytes < 2 ^ 64 = omega (arith, c.rtx_bytes_count-count.ensures) in
-    let none : send c.args.opportunity.now c.args.opportunity.max_bytes s c.args.queue.now c.args.events.now ≡ filling s c.args.queue.now c.args.events.now [] (c.args.opportunity.max_bytes - 0) =
-    idle_send c.args.opportunity.now c.args.opportunity.max_bytes s c.args.queue.now c.args.events.now small (sym c.is_idle.ensures.idle ∙ c.if-is_idle.true) in
-    ap (λ (f : Filling (List ℕ)). f.emitted) (sym none)
-
-pub returns-then-is_idle-clause-packet : goal.returns-then-is_idle-clause-packet
-returns-then-is_idle-clause-packet g c =
-    let s = c.args.self.now in
-    let small : s.rtx_bytes < 2 ^ 64 = omega (arith, c.rtx_bytes_count-count.ensures) in
-    let none : send c.args.opportunity.now c.args.opportunity.max_bytes s c.args.queue.now c.args.events.now ≡ filling s c.args.queue.now c.args.events.now [] (c.args.opportunity.max_bytes - 0) =
-    idle_send c.args.opportunity.now c.args.opportunity.max_bytes s c.args.queue.now c.args.events.now small (sym c.is_idle.ensures.idle ∙ c.if-is_idle.true) in
-    ap (λ (f : Filling (List ℕ)). taken_all (g.P.TakesFragments.taken c.args.opportunity.form) f.chunks c.args.packet.now) (sym none)
-
-pub returns-then-is_idle-clause-sent : goal.returns-then-is_idle-clause-sent
-returns-then-is_idle-clause-sent g c =
-    let s = c.args.self.now in
-    let small : s.rtx_bytes < 2 ^ 64 = omega (arith, c.rtx_bytes_count-count.ensures) in
-    let none : send c.args.opportunity.now c.args.opportunity.max_bytes s c.args.queue.now c.args.events.now ≡ filling s c.args.queue.now c.args.events.now [] (c.args.opportunity.max_bytes - 0) =
-    idle_send c.args.opportunity.now c.args.opportunity.max_bytes s c.args.queue.now c.args.events.now small (sym c.is_idle.ensures.idle ∙ c.if-is_idle.true) in
-    ap (λ (f : Filling (List ℕ)). nat_lt 0 (length f.chunks)) (sym none)
-
-pub returns-then-is_idle-clause-fits : goal.returns-then-is_idle-clause-fits
-returns-then-is_idle-clause-fits g c =
-    let small : c.args.opportunity.max_bytes < 2 ^ 64 = omega (arith, c.requires.small) in
-    sent_fits c.args.opportunity.now c.args.opportunity.max_bytes c.args.self.now c.args.queue.now c.args.events.now small
-
-pub returns-then-is_idle-clause-flight : goal.returns-then-is_idle-clause-flight
-returns-then-is_idle-clause-flight g c =
-    itself c.args.self.now
 
 pub returns-clause-sender : goal.returns-clause-sender
 returns-clause-sender g c =
