@@ -23,22 +23,37 @@ const FLAG_BEGINNING: u8 = 2;
 
 const FLAG_END: u8 = 1;
 
-/// A fragment of a message.
-#[derive(Debug, Drop)]
+/// A fragment of a message. Fields lie in memory as they stand here: the flags fill a gap, so that it takes 48 bytes.
+#[derive(Drop)]
 pub struct Data {
     pub stream_key: StreamKey,
     /// The message's number in its stream, where messages are not interleaved; else 0.
     pub ssn: Ssn,
+    /// Whether the message begins here.
+    pub is_beginning: bool,
+    /// Whether the message ends here.
+    pub is_end: bool,
     /// The message's number in its stream, where messages are interleaved; else 0.
     pub mid: Mid,
     /// The fragment's number in its message, where messages are interleaved; else 0.
     pub fsn: Fsn,
     pub ppid: PpId,
     pub payload: Vec<u8>,
-    /// Whether the message begins here.
-    pub is_beginning: bool,
-    /// Whether the message ends here.
-    pub is_end: bool,
+}
+
+impl fmt::Debug for Data {
+    fn fmt<W: fmt::Write>(&self, f: &mut fmt::Formatter<W>) -> fmt::Result {
+        f.debug_struct("Data")
+            .field("stream_key", &self.stream_key)
+            .field("ssn", &self.ssn)
+            .field("mid", &self.mid)
+            .field("fsn", &self.fsn)
+            .field("ppid", &self.ppid)
+            .field("payload", &self.payload)
+            .field("is_beginning", &self.is_beginning)
+            .field("is_end", &self.is_end)
+            .finish()
+    }
 }
 
 impl Data {

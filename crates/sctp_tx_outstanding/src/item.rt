@@ -68,17 +68,17 @@ impl ItemState {
     }
 }
 
-/// A fragment that has its TSN, until the peer's cumulative TSN passes it.
+/// A fragment that has its TSN, until the peer's cumulative TSN passes it. Fields stand so that they leave no gap in memory.
 #[derive(Drop)]
 pub struct Item {
     message_id: OutgoingMessageId,
-    data: Data,
-    expires_at: Option<SocketTime>,
     max_retransmissions: u16,
-    lifecycle_id: Option<LifecycleId>,
     state: ItemState,
+    data: Data,
+    lifecycle_id: Option<LifecycleId>,
     sendings: u32,
     reports: u32,
+    expires_at: Option<SocketTime>,
     sent_at: SocketTime,
 }
 
