@@ -1,7 +1,6 @@
 -- What calls leave of the intervals of fragments in order.
 use Rattle.std.proofs.Common.{◌≡◌, ℕ, suc, ◌≤◌, Bool, true, false, cond, Option, Some, None, List, [], ◌∷◌, ◌++◌, length, refl, sym, subst, inl, inr, arith}
 use Rattle.std.specs.Prelude.{◌==◌, not}
-use Rattle.std.specs.List.{find}
 use Rattle.std.proofs.lemmas.Bool.{lt-ltb, cases_lt, cases_Bool}
 use Rattle.sctp_fragments.specs.Runs.{is_next, from_rank, last_of, attach, flat, AreRuns}
 use Rattle.sctp_fragments.specs.Held.{Held, rank_of, goes_on, intervals_of, NonePass, NoneComplete, without_first_of, left_by}
