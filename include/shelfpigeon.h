@@ -467,7 +467,7 @@ typedef struct pigeon_event {
     uint32_t error;
     uint32_t stream;
     /* Of PIGEON_ERROR_PEER_REPORTED: the code of the first error cause of the peer's ABORT or ERROR (RFC 9260 section 3.3.10), where it is 2, 6,
-     * 9, 10, 12 or 13; else 0. 12 is a close by the peer's user. */
+     * 9, 10, 12 or 13; else 0. 12 is a close by the peer's user, or too many retransmissions there. */
     uint32_t cause;
     uint64_t lifecycle;
     size_t length; /* how many bytes it has, or needs */
@@ -511,8 +511,8 @@ static inline uint32_t pigeon_borrow_event(pigeon_socket *socket, pigeon_event *
  * pigeon_channels_borrow_event that of pigeon_borrow_event, pigeon_poll_event, pigeon_borrow_message and pigeon_next_message: what those take the
  * channels don't see. Nor is pigeon_send or pigeon_reset_stream called for a stream that has a channel. A channel's number is its stream's:
  * pigeon_buffered_amount, pigeon_set_buffered_amount_low_threshold and pigeon_buffered_amount_low_threshold take it, and PIGEON_BUFFERED_AMOUNT_LOW
- * says it. Channels end with their association, each with its PIGEON_CHANNEL_CLOSED before PIGEON_ON_CLOSED or PIGEON_ON_ABORTED; a record that is
- * handed over has none.
+ * says it. Channels end with their association, each with its PIGEON_CHANNEL_CLOSED before PIGEON_ON_CLOSED, PIGEON_ON_ABORTED or
+ * PIGEON_ON_CONNECTION_RESTARTED; a record that is handed over has none.
  *
  * Each of these calls answers PIGEON_NO_CHANNELS where there are none, and PIGEON_INVALID_STREAM for a number above 65,535. PIGEON_MEMORY: channels
  * and socket have failed, and the socket is to be freed.
@@ -545,7 +545,8 @@ typedef struct pigeon_channel_options {
     uint32_t flags;
     uint32_t max_retransmissions; /* with PIGEON_MAX_RETRANSMISSIONS */
     uint32_t lifetime;            /* with PIGEON_LIFETIME, in milliseconds */
-    uint32_t priority;            /* at most 65,535; 128 below normal, 256 normal, 512 high, 1,024 extra high (RFC 8831 section 6.4) */
+    uint32_t priority;            /* at most 65,535, told to the peer alone (own messages: pigeon_set_stream_priority); 128 below normal, 256 normal,
+                                     512 high, 1,024 extra high (RFC 8831 section 6.4) */
 } pigeon_channel_options;
 
 /* A channel that is ordered and reliable. */

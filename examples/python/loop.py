@@ -1,6 +1,6 @@
 #!/usr/bin/env python3
 # SPDX-License-Identifier: Apache-2.0
-"""Two sockets over memory, by ctypes: python3 loop.py build/libshelfpigeon.so"""
+"""Two sockets over memory, by ctypes: python3 examples/python/loop.py build/libshelfpigeon.so"""
 import ctypes as c
 import sys
 import time

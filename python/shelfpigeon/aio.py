@@ -150,7 +150,7 @@ class Wire(Protocol):
 
 
 class ChannelClosed(ConnectionError):
-    """The channel has been closed, and all that came was received."""
+    """The channel has been closed. Where `receive` says so, all that came was received."""
 
 
 class Channel:

@@ -14,8 +14,8 @@ from .sockets import End
 
 
 class Channel:
-    """A data channel. Its number, `id`, is free for another one once it is closed. One that has ended before its owner took the event of its
-    opening has no label."""
+    """A data channel. Its number, `id`, is free for another one once it is closed, unless the peer refused the reset. One that has ended before
+    its owner took the event of its opening has no label."""
 
     def __init__(self, channels: Channels, id: int):
         self._channels = channels

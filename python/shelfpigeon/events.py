@@ -35,7 +35,8 @@ class Restarted:
 
 @dataclass(slots=True)
 class Aborted:
-    """The association has ended. `cause` is the code that the peer gave; 12 is a close by its user."""
+    """The association has ended. `cause` is the code that the peer gave; 12 is a close by its user, or too many
+    retransmissions there."""
 
     error: ErrorKind
     cause: int

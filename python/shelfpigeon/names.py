@@ -6,7 +6,7 @@ import enum
 
 
 class Answer(enum.IntEnum):
-    """What calls answer: all but OK and NOTHING are raised, as `PigeonError`."""
+    """What calls answer: all but OK, NOTHING and SOME_REFUSED are raised, as `PigeonError`."""
 
     OK = 0
     MEMORY = 1
@@ -201,7 +201,7 @@ class SocketFailed(PigeonError):
 
 
 class NoRoom(PigeonError, MemoryError):
-    """There was too little memory to begin with: nothing changed."""
+    """There was too little memory to begin with: but by `handover` nothing changed."""
 
 
 class InvalidArgument(PigeonError, ValueError):
@@ -213,7 +213,8 @@ class MessageTooLarge(InvalidArgument):
 
 
 class QueueFull(PigeonError):
-    """Too much waits to be sent: go on when the buffered amount is low."""
+    """Too much waits to be sent: go on when the buffered amount is low. Of a channel also: the socket shuts down, or its max_message_size is
+    exceeded."""
 
 
 class NoChannel(PigeonError):

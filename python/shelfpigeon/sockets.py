@@ -142,7 +142,7 @@ class End:
         check(self._library.pigeon_connect(self._at))
 
     def shutdown(self) -> None:
-        """Ends the association once nothing is in flight; what waits isn't waited for: see `is_at_rest`."""
+        """Ends the association once nothing is in flight. Without `OptionFlags.AVOID_STALLS` what waits isn't waited for: see `is_at_rest`."""
         check(self._library.pigeon_shutdown(self._at))
 
     def close(self) -> None:
