@@ -281,7 +281,7 @@ typedef struct pigeon_metrics {
     uint64_t rtx_bytes_count; /* of chunks that were sent again, headers and padding included */
     size_t cwnd_bytes;
     uint64_t srtt;            /* the smoothed round trip, in nanoseconds */
-    size_t unack_data_count;  /* fragments not acknowledged, and packets that the queued bytes would fill */
+    size_t unack_data_count;  /* fragments in flight, and packets that the queued bytes would fill */
     size_t rx_packets_count;  /* over the socket's life */
     size_t rx_messages_count; /* messages of the association that came whole */
     uint32_t peer_rwnd_bytes; /* how much the peer's window still takes */
@@ -355,7 +355,7 @@ enum { PIGEON_UNORDERED = 1, PIGEON_LIFETIME = 2, PIGEON_MAX_RETRANSMISSIONS = 4
 typedef struct pigeon_send_options {
     size_t size; /* sizeof(pigeon_send_options) */
     uint32_t flags;
-    uint32_t max_retransmissions; /* with PIGEON_MAX_RETRANSMISSIONS, at most 65,535 (RFC 7496 section 3.2) */
+    uint32_t max_retransmissions; /* with PIGEON_MAX_RETRANSMISSIONS, at most 65,535 (RFC 7496 section 3.1) */
     uint64_t lifetime;            /* with PIGEON_LIFETIME, in nanoseconds (RFC 3758 section 4.1) */
     uint64_t lifecycle;           /* by which lifecycle events name the message; none at 0 */
 } pigeon_send_options;
@@ -442,7 +442,7 @@ enum {
     PIGEON_LIFECYCLE_DELIVERED = 14,
     PIGEON_LIFECYCLE_END = 15,
     /* These come from pigeon_channels_borrow_event alone; `stream` is the channel's number. */
-    PIGEON_CHANNEL_OPENED = 16, /* the peer has opened it, or has answered */
+    PIGEON_CHANNEL_OPENED = 16, /* the peer has opened it, or has answered, by a message at least */
     PIGEON_CHANNEL_TEXT = 17,   /* a message of text; the bytes are it, and may be none. That they are UTF-8 is the peer's word, and isn't tested */
     PIGEON_CHANNEL_BINARY = 18, /* a message of bytes */
     PIGEON_CHANNEL_CLOSED = 19, /* whoever closed it; its number is free, unless the peer refused the reset */

@@ -82,7 +82,7 @@ class Lifecycle:
 
 @dataclass(slots=True)
 class ChannelOpened:
-    """The peer has opened the channel, or has answered."""
+    """The peer has opened the channel, or has answered, by a message at least."""
 
     channel: Channel
 

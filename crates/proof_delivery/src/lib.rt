@@ -59,7 +59,7 @@ pub fn a_message_is_skipped()
 /// Along each trace of two ends in which no handover is taken up, also behind the end of an association and with resets of
 /// streams: each record of a message given up is justified. It names the place of a message that this end accepted so far, and its
 /// cause holds. Either the message has a lifetime, and the end's clock isn't before acceptance plus lifetime (RFC 3758 section
-/// 4.1); or it was sent again as often as its limit says, 65,535 times where none was set (RFC 7496 section 3.2); or the action is a
+/// 4.1); or it was sent again as often as its limit says, 65,535 times where none was set (RFC 7496 section 3.1); or the action is a
 /// call that reset its stream (RFC 6525 section 5.1.2); or the end avoids stalls, and the record says that the association is over.
 /// An end accepts fewer than 2^32 messages, so that their numbers don't wrap.
 /// In one such trace, computed, two messages are given up, one for its lifetime, one for its limit.

@@ -85,7 +85,7 @@ pub fn worlds_compose()
 /// Each record of a message given up is justified, by what stands before it in the log, whatever rules the run follows, and behind the
 /// end of an association too: the message was accepted there, by its place, and its cause holds. Either the message has a lifetime,
 /// and the end's clock isn't before acceptance plus lifetime (RFC 3758 section 4.1); or it was sent again as often as its limit
-/// says, 65,535 times where none was set (RFC 7496 section 3.2); or the event is a call that reset its stream, and was answered Ok
+/// says, 65,535 times where none was set (RFC 7496 section 3.1); or the event is a call that reset its stream, and was answered Ok
 /// (RFC 6525 section 5.1.2); or the end was made to avoid stalls, and the record says that an association is over. Clocks are those
 /// of the log: an event has its end's clock, which only moments move. An end accepts fewer than 2^32 messages, so that their numbers
 /// don't wrap. Each packet that was emitted is to be bytes.

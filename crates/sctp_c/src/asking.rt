@@ -21,7 +21,7 @@ use sctp_c_records::answers::{INVALID_SIZE, INVALID_STREAM, NO_SOCKET, NOTHING, 
 use sctp_c_records::{METRICS_SIZE, OPTIONS_SIZE, place_of_text};
 
 /// Hands out where the text of a number begins, which ends by a zero byte and stays: of an answer (0), the kind of an event (1), the
-/// kind of an error (2), a state (3), or the place of an option (4).
+/// kind of an error (2), a state (3), the place of an option (4), or a refusal on a channel (5).
 #[unsafe(no_mangle)]
 pub extern "C" fn pigeon_find_text(what: u32, number: u32, text: &mut *const u8) {
     *text = place_of_text(what, number);

@@ -22,11 +22,11 @@ pub const NOTHING: u32 = 8;
 pub const SHORT_BUFFER: u32 = 9;
 /// A message has to have a byte.
 pub const EMPTY_PAYLOAD: u32 = 10;
-/// A message is larger than the options allow.
+/// A message is larger than the options, or the peer of a channel, allow.
 pub const MESSAGE_TOO_LARGE: u32 = 11;
-/// The socket is shutting down, or closed.
+/// The socket is shutting down.
 pub const SHUTTING_DOWN: u32 = 12;
-/// The send queue is full.
+/// The send queue is full, or as much waits on a channel as may.
 pub const QUEUE_FULL: u32 = 13;
 /// There is no association.
 pub const NO_ASSOCIATION: u32 = 14;
@@ -34,7 +34,7 @@ pub const NO_ASSOCIATION: u32 = 14;
 pub const NOT_SUPPORTED: u32 = 15;
 /// Something stands in the way of a handover.
 pub const NOT_READY: u32 = 16;
-/// Too little memory to begin with: nothing changed.
+/// Too little memory to begin with: but by `pigeon_handover` nothing changed.
 pub const NO_ROOM: u32 = 17;
 /// Some messages of a batch weren't accepted; the others were.
 pub const SOME_REFUSED: u32 = 18;

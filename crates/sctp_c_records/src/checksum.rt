@@ -11,7 +11,7 @@ use sctp_wire::Checksum;
 pub enum PacketChecksum {
     /// CRC32c (RFC 9260 section 6.8).
     Crc32c,
-    /// Zero, over a lower layer that finds damage (RFC 9653).
+    /// Zero in all packets, over a lower layer that finds damage; RFC 9653 asks for a sum in some.
     Zero,
 }
 

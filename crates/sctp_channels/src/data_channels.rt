@@ -170,7 +170,7 @@ impl DataChannels {
         Ok(data_message(id, kind, payload)?)
     }
 
-    /// Closes a channel. What was accepted is sent first; `Closed` tells when the stream is free.
+    /// Closes a channel. What was accepted is sent first; `Closed` tells when the stream is free, unless its reset was refused.
     #[tactic(auto, using(crate::proofs::FollowsLemmas::told_then, crate::proofs::FollowsLemmas::told_same))]
     pub fn close<S: DcSctpSocket>(&mut self, socket: &mut S, id: StreamId) -> Result<(), CallError>
         ensures closed { OnOk result (Follows (with_channels (close id.0 self.old.channels) self.old) self.new) }

@@ -9,11 +9,11 @@ use thiserror::Error;
 /// What happened.
 #[derive(Debug, Drop)]
 pub enum ChannelEvent {
-    /// The channel is open: the peer has opened it, or has answered.
+    /// The channel is open: the peer has opened it, or has answered, by a message at least.
     Opened(StreamId),
     /// A message came.
     Message(StreamId, PayloadKind, Vec<u8>),
-    /// What waits to be sent on the channel fell to its threshold.
+    /// What waits to be sent on the channel fell to its threshold, by a fragment that went out or by a raised threshold.
     BufferedAmountLow(StreamId),
     /// The channel is closed, whoever closed it.
     Closed(StreamId),
@@ -23,7 +23,7 @@ pub enum ChannelEvent {
     Socket(SocketEvent),
 }
 
-/// Why a channel isn't opened. Nothing has changed then, but where memory ran out.
+/// Why a channel isn't opened. The channels are as before, but where memory ran out.
 #[derive(Clone, Copy, Debug, Error)]
 pub enum OpenError {
     /// Label or protocol has 65,536 bytes or more.
@@ -35,7 +35,7 @@ pub enum OpenError {
     /// The stream has a channel, or isn't free yet.
     #[error("stream is in use")]
     StreamInUse,
-    /// The socket takes no message: its queue is full, or it is shutting down.
+    /// The socket takes no message: its queue is full, it is shutting down, or `max_message_size` is exceeded.
     #[error("socket takes no message")]
     SocketRefused,
     /// There was too little memory, now or before.
@@ -43,7 +43,7 @@ pub enum OpenError {
     Memory,
 }
 
-/// Why a message isn't accepted. Nothing has changed then, but where memory ran out.
+/// Why a message isn't accepted. The channels are as before, but where memory ran out.
 #[derive(Clone, Copy, Debug, Error)]
 pub enum SendRefusal {
     /// There is no channel on the stream.
@@ -58,7 +58,7 @@ pub enum SendRefusal {
     /// As much waits to be sent on the channel as may.
     #[error("too much is buffered")]
     Full,
-    /// The socket takes no message: its queue is full, or it is shutting down.
+    /// The socket takes no message: its queue is full, it is shutting down, or `max_message_size` is exceeded.
     #[error("socket takes no message")]
     SocketRefused,
     /// There was too little memory, now or before.

@@ -21,7 +21,7 @@ pub struct DataChannelOpen {
     pub unordered: bool,
     /// How often a message is sent again.
     pub reliability: Reliability,
-    /// Its weight among the channels of its end: 128 below normal, 256 normal, 512 high, 1,024 extra high; others are kept.
+    /// Its weight, which is told to the peer alone: 128 below normal, 256 normal, 512 high, 1,024 extra high; others are kept.
     pub priority: u16,
     /// Its name, which may be empty, and may be that of other channels too.
     pub label: String,

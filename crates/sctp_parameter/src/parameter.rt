@@ -176,7 +176,7 @@ impl fmt::Display for ForwardTsnSupportedParameter {
     }
 }
 
-/// An endpoint finds damage by this method, and takes packets without a checksum (RFC 9653 section 3).
+/// An endpoint finds damage by this method, and takes packets without a checksum (RFC 9653 section 4).
 #[derive(Clone, Copy, Debug, PartialEq, Eq)]
 pub struct ZeroChecksumAcceptableParameter {
     /// The method's number, four bytes.

@@ -151,7 +151,7 @@ impl fmt::Debug for LifecycleId {
     }
 }
 
-/// A stream of an association (RFC 9260 section 1.6).
+/// A stream of an association (RFC 9260 section 2.3).
 #[derive(Clone, Copy, PartialEq, Eq, Hash, PartialOrd, Ord)]
 pub struct StreamId(pub u16);
 

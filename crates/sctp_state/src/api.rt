@@ -40,7 +40,7 @@ pub enum ErrorKind {
     TooManyRetries,
     /// Something came that is taken on a connection alone.
     NotConnected,
-    /// A packet, a parameter or a cookie could not be read.
+    /// A packet, a parameter or a cookie could not be read, a tag was wrong, or a chunk is unknown.
     ParseFailed,
     /// Something came, or was called, that has no place in this state.
     WrongSequence,
@@ -69,9 +69,9 @@ pub enum SocketEvent {
     OnAborted(ErrorKind, String),
     /// An error that closes nothing, with its text.
     OnError(ErrorKind, String),
-    /// The queued amount of a stream fell to its threshold.
+    /// The queued amount of a stream fell to its threshold, by a fragment that went out or by a raised threshold.
     OnBufferedAmountLow(StreamId),
-    /// The queued amount of all streams fell to the threshold.
+    /// The queued amount of all streams fell to the threshold, by a fragment that went out.
     OnTotalBufferedAmountLow(),
     /// The peer refused to see these outgoing streams reset (RFC 6525).
     OnStreamsResetFailed(Vec<StreamId>),
@@ -140,7 +140,7 @@ pub struct Metrics {
     pub cwnd_bytes: usize,
     /// The smoothed round trip time.
     pub srtt: Duration,
-    /// Fragments not acknowledged, and packets that the queued bytes would fill.
+    /// Fragments in flight, and packets that the queued bytes would fill.
     pub unack_data_count: usize,
     /// Packets that came, over the socket's life.
     pub rx_packets_count: usize,

@@ -124,8 +124,8 @@ pub fn handle_close<C: Checksum>(
     }
 }
 
-/// The association is shut down once nothing is in flight; what waits to be sent, or to be sent again, isn't waited for (RFC 9260
-/// section 9.2).
+/// The association is shut down once nothing is in flight; what waits to be sent, or to be sent again, isn't waited for without
+/// `avoid_stalls` (RFC 9260 section 9.2).
 #[tactic(auto, using(sctp_endpoint::proofs::GoesOnLemmas::goes_on_same, sctp_endpoint::proofs::GoesOnLemmas::goes_on_through))]
 pub fn do_shutdown<C: Checksum>(
     state: &mut State,

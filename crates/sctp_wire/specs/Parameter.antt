@@ -1,5 +1,5 @@
 -- Parameters: RFC 9260 sections 3.2.1, 3.3.2 and 3.3.5, RFC 6525 section 4 (stream resets), RFC 3758 section 3.1
--- (forward TSN), RFC 5061 section 4.2.7 (supported extensions), RFC 9653 section 3 (zero checksum).
+-- (forward TSN), RFC 5061 section 4.2.7 (supported extensions), RFC 9653 section 4 (zero checksum).
 -- One grammar for reader and writer: the type and the value of a tree.
 use Rattle.std.specs.Prelude.{◌≡◌, ℕ, ◌<◌, ◌≤◌, ◌^◌, Bool, true, false, cond, ◌==◌, ◌||◌, List, [], ◌++◌, Option, None, Some, All, IfSome}
 use Rattle.std.specs.List.{flat_map}

@@ -8,7 +8,7 @@ use crate::SerialNumber;
 use std::fmt;
 use std::ops::{Add, AddAssign, Sub, SubAssign};
 
-/// A transmission sequence number (RFC 9260 section 1.6).
+/// A transmission sequence number (RFC 9260 section 2.6).
 #[derive(Clone, Copy, PartialEq, Eq)]
 pub struct Tsn(pub u32);
 

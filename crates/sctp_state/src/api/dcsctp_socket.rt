@@ -42,19 +42,20 @@ pub trait DcSctpSocket {
     /// moment.
     fn connect(&mut self) -> Result<(), CallError>;
 
-    /// Ends the association at once, with an ABORT to the peer (RFC 9260 section 9.1). The send queue stays as it is, also where
-    /// the peer aborts: what it holds goes to the peer of the next association, a partly sent message from its start.
+    /// Ends the association at once, with an ABORT to the peer (RFC 9260 section 9.1). Without `avoid_stalls` the send queue stays,
+    /// also where the peer aborts: what it holds goes to the peer of the next association, a partly sent message from its start,
+    /// but from its middle at an end that answers a COOKIE ECHO. With it all is given up.
     fn close(&mut self) -> Result<(), CallError>;
 
     /// Shuts the association down: no more messages are accepted, and SHUTDOWN goes out once nothing is in flight (RFC 9260
-    /// section 9.2). What waits to be sent, or to be sent again, isn't waited for and may be lost: call it once
-    /// `Socket::is_at_rest` holds. On a closed socket it does nothing. Advance the time first.
+    /// section 9.2). What waits to be sent, or to be sent again, is waited for with `avoid_stalls` alone, and else may be lost: call
+    /// it once `Socket::is_at_rest` holds. On a closed socket it does nothing. Advance the time first.
     fn shutdown(&mut self) -> Result<(), CallError>;
 
     /// Queues a message, and sends as much as may be sent; a closed socket queues it too, for its next association. Advance the
     /// time first: lifetime, round trip and retransmission count from the clock's moment. A refused message changes nothing
-    /// but the events that speak of it and of the end of its lifecycle. A full queue emits an `OnError` at each call: offer no more until
-    /// `OnBufferedAmountLow`, or `OnTotalBufferedAmountLow`, was emitted.
+    /// but the events that speak of it and of the end of its lifecycle. A full queue emits an `OnError` at each call: look at
+    /// `buffered_amount` first.
     fn send(&mut self, message: Message, options: &SendOptions) -> Result<(), SendError>;
 
     /// Queues several messages, and sends then. Some may be refused; the others are sent all the same. Advance the time first,
@@ -117,9 +118,9 @@ pub trait DcSctpSocket {
 
     /// Takes up the record of a socket that was handed over, and sends what may be sent; of a closed one there is nothing to
     /// take up. The queue's content is replaced, and thresholds of streams are the default again. Advance the time first, to
-    /// the present: what is outstanding is dated back from the clock's moment. The retransmission timer starts with the next
-    /// fragment that goes out, or with a SACK that leaves some in flight, and heartbeats with the next data. A socket that isn't
-    /// closed answers `SocketNotClosed`, and a closed one `InvalidState` where the record isn't valid
+    /// the present: what is outstanding is dated back from the clock's moment. Without `avoid_stalls` the retransmission timer starts
+    /// with the next fragment that goes out, or with a SACK that leaves some in flight, and heartbeats with the next data; with it
+    /// both do at once. A socket that isn't closed answers `SocketNotClosed`, and a closed one `InvalidState` where the record isn't valid
     /// (`SocketHandoverState::is_valid`, which refuses a negative `time_since_sent_ms` too); both change nothing.
     fn restore_from_state(&mut self, state: &SocketHandoverState) -> Result<(), RestoreError>;
 }

@@ -39,7 +39,7 @@ pub struct HandoverStreamMessage {
     pub payload: Vec<u8>,
     /// Milliseconds from the handover to its expiry, rounded down: below 0 where it expired. `None`: it never does.
     pub expires_in_ms: Option<i32>,
-    /// 65,535 means that there is no limit.
+    /// 65,535 where none was set.
     pub max_retransmissions: u16,
     pub unordered: bool,
     /// 0 means that there is none.
@@ -89,7 +89,7 @@ pub struct HandoverOutstandingData {
     pub payload: Vec<u8>,
     /// Milliseconds from the handover to its message's expiry, as in `HandoverStreamMessage`.
     pub expires_in_ms: Option<i32>,
-    /// 65,535 means that there is no limit.
+    /// 65,535 where none was set.
     pub max_retransmissions: u16,
     pub is_beginning: bool,
     pub is_end: bool,

@@ -15,11 +15,11 @@ use std::time::Duration;
 pub struct SendOptions {
     /// Whether the message may overtake others of its stream.
     pub unordered: bool,
-    /// How long the message is worth sending, counted from its acceptance; with partial reliability it is given up
-    /// after that (RFC 3758 section 4.1).
+    /// How long the message is worth sending, counted from its acceptance; it is given up after that, once a fragment
+    /// was sent with partial reliability alone (RFC 3758 section 4.1).
     pub lifetime: Option<Duration>,
     /// How often a fragment of the message is sent again; with partial reliability the message is given up after that
-    /// (RFC 7496 section 3.2).
+    /// (RFC 7496 section 3.1).
     pub max_retransmissions: Option<u16>,
     /// The number by which lifecycle events name the message.
     pub lifecycle_id: Option<LifecycleId>,
@@ -44,7 +44,7 @@ pub struct Options {
     pub default_stream_priority: u16,
     /// How much of received messages is held; the window that is announced to the peer. With nine tenths of it held each further
     /// fragment is dropped, so a longer message may never be whole: it is at least twice the longest that the peer may send. With
-    /// 0 or 1 nothing is taken. Below 2^32.
+    /// 0 or 1 nothing is taken, but for the next one with `avoid_stalls`. Below 2^32.
     pub max_receiver_window_buffer_size: usize,
     /// How many fragments are held of messages that aren't ready, those that wait for a reset too; any number, where not set. With
     /// so many held each further fragment is dropped, as with nine tenths of the window held, which counts bytes alone: so a message
@@ -54,9 +54,9 @@ pub struct Options {
     pub max_send_buffer_size: usize,
     /// A stream that holds as much takes no further message. Below 2^32.
     pub per_stream_send_queue_limit: usize,
-    /// An event is emitted when the queued amount of all streams falls to this.
+    /// An event is emitted when a fragment that goes out brings the queued amount of all streams to this.
     pub total_buffered_amount_low_threshold: usize,
-    /// An event is emitted when the queued amount of a stream falls to this, where none is set for the stream.
+    /// An event is emitted when a fragment that goes out brings the queued amount of a stream to this, where none is set for the stream.
     pub default_stream_buffered_amount_low_threshold: usize,
     /// A round trip time above this isn't taken as a sample.
     pub rtt_max: Duration,
@@ -73,17 +73,19 @@ pub struct Options {
     pub t1_cookie_timeout: Duration,
     /// Not read: a shutdown waits for the retransmission timeout.
     pub t2_shutdown_timeout: Duration,
-    /// The longest wait of the retransmission timer, where set; else its waits double up to a day.
+    /// The longest wait to which the retransmission timer backs off, where set; else its waits double up to a day, with `avoid_stalls`
+    /// up to `rto_max`.
     pub max_timer_backoff_duration: Option<Duration>,
     /// How long a connection is idle before it is tested. With zero it isn't (RFC 9260 section 8.3).
     pub heartbeat_interval: Duration,
     /// The longest delay of an acknowledgement; half the retransmission timeout, where that is less. At least a millisecond.
     pub delayed_ack_max_timeout: Duration,
-    /// Twice the least variance that a round trip time is taken to have.
+    /// Eight times the least variance that a round trip time is taken to have.
     pub min_rtt_variance: Duration,
     /// The congestion window at first, in packets of the largest size (RFC 9260 section 7.2.1). 1 to 65,535.
     pub cwnd_mtus_initial: usize,
-    /// The least congestion window after a loss, in such packets (RFC 9260 section 7.2.3). 1 to 65,535.
+    /// The least slow start threshold after a loss, and congestion window but after T3-rtx, in such packets (RFC 9260 section 7.2.3).
+    /// 1 to 65,535.
     pub cwnd_mtus_min: usize,
     /// With a congestion window of as many packets, no small fragment is sent just to fill it. 1 to 65,535.
     pub avoid_fragmentation_cwnd_mtus: usize,
@@ -102,7 +104,7 @@ pub struct Options {
     /// Not read.
     pub heartbeat_interval_include_rtt: bool,
     /// What finds damage in place of the checksum (RFC 9653): any number but 0, which is none. Then packets that come may carry
-    /// the word 0, and those that are sent carry it once the peer announced the same method.
+    /// the word 0, and those that are sent carry it once the peer announced the same method, but for a COOKIE ECHO.
     pub zero_checksum_alternate_error_detection_method: ZeroChecksumAlternateErrorDetectionMethod,
     /// Whether packets are taken whatever their checksum. For tests.
     pub disable_checksum_verification: bool,

@@ -11,7 +11,7 @@ use sctp_state::Options;
 pub struct CongestionControl {
     /// The largest packet.
     pub mtu: usize,
-    /// A loss leaves at least so large a congestion window.
+    /// A loss leaves at least so large a slow start threshold, and congestion window but after T3-rtx.
     pub least_cwnd: usize,
     /// The congestion window.
     pub cwnd: usize,
