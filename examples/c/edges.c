@@ -426,7 +426,8 @@ static void asks(const pigeon_options *options) {
     size_t bytes = 9;
     is("webrtc", pigeon_options_for_webrtc(&webrtc), PIGEON_OK);
     is("as it says", webrtc.mtu == 1191 && webrtc.zero_checksum_method == PIGEON_ZERO_CHECKSUM_DTLS && webrtc.checksum == PIGEON_CHECKSUM_CRC32C
-            && webrtc.max_receiver_window_buffer_size == 2 * webrtc.max_message_size && webrtc.announced_maximum_incoming_streams == 65535, 1);
+            && webrtc.max_receiver_window_buffer_size == 2 * webrtc.max_message_size && webrtc.announced_maximum_incoming_streams == 65535
+            && webrtc.per_stream_send_queue_limit == 16777216 && webrtc.max_send_buffer_size == 4294967295, 1);
     is("avoids stalls, by default not", webrtc.flags & ~options->flags, PIGEON_AVOID_STALLS);
     is("new", pigeon_new(&a, options, seed_of(1)), PIGEON_OK);
     is("new", pigeon_new(&b, options, seed_of(2)), PIGEON_OK);

@@ -28,11 +28,6 @@ logger = logging.getLogger(__name__)
 Address = tuple[str, int]
 
 
-def webrtc_options(**fields: int) -> Options:
-    """The options of data channels, with a send queue that is bounded by channel, and not in all."""
-    return Options.for_webrtc(**{"max_send_buffer_size": 2**32 - 1, "per_stream_send_queue_limit": 2**24, **fields})
-
-
 class Driver:
     """Turns of a socket with channels in the running loop: it has the clock, and the timer by `poll_timeout`. `send` takes each packet, `handle` each
     other event; `turned` is called behind each turn, and `failed` where the socket has too little memory."""
@@ -247,7 +242,7 @@ class Connection:
     ):
         channels = Channels(
             role,
-            webrtc_options() if options is None else options,
+            Options.for_webrtc() if options is None else options,
             max_message_size=max_message_size,
             peer_max_message_size=peer_max_message_size,
             max_buffered_amount=2**32 - 1,

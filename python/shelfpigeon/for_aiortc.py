@@ -18,9 +18,10 @@ from aiortc.rtcdatachannel import RTCDataChannel, RTCDataChannelParameters  # ty
 from aiortc.rtcsctptransport import RTCSctpCapabilities, RTCSctpTransport  # type: ignore[import]
 
 from . import events
-from .aio import Driver, webrtc_options
+from .aio import Driver
 from .channels import Channel, Channels
 from .names import MessageTooLarge, NoChannel, QueueFull, Role
+from .sockets import Options
 
 logger = logging.getLogger(__name__)
 
@@ -86,7 +87,7 @@ class SctpTransport(RTCSctpTransport):
         own = {"max_message_size": max(settings.max_message_size, 262144), **ports, **settings.options}
         channels = Channels(
             Role.SERVER if self.is_server else Role.CLIENT,
-            webrtc_options(**own),
+            Options.for_webrtc(**own),
             max_message_size=settings.max_message_size,
             peer_max_message_size=remoteCaps.maxMessageSize if remoteCaps else 65536,
             max_buffered_amount=settings.max_buffered_amount,

@@ -5,7 +5,7 @@ import random
 
 import pytest
 
-from shelfpigeon import Role, State, aio
+from shelfpigeon import Options, Role, State, aio
 
 
 class Memory:
@@ -179,7 +179,7 @@ async def test_over_udp():
 
 @run
 async def test_nobody_is_there():
-    options = aio.webrtc_options(max_init_retransmits=1, t1_init_timeout=10_000_000)
+    options = Options.for_webrtc(max_init_retransmits=1, t1_init_timeout=10_000_000)
     a = aio.open_udp(("127.0.0.1", 45803), ("127.0.0.1", 45804), role=Role.CLIENT, options=options)
     with pytest.raises(ConnectionError):
         await a.connect()

@@ -9,7 +9,7 @@ import aioice.ice  # noqa: E402
 from aiortc.exceptions import InvalidStateError  # noqa: E402
 
 import shelfpigeon  # noqa: E402
-from shelfpigeon import aio  # noqa: E402
+from shelfpigeon import Options  # noqa: E402
 
 OWN = aiortc.rtcpeerconnection.RTCSctpTransport
 
@@ -133,4 +133,4 @@ def test_channels_that_cannot_be():
 def test_settings():
     shelfpigeon.use_for(aiortc, max_message_size=1000)
     assert aiortc.RTCSctpTransport.getCapabilities().maxMessageSize == 1000
-    assert aio.webrtc_options().per_stream_send_queue_limit == 2**24
+    assert Options.for_webrtc().per_stream_send_queue_limit == 2**24

@@ -155,13 +155,26 @@ abbrev pub flags_value : Options → ℕ
 flags_value o = flag_value o.enable_partial_reliability 1 + flag_value o.enable_message_interleaving 2 + flag_value o.disable_checksum_verification 4
     + flag_value o.enable_handover_with_outstanding_data 8 + flag_value o.heartbeat_interval_include_rtt 16 + flag_value o.avoid_stalls 32
 
--- ---- data channels (RFC 8831): DTLS finds damage (RFC 9653), the window is twice the largest message, and stalls are avoided
+-- ---- data channels (RFC 8831): DTLS finds damage (RFC 9653), the window is twice the largest message, 16 MiB wait on each stream, and
+-- stalls are avoided
 
 abbrev pub webrtc_options : Options
-webrtc_options = record defaults { max_receiver_window_buffer_size = 2 * 262144; zero_checksum_method = 1; avoid_stalls = true }
+webrtc_options = record defaults {
+  max_receiver_window_buffer_size = 2 * 262144;
+  max_send_buffer_size = 2 ^ 32 - 1;
+  per_stream_send_queue_limit = 2 ^ 24;
+  zero_checksum_method = 1;
+  avoid_stalls = true;
+}
 
 abbrev pub webrtc_record : OptionsRecord
-webrtc_record = record default_record { max_receiver_window_buffer_size = 2 * 262144; zero_checksum_method = 1; flags = 49 }
+webrtc_record = record default_record {
+  max_receiver_window_buffer_size = 2 * 262144;
+  max_send_buffer_size = 2 ^ 32 - 1;
+  per_stream_send_queue_limit = 2 ^ 24;
+  zero_checksum_method = 1;
+  flags = 49;
+}
 
 -- ---- what is wrong
 
