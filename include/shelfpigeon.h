@@ -243,15 +243,16 @@ uint32_t pigeon_handle_input(pigeon_socket *socket, const uint8_t *bytes, size_t
 /* Advances the time, in nanoseconds since the socket was made, and expires timers. It comes before the other calls of a turn: with a clock that
  * is late they measure wrong round trips, and what was sent goes out again at once. An earlier moment than the last one changes nothing. */
 uint32_t pigeon_advance_time(pigeon_socket *socket, uint64_t nanos);
-/* By which moment the time is to be advanced next: UINT64_MAX where no timer runs. Ask last in a turn, and not a socket that answered
- * PIGEON_MEMORY: no call moves its timers any more. */
+/* By which moment the time is to be advanced next: UINT64_MAX where no timer runs and nothing is owed. Ask last in a turn, and not a socket that
+ * answered PIGEON_MEMORY: no call moves its timers any more. */
 uint32_t pigeon_poll_timeout(const pigeon_socket *socket, uint64_t *nanos);
 
 enum { PIGEON_CLOSED = 0, PIGEON_CONNECTING = 1, PIGEON_CONNECTED = 2, PIGEON_CLOSING = 3 };
 uint32_t pigeon_state(const pigeon_socket *socket, uint32_t *state);
 /* The moment to which the time was advanced last. */
 uint32_t pigeon_clock(const pigeon_socket *socket, uint64_t *nanos);
-/* 1 where nothing is queued and all that was sent is acknowledged, else 0: then pigeon_shutdown loses nothing. */
+/* 1 where nothing is queued and nothing that was sent is kept (all is acknowledged, or its association is over): then pigeon_shutdown loses
+ * nothing. Else 0. */
 uint32_t pigeon_is_at_rest(const pigeon_socket *socket, uint32_t *rest);
 /* Whether pigeon_handle_input would refuse these bytes, 1 or 0: they are no packet, or not one for this association. It takes no memory.
  * PIGEON_FAILED: the socket has failed, and takes none. */

@@ -95,8 +95,8 @@ pub fn packets_pass()
 
 /// Two traces of the same actions, by the same options, in which ends draw other words: after each action, and after the one that first
 /// ends an association, each end of the second is the one of the first under other names, it has emitted the same events, each packet
-/// under names, and given up the same messages. An association stays in one where it stays in the other. Asked for is that no tag is
-/// drawn twice in either, and that the first follows the rules.
+/// under names, and given up the same messages. An association stays in one where it stays in the other. Asked for is that no bytes
+/// come from elsewhere, that no tag is drawn twice in either, and that the first follows the rules.
 pub fn traces_are_alike()
     ensures alike { TracesAreAlike }
 {}

@@ -120,7 +120,8 @@ pub fn no_lifecycle_ends_twice()
     ensures once { NoLifecycleEndsTwice }
 {}
 
-/// An end whose association stands, and which nothing keeps from being handed over, closes and leaves a valid record. A new
+/// An end whose association stands, which nothing keeps from being handed over, and which has what fits a record (fewer than 2^30 items,
+/// payloads of less than 2^32 bytes, an open congestion window) closes and leaves a valid record. A new
 /// end with the same options that takes it up at the same moment has the association, what was negotiated, the items that
 /// are kept and the queue, and goes on with what may be sent. What the record has less of is read anew: moments in whole
 /// milliseconds, numbers as they are on the wire, thresholds, missing reports, how often an item was sent. Control blocks are

@@ -115,8 +115,8 @@ offers_along (u ∷ us) = offers_in u + offers_along us
 
 -- ---- the law
 
--- Fewer than 2^32 messages are offered to a new end, and nothing is restored. Whenever its association stands and nothing
--- keeps it from being handed over, its record is valid, and a new end that takes it up goes on in its place.
+-- Fewer than 2^32 messages are offered to a new end, and nothing is restored. Whenever its association stands, nothing
+-- keeps it from being handed over, and a record has room (`Fits`), its record is valid, and a new end that takes it up goes on in its place.
 abbrev pub EachEndGoesOn : Type 0
 EachEndGoesOn =
     (o : Options) (pack : Packing (List ℕ)) (random : Words) (uses : List Use) → Each MayUse uses → offers_along uses < 2 ^ 32

@@ -53,8 +53,9 @@ pub fn traces_open()
 /// A new end has the handover invariant of its control block and of its queue, in the form that each call preserves: tags above 0, the
 /// first TSNs and the mode that it was made with, streams by ascending ids, at most their first messages partly sent, something left
 /// of each, and numbers that differ, as long as they don't wrap. A peer names a tag above 0, and what is restored is a valid record.
-/// So whatever is done with a new end to which fewer than 2^32 messages are offered, and whatever it receives: whenever its association
-/// stands and nothing keeps it from being handed over, its record is valid, and a new end that takes it up has it again.
+/// So whatever is done with a new end to which fewer than 2^32 messages are offered and nothing is restored, and whatever it receives:
+/// whenever its association stands, nothing keeps it from being handed over, and a record has room for what it has (`Fits`), its
+/// record is valid, and a new end that takes it up has it again.
 pub fn each_end_can_be_handed_over()
     ensures anew { NewEndsMeetHandoverInvariant }
     ensures after { EachCallPreservesHandoverInvariant }

@@ -10,7 +10,7 @@ ghost use Rattle.proof_protocol.specs.Written.{AreTheirOwn};
 /// Whatever is lost, repeated, delayed or reordered in one direction of an association, with DATA or with I-DATA: what
 /// became ready is accepted messages, each at most once and byte for byte, in order on each stream (`Fits`); an ordered
 /// message that later ones of its stream passed was given up (`Skipped`); a message reported as delivered is ready
-/// (`TrueReports`); and once nothing waits and nothing is kept, each accepted message is ready or was given up (`Rest`).
+/// (`TrueReports`); and once nothing waits and nothing is kept, each accepted message is ready or was given up (`RestClaim`).
 /// What became ready only grows at its back.
 ///
 /// It does not claim that anything ever arrives, that a message is given up for a good reason, or anything of a peer

@@ -31,7 +31,7 @@ pub fn a_begun_message_stays_begun()
 {}
 
 /// A queue that is written into a record, which is taken up at the same moment, has its streams and messages again, in
-/// whatever queue: with all but the thresholds, the pauses and what the wire's numbers and whole milliseconds don't hold.
+/// whatever queue: with all but the thresholds, the pauses and what the wire's numbers and whole milliseconds in 32 bits don't hold.
 pub fn a_record_brings_the_queue_back()
     ensures { EachComesBack }
 {}

@@ -23,7 +23,7 @@ impl Link {
         }
     }
 
-    /// From now on each how many-th packet of an end is lost; with 0 none is.
+    /// From now on each how many-th packet of an end is lost; with 0 or 1 none is.
     pub fn lose(&mut self, each: u64) {
         self.lost = usize::try_from(each).unwrap_or(0);
     }

@@ -51,7 +51,7 @@ fn show_event(rt: &HostRuntime, name: &str, event: &ChannelEvent) -> Result<()> 
     Ok(())
 }
 
-/// What is not printed: packets go to the other end.
+/// Prints what the end is told, but that a stream is low; packets are kept for the other end.
 fn tell<S: DcSctpSocket>(rt: &HostRuntime, end: &mut End<S>) -> Result<()> {
     for _ in 0..MANY {
         match end.channels.poll_event(&mut end.socket)? {

@@ -35,7 +35,7 @@ pub extern "C" fn pigeon_version() -> u32
     100
 }
 
-/// The moment by which the time is to be advanced next, in nanoseconds; the greatest number where no timer runs.
+/// The moment by which the time is to be advanced next, in nanoseconds; the greatest number where no timer runs and nothing is owed.
 #[unsafe(no_mangle)]
 pub extern "C" fn pigeon_poll_timeout(socket: &mut Handle, nanos: &mut u64) -> u32
     ensures due { Tells (λ s. time.poll_timeout (end_of s).endpoint_state < 2 ^ 64 → nanos.new ≡ time.poll_timeout (end_of s).endpoint_state) socket.old.held result socket.new.held }
@@ -210,7 +210,7 @@ pub extern "C" fn pigeon_send_queue_room(socket: &mut Handle, bytes: &mut usize)
     }
 }
 
-/// Whether nothing is queued, and all that was sent is acknowledged: 1 or 0.
+/// Whether nothing is queued, and nothing that was sent is kept: 1 or 0.
 #[unsafe(no_mangle)]
 pub extern "C" fn pigeon_is_at_rest(socket: &mut Handle, rest: &mut u32) -> u32
     ensures rest { Tells (λ s. rest.new ≡ one_if (is_at_rest s.state s.context.queue)) socket.old.held result socket.new.held }

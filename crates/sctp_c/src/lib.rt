@@ -1,4 +1,4 @@
-//! A socket for C: each function of `include/shelfpigeon.h`, over `sctp_c_calls`.
+//! A socket for C: each function of `include/shelfpigeon.h`, over `sctp_c_calls`, `sctp_c_channels` and `sctp_c_records`.
 #![tactic(auto)]
 
 mod asking;

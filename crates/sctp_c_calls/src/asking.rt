@@ -126,7 +126,7 @@ pub fn write_options<R: Rng>(socket: &Socket<R, PacketChecksum>, bytes: &mut [u8
     OptionsRecord::of(&socket.options(), *socket.checksum()).write(bytes);
 }
 
-/// Whether nothing is queued, and all that was sent is acknowledged: 1 or 0.
+/// Whether nothing is queued, and nothing that was sent is kept: 1 or 0.
 pub fn rest_number<R: Rng, C: Checksum>(socket: &Socket<R, C>) -> u32
     ensures { result ≡ one_if (is_at_rest socket.now.state socket.now.context.queue) }
 {

@@ -167,7 +167,8 @@ pub fn hand_over<C: Checksum>(
     }
 }
 
-/// With stalls avoided the timers of items and of heartbeats start; else they do with the first data that is sent.
+/// With stalls avoided the timers of items and of heartbeats start; else they do with the first data that is sent, that of items with a
+/// SACK too.
 #[tactic(auto, using(sctp_endpoint::proofs::GoesOnLemmas::goes_on_same, sctp_endpoint::proofs::GoesOnLemmas::goes_on_through))]
 fn wake<C: Checksum>(context: &mut Context<C>, tcb: &mut TransmissionControlBlock)
     ensures ok { after_sending_of C.word_of tcb.new context.new ≡ table.woken_if context.old.options.avoid_stalls (tcb_of tcb.old) (context_of C.word_of context.old) }

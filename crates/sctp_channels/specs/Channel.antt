@@ -44,7 +44,7 @@ with_lifecycle l c = record c { lifecycle = l }
 abbrev pub change_lifecycle : (Lifecycle → Lifecycle) → Channel → Channel
 change_lifecycle f c = with_lifecycle (f c.lifecycle) c
 
--- the next message may overtake others: never before an answer came
+-- the next message may overtake others: never before both ends have the channel
 abbrev pub goes_unordered : Channel → Bool
 goes_unordered c = c.description.unordered && not (is_connecting c.lifecycle)
 

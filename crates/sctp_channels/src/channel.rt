@@ -114,7 +114,7 @@ impl Channel {
         self.statistics
     }
 
-    /// Whether the next message may overtake others: on an unordered channel, once an answer came.
+    /// Whether the next message may overtake others: on an unordered channel, once both ends have it.
     pub fn goes_unordered(&self) -> bool
         ensures { result ≡ goes_unordered self.now }
     {

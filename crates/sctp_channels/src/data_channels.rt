@@ -21,7 +21,7 @@ use std::alloc::{AllocError, Global};
 use std::collections::{BTreeSet, VecDeque};
 use std::marker::Model;
 
-/// More messages, or events, are not looked for in one `collect`.
+/// More events are not looked for in one `collect`.
 const MANY: u32 = 1_000_000;
 
 /// The channels of an association.

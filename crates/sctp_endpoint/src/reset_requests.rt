@@ -261,7 +261,7 @@ impl ResetRequests {
         self.reconfig_timer.expire(now)
     }
 
-    /// The own request is to be sent again, and waits as at first. The answer is whether it was not answered at all.
+    /// The own request is to be sent again, and waits as at first. The answer is whether it was not answered since it was sent last.
     pub fn wake(&mut self) -> bool
         ensures answer { result ≡ table.is_unanswered self.old.current }
         ensures after { self.new ≡ table.clear_deferral self.old }

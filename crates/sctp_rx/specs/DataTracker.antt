@@ -78,7 +78,7 @@ acking a t = record t { ack = a; delay = stop t.delay }
 abbrev pub force_ack : Tracker → Tracker
 force_ack t = acking Immediate t
 
--- one more packet is to be acknowledged, and the second one at once
+-- one more chunk is to be acknowledged: at once, where a packet before this one waits
 abbrev pub after_packet : AckState → AckState
 after_packet Idle = Becoming
 after_packet Becoming = Becoming

@@ -39,7 +39,7 @@ pub enum AckState {
 impl AckState {
     ghost use Rattle.sctp_rx.specs.DataTracker.{ack_after, is_ack_due};
 
-    /// The state after one more packet.
+    /// The state after one more chunk that is to be acknowledged.
     fn after(self, is_urgent: bool) -> AckState
         ensures { result ≡ ack_after is_urgent self }
     {
@@ -352,7 +352,7 @@ fn ack_delay(rto: Duration, most: Duration) -> Duration
 }
 
 /// Whether there is a reason to acknowledge at once: a TSN that came before, one that is missing (RFC 9260 section 6.2), the peer's wish
-/// (RFC 7053), or the first packet of all.
+/// (RFC 7053), or the first DATA chunk of all.
 fn is_urgent(is_new: bool, has_gap: bool, is_immediate: bool, seen_packet: bool) -> bool
     ensures { result ≡ is_urgent is_new has_gap is_immediate seen_packet }
 {

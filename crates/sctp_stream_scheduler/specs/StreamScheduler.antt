@@ -101,7 +101,7 @@ is_time finish (Some f) = f == finish
 abbrev pub Indexes : List (ℕ × ℕ) → Times → Type 0
 Indexes turns ts = (t : ℕ × ℕ) → list_any (is_at (turn_cmp t)) turns ≡ is_time t.0 (finish_time t.1 ts)
 
--- the active streams where one alone is active, or else those of a map
+-- the active streams: the one that stands apart, or else those of a map
 abbrev pub times_of : Option (ℕ × ℕ) → Times → Times
 times_of None ts = ts
 times_of (Some only) ts = only ∷ []

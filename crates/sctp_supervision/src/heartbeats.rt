@@ -39,7 +39,7 @@ fn info_in(parameters: &[Parameter]) -> Option<&[u8]>
     None
 }
 
-/// A HEARTBEAT with the next number goes out.
+/// A HEARTBEAT with the counter's number goes out.
 #[tactic(auto, using(sctp_endpoint::proofs::GoesOnLemmas::goes_on_same, sctp_endpoint::proofs::GoesOnLemmas::goes_on_through))]
 fn send_heartbeat<C: Checksum>(
     context: &mut Context<C>,

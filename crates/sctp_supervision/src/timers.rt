@@ -448,7 +448,7 @@ fn phase_expiry<C: Checksum>(
     }
 }
 
-/// The moment by which the time is to be advanced next, not before this one; the greatest one where no timer runs.
+/// The moment by which the time is to be advanced next, not before this one; the greatest one where no timer runs and nothing is owed.
 pub fn poll_timeout<C: Checksum>(context: &Context<C>, state: &State) -> SocketTime
     ensures { result ≡ table.poll_timeout (endpoint_state_of C.word_of state.now context.now) }
 {

@@ -41,7 +41,7 @@ pub fn keeps_items(state: &State) -> bool
     }
 }
 
-/// From so large a window on the peer is told of it: a quarter of the whole, or an mtu where that is more.
+/// From so large a window on the peer is told of it: a quarter of the whole, or an mtu where that is more, but no more than the whole.
 fn least_window(options: &Options) -> usize
     requires { IsValid (options_of options.now) }
     ensures { result ≡ table.least_window (options_of options.now) }

@@ -612,7 +612,7 @@ impl RetransmissionQueue {
         Ok(Some(opportunity.max_bytes.saturating_sub(size)))
     }
 
-    /// The largest payload that a packet with so much left can take: chunks are padded to 4 bytes.
+    /// The largest payload that a packet with so much left takes, and the windows have room for: chunks are padded to 4 bytes.
     fn offered(&self, left: usize) -> usize
         ensures size { result ≡ offered_payload left self.now }
         ensures small { result ≤ left }

@@ -1,4 +1,4 @@
--- What a SACK says of the items (RFC 9260 section 6.3.2, 6.2.1 and 7.2.4).
+-- What a SACK says of the items (RFC 9260 sections 6.2.1 and 7.2.4).
 use Rattle.std.specs.Prelude.{ℕ, suc, ◌+◌, ◌-◌, ◌^◌, ◌&&◌, not, nat_lt, nat_le, max, Bool, false, if◌then◌else◌, Option, Some, None, List, [], ◌∷◌, ◌++◌, take, drop, filter, sum_by, slice_get, ◌==◌}
 use Rattle.sctp_serial.specs.Unwrapped.{origin}
 use Rattle.sctp_state.specs.Events.{Event, OnLifecycleMessageMaybeExpired, OnLifecycleMessageDelivered, OnLifecycleEnd, Emitted, emit_events}

@@ -14,7 +14,7 @@ use std::alloc::{AllocError, Global};
 use std::marker::Model;
 use std::time::Duration;
 
-/// How often an item can be sent: counts stop there.
+/// The count of an item's sendings stops there: one above the greatest limit of resendings.
 const MOST_SENDINGS: u32 = 65_536;
 
 /// What is known of a fragment that was sent.

@@ -46,7 +46,7 @@ pub struct Discarded {
     pub message_id: OutgoingMessageId,
 }
 
-/// The fragments that have their TSN, until the peer's cumulative TSN passes them (RFC 9260 section 6.3.2). Their numbers
+/// The fragments that have their TSN, until the peer's cumulative TSN passes them (RFC 9260 section 6.2.1). Their numbers
 /// never wrap: a TSN stands for the number nearest to the peer's cumulative TSN.
 #[derive(Drop)]
 pub struct OutstandingData {
@@ -558,7 +558,7 @@ impl OutstandingData {
     }
 
     /// Takes a SACK, with blocks of any kind: items up to its cumulative TSN leave, in order, and an event says of each message
-    /// whose end leaves whether it was delivered; those in blocks are acknowledged, and those that no block covers any more
+    /// with a lifecycle whose end leaves whether it was delivered; those in blocks are acknowledged, and those that no block covers any more
     /// are in flight again; each that is in flight or missing below the highest one newly acknowledged by a block is
     /// reported missing, and is lost by the third report. Without memory nothing changes, or only some of the first of these
     /// reports are done.

@@ -277,7 +277,7 @@ impl SendQueue {
 
     /// The next fragment, with a payload of at most `max_payload` bytes, in the scheduler's order. Messages that expired
     /// before they were begun are dropped on the way: each is given up, and ends its lifecycle. Then events say what
-    /// amounts fell to their thresholds, and that the message was handed out whole. `None` says that no stream has
+    /// amounts fell to their thresholds, and of a message with a lifecycle that it was handed out whole. `None` says that no stream has
     /// anything to send.
     pub fn produce(
         &mut self,

@@ -151,7 +151,7 @@ abbrev pub without_first_message : Tcb → Tcb
 without_first_message t = record t { reassembly = record t.reassembly { ready = drop 1 t.reassembly.ready } }
 
 -- With stalls avoided the peer is told of a window that opens again, where it was too small to be used: a quarter of the whole, or an mtu where that
--- is more (RFC 9260 section 6.2, RFC 1122 section 4.2.3.3).
+-- is more, but no more than the whole (RFC 9260 section 6.2, RFC 1122 section 4.2.3.3).
 abbrev pub widest_window : Options → ℕ
 widest_window o = o.max_receiver_window_buffer_size * 9 / 10
 

@@ -1,4 +1,4 @@
--- How an association is opened (RFC 9260 section 5). These rows alone draw words and look at tags.
+-- How an association is opened (RFC 9260 section 5). These rows alone draw words.
 use Rattle.std.specs.Prelude.{ℕ, ◌+◌, ◌-◌, ◌%◌, ◌^◌, ◌==◌, ◌||◌, not, nat_eq, nat_lt, min, Bool, true, false, Option, Some, None, Result, Ok, Err, List, [], ◌∷◌, ◌++◌, length, codes}
 use Rattle.std.specs.List.{starts_with}
 use Rattle.rand_core.specs.Stream.{next_u32, next_u64}
@@ -222,7 +222,7 @@ pub data CookieResolution : Type 0 where
   Discard : CookieResolution
   InvalidTag : CookieResolution
 
--- By three comparisons: the packet's tag isn't the own one, the cookie's peer tag isn't the peer's, the ties are equal.
+-- By four comparisons: the packet's tag isn't the own one, the cookie's peer tag isn't the peer's, the ties are equal, the cookie has no tie.
 abbrev pub by_tags : (other_tag other_peer same_tie no_tie : Bool) → CookieResolution
 by_tags true true true no_tie = RestartDetected
 by_tags true true false no_tie = InvalidTag
@@ -266,7 +266,7 @@ abbrev pub other_mode : Bool → Bool → Bool
 other_mode true b = not b
 other_mode false b = b
 
--- the queue is reset where the association is another one, or the mode
+-- the queue is reset where that is asked for, or where the mode is another one
 abbrev pub queue_for : (resets is_interleaved : Bool) → Queue → Queue
 queue_for resets is_interleaved q = set_mode is_interleaved (queue_if (resets || other_mode is_interleaved q.scheduler.is_interleaved) q)
 

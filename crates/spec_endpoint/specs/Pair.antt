@@ -1,4 +1,4 @@
--- Two ends with default options and a list of moves, to compute conversations by. A packet is its tag and its chunks.
+-- Two ends with default options and a list of moves, to compute conversations by. A packet is its header and its chunks.
 use Rattle.std.specs.Prelude.{ℕ, ◌+◌, Bool, true, false, Option, Some, None, List, [], ◌∷◌, ◌++◌, length, slice_get}
 use Rattle.rand_core.specs.Stream.{Stream}
 use Rattle.sctp_wire.specs.Parameter.{ParameterTree, reset_response}

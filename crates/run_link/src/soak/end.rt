@@ -14,7 +14,7 @@ const MANY: u32 = 100_000;
 /// A turn sends so many messages.
 const EACH_TURN: u32 = 8;
 
-/// With as many bytes queued on a stream an end sends none.
+/// With more bytes queued on a stream an end sends none on it.
 const ENOUGH: usize = 10_000;
 
 /// What is counted at an end.

@@ -19,6 +19,7 @@ use sctp_wire::Checksum;
 ///
 /// Two worlds that began with the same options in pairs and one checksum function, and were led by the same events, show the same whatever
 /// words their ends drew, until an end of the first emits that an association is over, and up to and with the event in which it does.
+/// Asked for, until then, is that the first follows the rules, that no bytes come from elsewhere, and that no tag is drawn twice in either.
 pub fn run_pair<R: Rng, S: Rng, C: Checksum>(
     first: &mut World<R, C>,
     second: &mut World<S, C>,

@@ -10,8 +10,8 @@ use std::alloc::{AllocError, Global};
 use std::collections::{BTreeMap, BTreeSet};
 use std::marker::Model;
 
-/// The finish times of the active streams, and which is the least. A stream that alone is active stands in a field, so that
-/// most associations enter and leave no map.
+/// The finish times of the active streams, and which is the least. A stream that enters where no other is active stands in a
+/// field until another enters, so that most associations enter and leave no map.
 #[derive(Drop)]
 pub struct ActiveStreams {
     // the one that is active, where the maps have none

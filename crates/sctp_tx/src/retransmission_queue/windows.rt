@@ -70,7 +70,7 @@ impl Windows {
         self.congestion.ssthresh
     }
 
-    /// The bytes acknowledged in congestion avoidance since the window last grew (RFC 9260 section 7.2.2).
+    /// The bytes acknowledged in congestion avoidance towards the next growth of the window (RFC 9260 section 7.2.2).
     pub fn partial_bytes_acked(&self) -> usize
         ensures { result ≡ self.now.partial_bytes_acked }
     {

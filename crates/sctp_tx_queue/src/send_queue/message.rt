@@ -341,7 +341,7 @@ impl QueuedMessage {
         spares.copy(alloc, &self.payload[start..end])
     }
 
-    /// The lifecycle ends with the last fragment alone.
+    /// The lifecycle id, which goes with the last fragment alone.
     fn lifecycle_ended(&self, size: usize) -> Option<LifecycleId>
         ensures { result ≡ (if ends size self.now then self.now.lifecycle else None) }
     {
