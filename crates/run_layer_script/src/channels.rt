@@ -17,7 +17,6 @@
 mod calls;
 
 use crate::output::Output;
-use crate::show::{Hex, refuse};
 use crate::words::{bytes_of, cut};
 use calls::{begin, parsed};
 use sctp_channels::{
@@ -36,9 +35,9 @@ fn written(output: &mut Output, message: &ChannelMessage) -> Vec<u8> {
 }
 
 fn show_message(output: &mut Output, message: &ChannelMessage) {
-    writeln!(output, "{message:?}");
+    output.debug_line(message);
     let bytes = written(output, message);
-    writeln!(output, "{}", Hex(&bytes));
+    output.hex_line(&bytes);
 }
 
 fn message(output: &mut Output, bytes: &[u8]) {
@@ -47,7 +46,7 @@ fn message(output: &mut Output, bytes: &[u8]) {
             show_message(output, &message);
             drop(message);
         }
-        Err(fault) => refuse(output, fault),
+        Err(fault) => output.refuse(fault),
     }
 }
 
@@ -64,20 +63,25 @@ fn label(output: &mut Output, size: u32) {
         protocol: String::new(output.alloc),
     });
     let bytes = written(output, &open);
-    writeln!(output, "{}, {} bytes", open.is_encodable(), bytes.len());
+    output.put(&open.is_encodable());
+    output.fill(", # bytes\n", &[bytes.len() as u128]);
     drop(open);
 }
 
 fn payload(output: &mut Output, ppid: u32) {
     match PayloadProtocol::from_ppid(PpId(ppid)) {
-        Some(protocol) => writeln!(output, "{protocol:?}"),
+        Some(protocol) => output.debug_line(&protocol),
         None => output.push_str("none\n"),
     }
 }
 
 fn data(output: &mut Output, kind: PayloadKind, bytes: Vec<u8>) {
     match data_message(StreamId(0), kind, bytes) {
-        Ok(message) => writeln!(output, "{} {}", message.ppid, Hex(&message.payload)),
+        Ok(message) => {
+            output.put(&message.ppid);
+            output.push_str(" ");
+            output.hex_line(&message.payload);
+        }
         Err(fault) => output.note(Err(fault)),
     }
 }
@@ -118,7 +122,7 @@ pub fn run(script: &str, output: &mut Output) {
             || answer_number(output, name, words)
             || answer_bytes(output, name, words);
         if !is_known {
-            writeln!(output, "? {line}");
+            output.unknown(line);
         }
     }
     drop(channels);

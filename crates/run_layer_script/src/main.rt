@@ -9,7 +9,6 @@ mod channels;
 mod output;
 mod receiver;
 mod sender;
-mod show;
 mod state;
 mod wire;
 mod words;
@@ -21,7 +20,8 @@ use words::cut;
 /// Runs a row of the layer.
 fn run_row(layer: &str, row: &str, output: &mut Output) {
     let (title, script) = cut(row, '\n');
-    writeln!(output, "#{title}");
+    output.push_str("#");
+    output.put_line(&title);
     match layer {
         "wire" => wire::run(script, output),
         "state" => state::run(script, output),
@@ -33,7 +33,8 @@ fn run_row(layer: &str, row: &str, output: &mut Output) {
 }
 
 fn run_layer(layer: &str, rows: &str, output: &mut Output) {
-    writeln!(output, "@{layer}");
+    output.push_str("@");
+    output.put_line(&layer);
     for row in rows.split('#') {
         if !row.is_empty() {
             run_row(layer, row, output);

@@ -1,7 +1,8 @@
 //! What is printed.
 
+use crate::words::yes_or_no;
 use std::alloc::{AllocError, Global};
-use std::fmt::Display;
+use std::fmt::{Debug, Display};
 
 /// What is printed at the end: all that was written, up to where memory was refused.
 #[derive(Drop)]
@@ -67,10 +68,57 @@ impl Output {
         }
     }
 
+    pub fn put<T: Display>(&mut self, value: &T) {
+        write!(self, "{value}");
+    }
+
+    pub fn put_debug<T: Debug>(&mut self, value: &T) {
+        write!(self, "{value:?}");
+    }
+
+    pub fn put_line<T: Display>(&mut self, value: &T) {
+        writeln!(self, "{value}");
+    }
+
+    pub fn debug_line<T: Debug>(&mut self, value: &T) {
+        writeln!(self, "{value:?}");
+    }
+
+    /// Writes the text, with a number for each `#`, and for each `?` yes where the number isn't 0, else no.
+    pub fn fill(&mut self, text: &str, numbers: &[u128]) {
+        let mut numbers = numbers.iter();
+        for letter in text.chars() {
+            match letter {
+                '#' => self.put(numbers.next().unwrap_or(&0)),
+                '?' => self.push_str(yes_or_no(numbers.next() != Some(&0))),
+                letter => self.put(&letter),
+            }
+        }
+    }
+
+    /// Answers a line that is no command.
+    pub fn unknown(&mut self, line: &str) {
+        self.push_str("? ");
+        self.put_line(&line);
+    }
+
+    pub fn refuse<E: Display + Drop>(&mut self, fault: E) {
+        writeln!(self, "refused: {fault}");
+    }
+
     /// Writes bytes in hex.
     pub fn push_hex(&mut self, bytes: &[u8]) {
         for byte in bytes {
             write!(self, "{byte:02x}");
         }
+    }
+
+    /// Writes bytes in hex as a line, `-` where there are none.
+    pub fn hex_line(&mut self, bytes: &[u8]) {
+        if bytes.is_empty() {
+            self.push_str("-");
+        }
+        self.push_hex(bytes);
+        self.push_str("\n");
     }
 }

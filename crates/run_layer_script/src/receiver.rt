@@ -26,14 +26,14 @@ use crate::words::{Line, cut};
 /// Runs a script on what its first line names.
 pub fn run(script: &str, output: &mut Output) {
     let (head, commands) = cut(script, '\n');
-    let line = Line(head);
-    match line.word(0) {
-        "tracker" => tracker::run(line, commands, output),
-        "queue" => queue::run(line, commands, output),
-        "streams" => streams::run(line, commands, output),
-        "list" => list::run(line, commands, output),
-        "ordered" => stream::run_ordered(line, commands, output),
-        "unordered" => stream::run_unordered(line, commands, output),
+    let line = Line::new(head);
+    match line.name {
+        "tracker" => tracker::run(&line, commands, output),
+        "queue" => queue::run(&line, commands, output),
+        "streams" => streams::run(&line, commands, output),
+        "list" => list::run(&line, commands, output),
+        "ordered" => stream::run_ordered(&line, commands, output),
+        "unordered" => stream::run_unordered(&line, commands, output),
         _ => output.push_str("?\n"),
     }
 }

@@ -23,7 +23,7 @@ pub fn run(script: &str, output: &mut Output) {
     let mut bench = Bench::new(output.alloc);
     for text in script.lines() {
         let (part, rest) = cut(text, ' ');
-        let answer = bench.answer(part, Line(rest), output);
+        let answer = bench.answer(part, &Line::new(rest), output);
         finish(output, text, answer);
     }
     drop(bench);

@@ -16,24 +16,35 @@ mod timers;
 
 use crate::output::Output;
 use crate::words::{Line, cut};
+use answer::run_commands;
+use errors::Errors;
+use sctp_state::{HandoverReadiness, Options, ThresholdWatcher, TxErrorCounter};
 
 /// Makes the thing that the first line names, and lets it do the commands.
 pub fn run(script: &str, output: &mut Output) {
     let (head, commands) = cut(script, '\n');
-    let line = Line(head);
-    match line.word(0) {
-        "scheduler" => scheduler::run(line, commands, output),
+    let line = Line::new(head);
+    match line.name {
+        "scheduler" => scheduler::run(&line, commands, output),
         "events" => events::run(commands, output),
-        "watcher" => counting::run_watcher(line, commands, output),
-        "counter" => counting::run_counter(line, commands, output),
-        "timer" => timers::run(line, commands, output),
+        "watcher" => run_commands(
+            commands,
+            output,
+            &mut ThresholdWatcher::new(line.first.size),
+        ),
+        "counter" => run_commands(
+            commands,
+            output,
+            &mut TxErrorCounter::new(u32::try_from(line.first.long).ok()),
+        ),
+        "timer" => run_commands(commands, output, &mut timers::timer(&line)),
         "timeout" => timers::run_timeout(commands, output),
         "capabilities" => capabilities::run(commands, output),
         "cookie" => cookie::run(commands, output),
-        "errors" => errors::run(commands, output),
-        "handover" => handover::run(line, commands, output),
-        "options" => options::run(commands, output),
-        "readiness" => readiness::run(commands, output),
+        "errors" => run_commands(commands, output, &mut Errors),
+        "handover" => handover::run(&line, commands, output),
+        "options" => run_commands(commands, output, &mut Options::default()),
+        "readiness" => run_commands(commands, output, &mut HandoverReadiness::READY),
         _ => output.push_str("?\n"),
     }
 }

@@ -119,7 +119,7 @@ pub fn run(script: &str, output: &mut Output) {
     let mut rows = Vec::new(output.alloc);
     for line in script.lines() {
         if !answer(output, &mut builder, &mut rows, line) {
-            writeln!(output, "? {line}");
+            output.unknown(line);
         }
     }
     drop(builder);

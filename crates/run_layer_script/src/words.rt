@@ -2,7 +2,7 @@
 
 use crate::output::Output;
 use hex::FromHexError;
-use sctp_serial::{SocketTime, StreamId, Tsn};
+use sctp_serial::SocketTime;
 use std::alloc::AllocError;
 use std::str::SplitWhitespace;
 use std::time::Duration;
@@ -12,8 +12,8 @@ pub fn cut(text: &str, separator: char) -> (&str, &str) {
     text.split_once(separator).unwrap_or((text, ""))
 }
 
-/// The number that a word says: 1 for yes, 0 for no and for one that is missing, and the greatest for another word.
-pub fn value(word: &str) -> u64 {
+/// 1 for yes, 0 for no and for a word that is missing, and the greatest for one that is no number.
+fn value(word: &str) -> u64 {
     match word {
         "yes" => 1,
         "no" | "" => 0,
@@ -21,103 +21,104 @@ pub fn value(word: &str) -> u64 {
     }
 }
 
-/// The same of 32 bits, the greatest where it is more.
-pub fn whole(word: &str) -> u32 {
-    low_word(value(word))
-}
-
-/// The same of 16 bits.
-pub fn half(word: &str) -> u16 {
-    low_half(value(word))
-}
-
-/// The number, or the greatest one of 32 bits.
-pub fn low_word(number: u64) -> u32 {
-    u32::try_from(number).unwrap_or(u32::MAX)
-}
-
-/// The number, or the greatest one of 16 bits.
-pub fn low_half(number: u64) -> u16 {
-    u16::try_from(number).unwrap_or(u16::MAX)
-}
-
-/// A command as it is written.
+/// The number that a word says, in each width: the greatest one where it is more.
 #[derive(Clone, Copy)]
-pub struct Line<'a>(pub &'a str);
+pub struct Number {
+    pub long: u64,
+    pub size: usize,
+    pub word: u32,
+    pub half: u16,
+    /// Whether it isn't 0.
+    pub flag: bool,
+}
 
-impl<'a> Line<'a> {
-    /// The words from the place on.
-    pub fn rest(self, place: u8) -> SplitWhitespace<'a> {
-        let mut words = self.0.split_whitespace();
-        for _ in 0..place {
-            words.next();
-        }
-        words
-    }
-
-    /// The word at the place, an empty one where there is none.
-    pub fn word(self, place: u8) -> &'a str {
-        self.rest(place).next().unwrap_or("")
-    }
-
-    /// The last word behind the name, where there is one.
-    pub fn last(self) -> &'a str {
-        match self.0.rsplit_once(' ') {
-            Some((_, last)) => last,
-            None => "",
+impl Number {
+    pub fn of(word: &str) -> Number {
+        let long = value(word);
+        Number {
+            long,
+            size: long as usize,
+            word: u32::try_from(long).unwrap_or(u32::MAX),
+            half: u16::try_from(long).unwrap_or(u16::MAX),
+            flag: long != 0,
         }
     }
 
-    pub fn number(self, place: u8) -> u64 {
-        value(self.word(place))
-    }
-
-    /// The four numbers behind the name.
-    pub fn numbers(self) -> [u64; 4] {
-        [
-            self.number(1),
-            self.number(2),
-            self.number(3),
-            self.number(4),
-        ]
-    }
-
-    pub fn whole(self, place: u8) -> u32 {
-        whole(self.word(place))
-    }
-
-    pub fn half(self, place: u8) -> u16 {
-        half(self.word(place))
-    }
-
-    pub fn size(self, place: u8) -> usize {
-        self.number(place) as usize
-    }
-
-    pub fn flag(self, place: u8) -> bool {
-        self.number(place) != 0
-    }
-
-    pub fn tsn(self, place: u8) -> Tsn {
-        Tsn(self.whole(place))
-    }
-
-    pub fn stream(self, place: u8) -> StreamId {
-        StreamId(self.half(place))
-    }
-
-    pub fn millis(self, place: u8) -> Duration {
-        Duration::from_millis(self.number(place))
+    pub fn millis(self) -> Duration {
+        Duration::from_millis(self.long)
     }
 
     /// A moment, in milliseconds.
-    pub fn moment(self, place: u8) -> SocketTime {
-        SocketTime::zero() + self.millis(place)
+    pub fn moment(self) -> SocketTime {
+        SocketTime::zero() + self.millis()
     }
 
     /// A moment, in microseconds.
-    pub fn fine_moment(self, place: u8) -> SocketTime {
-        SocketTime::zero() + Duration::from_micros(self.number(place))
+    pub fn fine_moment(self) -> SocketTime {
+        SocketTime::zero() + Duration::from_micros(self.long)
+    }
+}
+
+/// A command as it is written: its name, the words behind that, where there are any, and the numbers that these are.
+#[derive(Clone, Copy)]
+pub struct Line<'a> {
+    pub text: &'a str,
+    pub name: &'a str,
+    pub word: &'a str,
+    pub last: &'a str,
+    pub first: Number,
+    pub second: Number,
+    pub third: Number,
+    pub fourth: Number,
+}
+
+impl<'a> Line<'a> {
+    pub fn new(text: &'a str) -> Line<'a> {
+        let word = word_at(text, 1);
+        Line {
+            text,
+            name: word_at(text, 0),
+            word,
+            last: last_of(text),
+            first: Number::of(word),
+            second: Number::of(word_at(text, 2)),
+            third: Number::of(word_at(text, 3)),
+            fourth: Number::of(word_at(text, 4)),
+        }
+    }
+
+    /// The words from the place on.
+    pub fn rest(&self, place: u8) -> SplitWhitespace<'a> {
+        rest_of(self.text, place)
+    }
+
+    /// The word at the place, an empty one where there is none.
+    pub fn word(&self, place: u8) -> &'a str {
+        word_at(self.text, place)
+    }
+
+    pub fn number(&self, place: u8) -> Number {
+        Number::of(word_at(self.text, place))
+    }
+}
+
+fn rest_of(text: &str, place: u8) -> SplitWhitespace<'_> {
+    let mut words = text.split_whitespace();
+    for _ in 0..place {
+        words.next();
+    }
+    words
+}
+
+fn word_at(text: &str, place: u8) -> &str {
+    rest_of(text, place).next().unwrap_or("")
+}
+
+/// The last word behind the name, where there is one.
+fn last_of(text: &str) -> &str {
+    match text.rsplit_once(' ') {
+        Some((_, last)) => last,
+        None => "",
     }
 }
 

@@ -4,7 +4,7 @@ use crate::output::Output;
 use crate::words::{bytes_of, cut};
 use sctp_channels::{Channels, DataChannelOpen, Reliability};
 use sctp_serial::{Message, PpId, StreamId};
-use std::alloc::{AllocError, Global};
+use std::alloc::Global;
 use std::mem;
 
 /// More is not printed of what one command asks for.
@@ -34,24 +34,6 @@ pub fn parsed(word: &str) -> Option<u32> {
     word.parse::<u32>().ok()
 }
 
-/// What became of a call that takes memory, `None` where the name is of none.
-fn called(
-    alloc: Global,
-    channels: &mut Channels,
-    name: &str,
-    id: StreamId,
-    size: usize,
-) -> Option<Result<(), AllocError>> {
-    match name {
-        "negotiate" => Some(channels.negotiate(id, description(alloc))),
-        "buffered" => Some(channels.drain(id, size)),
-        "performed" => Some(channels.on_reset_performed(id)),
-        "denied" => Some(channels.on_reset_denied(id)),
-        "reset" => Some(channels.on_incoming_reset(id)),
-        _ => None,
-    }
-}
-
 /// Whether the line was a call that takes memory.
 fn call_noted(
     output: &mut Output,
@@ -60,13 +42,15 @@ fn call_noted(
     id: StreamId,
     size: usize,
 ) -> bool {
-    match called(output.alloc, channels, name, id, size) {
-        Some(outcome) => {
-            output.note(outcome);
-            true
-        }
-        None => false,
+    match name {
+        "negotiate" => output.note(channels.negotiate(id, description(output.alloc))),
+        "buffered" => output.note(channels.drain(id, size)),
+        "performed" => output.note(channels.on_reset_performed(id)),
+        "denied" => output.note(channels.on_reset_denied(id)),
+        "reset" => output.note(channels.on_incoming_reset(id)),
+        _ => return false,
     }
+    true
 }
 
 /// Whether the line was a command over numbers.
@@ -74,8 +58,10 @@ fn call(output: &mut Output, channels: &mut Channels, name: &str, first: u32, se
     let id = stream(first);
     let size = second as usize;
     match name {
-        "client" => drop(mem::replace(channels, begin(output.alloc, true, first, second))),
-        "server" => drop(mem::replace(channels, begin(output.alloc, false, first, second))),
+        "client" | "server" => drop(mem::replace(
+            channels,
+            begin(output.alloc, name == "client", first, second),
+        )),
         "close" => channels.close(id),
         "streams" => channels.set_stream_count(id.0),
         "show" => show(output, channels, id),
@@ -86,27 +72,29 @@ fn call(output: &mut Output, channels: &mut Channels, name: &str, first: u32, se
 
 fn show(output: &mut Output, channels: &Channels, id: StreamId) {
     match channels.get(id) {
-        Some(channel) => writeln!(
-            output,
-            "unordered {}, {:?}, {:?}",
-            channel.goes_unordered(),
-            channel.lifecycle(),
-            channel.statistics()
-        ),
+        Some(channel) => {
+            output.push_str("unordered ");
+            output.put(&channel.goes_unordered());
+            output.push_str(", ");
+            output.put_debug(&channel.lifecycle());
+            output.push_str(", ");
+            output.debug_line(&channel.statistics());
+        }
         None => output.push_str("none\n"),
     }
 }
 
 fn list(output: &mut Output, channels: &Channels) {
     let ids = output.made(channels.streams());
-    writeln!(output, "{ids:?}");
+    output.debug_line(&ids);
 }
 
 fn open(output: &mut Output, channels: &mut Channels) {
     match channels.free_stream() {
         Some(id) => {
             output.note(channels.open(id, description(output.alloc)));
-            writeln!(output, "stream {id}");
+            output.push_str("stream ");
+            output.put_line(&id);
         }
         None => output.push_str("none\n"),
     }
@@ -138,15 +126,11 @@ fn got_bytes(
     }
 }
 
-fn numbers(words: &str) -> Option<(u32, u32)> {
-    let (first, second) = words.split_once(' ').unwrap_or((words, "0"));
-    Some((parsed(first)?, parsed(second)?))
-}
-
 fn answer_numbers(output: &mut Output, channels: &mut Channels, name: &str, words: &str) -> bool {
-    match numbers(words) {
-        Some((first, second)) => call(output, channels, name, first, second),
-        None => false,
+    let (first, second) = words.split_once(' ').unwrap_or((words, "0"));
+    match (parsed(first), parsed(second)) {
+        (Some(first), Some(second)) => call(output, channels, name, first, second),
+        _ => false,
     }
 }
 
@@ -164,7 +148,7 @@ fn answer_call(output: &mut Output, channels: &mut Channels, name: &str, words: 
 fn show_outputs(output: &mut Output, channels: &mut Channels) {
     for _ in 0..MANY {
         match channels.next_output() {
-            Some(next) => writeln!(output, "{next:?}"),
+            Some(next) => output.debug_line(&next),
             None => break,
         }
     }

@@ -48,8 +48,8 @@ impl Key for UnorderedInterleavedKey {
 }
 
 /// Takes the commands of a script on a list of intervals.
-pub fn run(line: Line<'_>, script: &str, output: &mut Output) {
-    match line.word(1) {
+pub fn run(line: &Line<'_>, script: &str, output: &mut Output) {
+    match line.word {
         "tsn" => play_each(
             IntervalList::<TraditionalKey>::new(output.alloc),
             script,
@@ -71,31 +71,38 @@ pub fn run(line: Line<'_>, script: &str, output: &mut Output) {
 
 impl<K: Key> Player for IntervalList<K> {
     /// `add NUMBER INDEX ENDS HEX`; `turn PLACE NUMBER`; `take PLACE`; `next NUMBER`; `retain NUMBER INDEX`; `sums`.
-    fn play(&mut self, line: Line<'_>, output: &mut Output) {
-        let (first, second) = (line.number(1), line.number(2));
-        match line.word(0) {
-            "add" => {
-                let fragment = piece(line, output);
-                add(self, K::made(first, second), fragment, output);
+    fn play(&mut self, line: &Line<'_>, output: &mut Output) {
+        match line.name {
+            "turn" => output.push_str(is_in_turn(self, line.first.size, line.second.long)),
+            "take" => take(self, line.first.size, output),
+            "next" => next(self, line.first.long, output),
+            "add" | "retain" | "sums" => {
+                change(self, line, output);
                 show_sums(self, output);
             }
-            "turn" => output.push_str(is_in_turn(self, first as usize, second)),
-            "take" => take(self, first as usize, output),
-            "next" => next(self, first, output),
-            "retain" => {
-                self.retain(K::made(first, second));
-                show_sums(self, output);
-            }
-            "sums" => show_sums(self, output),
             _ => output.push_str("?"),
         }
     }
 }
 
+fn change<K: Key>(list: &mut IntervalList<K>, line: &Line<'_>, output: &mut Output) {
+    let key = K::made(line.first.long, line.second.long);
+    match line.name {
+        "add" => add(list, key, piece(line, output), output),
+        "retain" => list.retain(key),
+        _ => {}
+    }
+}
+
 fn show_sums<K: Key>(list: &IntervalList<K>, output: &mut Output) {
-    let (count, bytes) = (list.len(), list.total_bytes());
-    let is_empty = yes_or_no(list.is_empty());
-    write!(output, "intervals {count}, bytes {bytes}, empty {is_empty}");
+    output.fill(
+        "intervals #, bytes #, empty ?",
+        &[
+            list.len() as u128,
+            list.total_bytes() as u128,
+            list.is_empty() as u128,
+        ],
+    );
 }
 
 fn add<K: Key>(list: &mut IntervalList<K>, key: K, fragment: Data, output: &mut Output) {
@@ -108,10 +115,7 @@ fn add<K: Key>(list: &mut IntervalList<K>, key: K, fragment: Data, output: &mut 
         return;
     }
     match list.add(key, fragment) {
-        Ok(true) => {
-            let place = place_of(list, key);
-            write!(output, "at {place}, ");
-        }
+        Ok(true) => output.fill("at #, ", &[place_of(list, key) as u128]),
         Ok(false) => output.push_str("held already, "),
         Err(fault) => output.note(Err(fault)),
     }
@@ -172,24 +176,31 @@ fn show<K: Key>(interval: Interval<K>, bytes: usize, output: &mut Output) {
     let first = interval.first().key;
     show_ends(first, interval.last().key, output);
     show_turn(&interval, first.number(), output);
-    write!(output, ", bytes {bytes}: ");
+    output.fill(", bytes #: ", &[bytes as u128]);
     let payload = output.made(interval.collect_payload(output.alloc));
     output.push_hex(&payload);
     drop(interval);
 }
 
 fn show_ends<K: Key>(first: K, last: K, output: &mut Output) {
-    let (number, place) = (first.number(), first.place());
-    let (last_number, last_place) = (last.number(), last.place());
-    write!(output, "{number}/{place} to {last_number}/{last_place}");
+    output.fill(
+        "#/# to #/#",
+        &[
+            first.number() as u128,
+            first.place() as u128,
+            last.number() as u128,
+            last.place() as u128,
+        ],
+    );
 }
 
 fn show_turn<K: Key>(interval: &Interval<K>, number: u64, output: &mut Output) {
-    let is_complete = yes_or_no(interval.is_complete());
-    let is_turn = yes_or_no(interval.is_in_turn(number as u128));
-    let is_early = yes_or_no(interval.is_in_turn(number as u128 + 1));
-    write!(
-        output,
-        ", complete {is_complete}, in turn {is_turn}, at the next number {is_early}"
+    output.fill(
+        ", complete ?, in turn ?, at the next number ?",
+        &[
+            interval.is_complete() as u128,
+            interval.is_in_turn(number as u128) as u128,
+            interval.is_in_turn(number as u128 + 1) as u128,
+        ],
     );
 }

@@ -1,7 +1,7 @@
 //! Fragments and messages, as words say them.
 
 use crate::output::Output;
-use crate::words::{Line, bytes_of, half, whole};
+use crate::words::{Line, Number, bytes_of};
 use sctp_packet::{Data, SkippedStream};
 use sctp_serial::{Fsn, Message, Mid, PpId, Ssn, StreamId, StreamKey};
 
@@ -11,20 +11,21 @@ pub fn stream_key(word: &str) -> StreamKey {
         Some(id) => id,
         None => word.strip_prefix('o').unwrap_or(word),
     };
-    StreamKey::new(word.starts_with('u'), StreamId(half(id)))
+    StreamKey::new(word.starts_with('u'), StreamId(Number::of(id).half))
 }
 
 /// `o3:7` or `u3:7` is an entry of I-FORWARD-TSN, `3:7` one of FORWARD-TSN.
 pub fn entry(word: &str) -> SkippedStream {
     let (stream, number) = word.split_once(':').unwrap_or((word, ""));
+    let number = Number::of(number);
     match stream.parse::<u16>() {
-        Ok(id) => SkippedStream::ForwardTsn(StreamId(id), Ssn(half(number))),
-        Err(_) => SkippedStream::IForwardTsn(stream_key(stream), Mid(whole(number))),
+        Ok(id) => SkippedStream::ForwardTsn(StreamId(id), Ssn(number.half)),
+        Err(_) => SkippedStream::IForwardTsn(stream_key(stream), Mid(number.word)),
     }
 }
 
 /// The entries behind the first two words.
-pub fn entries(line: Line<'_>, output: &mut Output) -> Vec<SkippedStream> {
+pub fn entries(line: &Line<'_>, output: &mut Output) -> Vec<SkippedStream> {
     let mut entries = Vec::new(output.alloc);
     for word in line.rest(2) {
         output.note(entries.push(entry(word)));
@@ -33,10 +34,10 @@ pub fn entries(line: Line<'_>, output: &mut Output) -> Vec<SkippedStream> {
 }
 
 /// The streams from the place on.
-pub fn stream_ids(line: Line<'_>, place: u8, output: &mut Output) -> Vec<StreamId> {
+pub fn stream_ids(line: &Line<'_>, place: u8, output: &mut Output) -> Vec<StreamId> {
     let mut ids = Vec::new(output.alloc);
     for word in line.rest(place) {
-        output.note(ids.push(StreamId(half(word))));
+        output.note(ids.push(StreamId(Number::of(word).half)));
     }
     ids
 }
@@ -63,15 +64,20 @@ pub fn fragment(key: StreamKey, number: u16, fsn: u32, ends: &str, payload: Vec<
 }
 
 /// The fragment of a command `NAME TSN STREAM NUMBER FSN ENDS HEX`.
-pub fn fragment_of(line: Line<'_>, output: &mut Output) -> Data {
+pub fn fragment_of(line: &Line<'_>, output: &mut Output) -> Data {
     let key = stream_key(line.word(2));
-    let (number, fsn) = (line.half(3), line.whole(4));
     let payload = payload_of(line.word(6), output);
-    fragment(key, number, fsn, line.word(5), payload)
+    fragment(
+        key,
+        line.third.half,
+        line.fourth.word,
+        line.word(5),
+        payload,
+    )
 }
 
 /// The fragment of a command `NAME NUMBER INDEX ENDS HEX`.
-pub fn piece(line: Line<'_>, output: &mut Output) -> Data {
+pub fn piece(line: &Line<'_>, output: &mut Output) -> Data {
     let key = StreamKey::Unordered(StreamId(1));
     let payload = payload_of(line.word(4), output);
     fragment(key, 0, 0, line.word(3), payload)
@@ -81,7 +87,8 @@ pub fn piece(line: Line<'_>, output: &mut Output) -> Data {
 pub fn show_message(message: Option<&Message>, output: &mut Output) {
     match message {
         Some(message) => {
-            write!(output, "{}/{}:", message.stream_id.0, message.ppid.0);
+            let names = [message.stream_id.0 as u128, message.ppid.0 as u128];
+            output.fill("#/#:", &names);
             output.push_hex(&message.payload);
         }
         None => output.push_str("none"),

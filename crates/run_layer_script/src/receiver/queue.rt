@@ -8,7 +8,7 @@ use crate::output::Output;
 use crate::receiver::pieces::stream_ids;
 use crate::receiver::player::{Player, play_each};
 use crate::receiver::receiver::{Receiver, show_sums, take};
-use crate::words::{Line, whole, yes_or_no};
+use crate::words::{Line, yes_or_no};
 use sctp_packet::{Data, SkippedStream};
 use sctp_rx::ReassemblyQueue;
 use sctp_serial::{Message, Ssn, StreamId, Tsn};
@@ -28,10 +28,10 @@ struct Queue {
 }
 
 /// Takes the commands of a script on a queue.
-pub fn run(line: Line<'_>, script: &str, output: &mut Output) {
-    let is_interleaved = line.word(1) == "interleaved";
-    let max_size = line.whole(2);
-    let max_fragments = most_fragments(line.word(3));
+pub fn run(line: &Line<'_>, script: &str, output: &mut Output) {
+    let is_interleaved = line.word == "interleaved";
+    let max_size = line.second.word;
+    let max_fragments = most_fragments(line);
     let queue = Queue {
         queue: ReassemblyQueue::new(
             output.alloc,
@@ -45,12 +45,12 @@ pub fn run(line: Line<'_>, script: &str, output: &mut Output) {
     play_each(queue, script, output);
 }
 
-/// The number that the word says, and without a word no bound.
-fn most_fragments(word: &str) -> usize {
-    if word.is_empty() {
+/// The number that the third word says, and without a word no bound.
+fn most_fragments(line: &Line<'_>) -> usize {
+    if line.word(3).is_empty() {
         return usize::MAX;
     }
-    whole(word) as usize
+    line.third.word as usize
 }
 
 /// The record of a socket that has sent nothing.
@@ -118,8 +118,8 @@ impl Receiver for ReassemblyQueue {
 
 impl Player for Queue {
     /// `defer TSN STREAM ..`; `point TSN COUNT`; `sizes`; `fragments`; `readiness`; `write`; `restore`; and what streams take too.
-    fn play(&mut self, line: Line<'_>, output: &mut Output) {
-        match line.word(0) {
+    fn play(&mut self, line: &Line<'_>, output: &mut Output) {
+        match line.name {
             "defer" => self.defer(line, output),
             "point" => self.point(line, output),
             "sizes" => show_sizes(&self.queue, output),
@@ -133,18 +133,18 @@ impl Player for Queue {
 }
 
 impl Queue {
-    fn defer(&mut self, line: Line<'_>, output: &mut Output) {
+    fn defer(&mut self, line: &Line<'_>, output: &mut Output) {
         let ids = stream_ids(line, 2, output);
-        let last = line.tsn(1);
+        let last = Tsn(line.first.word);
         output.note(self.queue.enter_deferred_reset(last, &ids));
         drop(ids);
         show_sums(&self.queue, output);
     }
 
     /// A forward point with so many entries.
-    fn point(&mut self, line: Line<'_>, output: &mut Output) {
-        let tsn = line.tsn(1);
-        let skipped = entries(line.whole(2), output);
+    fn point(&mut self, line: &Line<'_>, output: &mut Output) {
+        let tsn = Tsn(line.first.word);
+        let skipped = entries(line.second.word, output);
         self.take_point(tsn, &skipped, output);
     }
 
@@ -194,29 +194,31 @@ fn entries(count: u32, output: &mut Output) -> Vec<SkippedStream> {
 fn show_ordered(streams: &[HandoverOrderedStream], output: &mut Output) {
     output.push_str("ordered");
     for stream in streams {
-        write!(output, " {}:{}", stream.id, stream.next_ssn);
+        output.fill(" #:#", &[stream.id as u128, stream.next_ssn as u128]);
     }
 }
 
 fn show_unordered(streams: &[HandoverUnorderedStream], output: &mut Output) {
     output.push_str(" unordered");
     for stream in streams {
-        write!(output, " {}", stream.id);
+        output.fill(" #", &[stream.id as u128]);
     }
 }
 
 fn show_sizes(queue: &ReassemblyQueue, output: &mut Output) {
-    let (count, left) = (queue.rx_messages_count(), queue.remaining_bytes());
-    let is_above = yes_or_no(queue.is_above_watermark());
-    let is_full = yes_or_no(queue.is_full());
-    write!(
-        output,
-        "became ready {count}, left {left}, above watermark {is_above}, full {is_full}"
+    output.fill(
+        "became ready #, left #, above watermark ?, full ?",
+        &[
+            queue.rx_messages_count() as u128,
+            queue.remaining_bytes() as u128,
+            queue.is_above_watermark() as u128,
+            queue.is_full() as u128,
+        ],
     );
 }
 
 fn show_fragments(queue: &ReassemblyQueue, output: &mut Output) {
-    let (count, is_most) = (queue.held_fragments(), queue.holds_most_fragments());
-    let is_most = yes_or_no(is_most);
-    write!(output, "fragments {count}, most {is_most}");
+    let is_most = queue.holds_most_fragments();
+    let held = [queue.held_fragments() as u128, is_most as u128];
+    output.fill("fragments #, most ?", &held);
 }

@@ -37,42 +37,34 @@ pub fn show_next(message: Option<Message>, output: &mut Output) {
 /// Shows how many messages are ready, and how many bytes are held.
 pub fn show_sums<R: Receiver>(receiver: &R, output: &mut Output) {
     let (count, bytes) = receiver.sums();
-    write!(output, "ready {count}, bytes {bytes}");
-}
-
-fn forward<R: Receiver>(receiver: &mut R, line: Line<'_>, output: &mut Output) {
-    let entries = entries(line, output);
-    output.note(receiver.forward(output.alloc, line.number(1), &entries));
-    drop(entries);
-}
-
-fn reset<R: Receiver>(receiver: &mut R, line: Line<'_>, output: &mut Output) {
-    let ids = stream_ids(line, 1, output);
-    output.note(receiver.reset(&ids));
-    drop(ids);
-}
-
-fn add<R: Receiver>(receiver: &mut R, line: Line<'_>, output: &mut Output) {
-    let fragment = fragment_of(line, output);
-    output.note(receiver.add(line.number(1), fragment));
+    output.fill("ready #, bytes #", &[count as u128, bytes as u128]);
 }
 
 /// `add TSN STREAM NUMBER FSN ENDS HEX`, `forward TSN ENTRY ..`, `reset STREAM ..`.
-fn change<R: Receiver>(receiver: &mut R, line: Line<'_>, output: &mut Output) {
-    match line.word(0) {
-        "add" => add(receiver, line, output),
-        "forward" => forward(receiver, line, output),
-        "reset" => reset(receiver, line, output),
+fn change<R: Receiver>(receiver: &mut R, line: &Line<'_>, output: &mut Output) {
+    match line.name {
+        "add" => {
+            let fragment = fragment_of(line, output);
+            output.note(receiver.add(line.first.long, fragment));
+        }
+        "forward" => {
+            let entries = entries(line, output);
+            output.note(receiver.forward(output.alloc, line.first.long, &entries));
+        }
+        "reset" => {
+            let ids = stream_ids(line, 1, output);
+            output.note(receiver.reset(&ids));
+        }
         _ => {}
     }
 }
 
 /// Takes a command that a queue and streams have: `next`, `ready PLACE`, and changes, which are answered by how much there is then, as is
 /// `sums`.
-pub fn take<R: Receiver>(receiver: &mut R, line: Line<'_>, output: &mut Output) {
-    match line.word(0) {
+pub fn take<R: Receiver>(receiver: &mut R, line: &Line<'_>, output: &mut Output) {
+    match line.name {
         "next" => show_next(receiver.next(), output),
-        "ready" => show_message(receiver.ready(line.size(1)), output),
+        "ready" => show_message(receiver.ready(line.first.size), output),
         _ => {
             change(receiver, line, output);
             show_sums(receiver, output);

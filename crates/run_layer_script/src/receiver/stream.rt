@@ -8,7 +8,7 @@ use crate::receiver::list::Key;
 use crate::receiver::pieces::piece;
 use crate::receiver::player::{Player, play_each};
 use crate::receiver::receiver::show_next;
-use crate::words::{Line, value, yes_or_no};
+use crate::words::{Line, Number};
 use sctp_packet::Data;
 use sctp_rx::{
     InterleavedKey, OrderedStream, ReadyMessages, ReassemblyKey, ReassemblyStream, TraditionalKey,
@@ -35,38 +35,20 @@ trait Stream: ReassemblyStream {
     fn drop_below(&mut self, first: Self::Key);
 }
 
-impl Stream for OrderedStream<TraditionalKey> {
+impl<K: ReassemblyKey> Stream for OrderedStream<K> {
     fn number(&self) -> u128 {
         self.next()
     }
 
-    fn drop_below(&mut self, _first: TraditionalKey) {}
+    fn drop_below(&mut self, _first: K) {}
 }
 
-impl Stream for OrderedStream<InterleavedKey> {
-    fn number(&self) -> u128 {
-        self.next()
-    }
-
-    fn drop_below(&mut self, _first: InterleavedKey) {}
-}
-
-impl Stream for UnorderedStream<TraditionalKey> {
+impl<K: ReassemblyKey> Stream for UnorderedStream<K> {
     fn number(&self) -> u128 {
         self.near() as u128
     }
 
-    fn drop_below(&mut self, first: TraditionalKey) {
-        self.forward_to(first);
-    }
-}
-
-impl Stream for UnorderedStream<UnorderedInterleavedKey> {
-    fn number(&self) -> u128 {
-        self.near() as u128
-    }
-
-    fn drop_below(&mut self, first: UnorderedInterleavedKey) {
+    fn drop_below(&mut self, first: K) {
         self.forward_to(first);
     }
 }
@@ -87,18 +69,18 @@ struct Alone<S> {
 }
 
 /// Takes the commands of a script on an ordered stream.
-pub fn run_ordered(line: Line<'_>, script: &str, output: &mut Output) {
+pub fn run_ordered(line: &Line<'_>, script: &str, output: &mut Output) {
     let begin = line.word(2);
     let next = if begin.is_empty() {
         FIRST
     } else {
-        value(begin)
+        Number::of(begin).long
     };
     if next < FIRST {
         output.push_str("refused\n");
         return;
     }
-    match (line.word(1), begin.is_empty()) {
+    match (line.word, begin.is_empty()) {
         ("tsn", true) => run_on(
             OrderedStream::<TraditionalKey>::new(output.alloc),
             script,
@@ -123,8 +105,8 @@ pub fn run_ordered(line: Line<'_>, script: &str, output: &mut Output) {
 }
 
 /// Takes the commands of a script on an unordered stream.
-pub fn run_unordered(line: Line<'_>, script: &str, output: &mut Output) {
-    match line.word(1) {
+pub fn run_unordered(line: &Line<'_>, script: &str, output: &mut Output) {
+    match line.word {
         "tsn" => run_on(
             UnorderedStream::<TraditionalKey>::new(output.alloc),
             script,
@@ -154,8 +136,8 @@ where
     S::Key: Key,
 {
     /// `next`; and changes, which are answered by the state, as is `state`.
-    fn play(&mut self, line: Line<'_>, output: &mut Output) {
-        if line.word(0) == "next" {
+    fn play(&mut self, line: &Line<'_>, output: &mut Output) {
+        if line.name == "next" {
             show_next(self.ready.pop(), output);
         } else {
             self.change(line, output);
@@ -190,9 +172,9 @@ where
     }
 
     /// `add NUMBER INDEX ENDS HEX`, `forward NUMBER INDEX`, `drop NUMBER INDEX`.
-    fn change(&mut self, line: Line<'_>, output: &mut Output) {
-        let key = S::Key::made(line.number(1), line.number(2));
-        match line.word(0) {
+    fn change(&mut self, line: &Line<'_>, output: &mut Output) {
+        let key = S::Key::made(line.first.long, line.second.long);
+        match line.name {
             "add" => {
                 let fragment = piece(line, output);
                 output.note(self.add(key, fragment));
@@ -204,11 +186,14 @@ where
     }
 
     fn show(&self, output: &mut Output) {
-        let (number, bytes) = (self.stream.number(), self.stream.queued_bytes());
-        let (held, ready) = (yes_or_no(self.stream.is_held()), self.ready.len());
-        write!(
-            output,
-            "number {number}, held {held}, bytes {bytes}, ready {ready}"
+        output.fill(
+            "number #, held ?, bytes #, ready #",
+            &[
+                self.stream.number(),
+                self.stream.is_held() as u128,
+                self.stream.queued_bytes() as u128,
+                self.ready.len() as u128,
+            ],
         );
     }
 }

@@ -5,7 +5,7 @@ use crate::receiver::pieces::{entry, fragment, payload_of, stream_key};
 use crate::receiver::player::{Player, play_each};
 use crate::receiver::receiver::{Receiver, show_next, show_sums, take};
 use crate::receiver::stream::have_room;
-use crate::words::{Line, value};
+use crate::words::{Line, Number};
 use sctp_packet::{Data, SkippedStream};
 use sctp_rx::{ReadyMessages, ReassemblyStreams};
 use sctp_serial::{Message, PpId, StreamId, StreamKey};
@@ -29,8 +29,8 @@ struct Streams {
 }
 
 /// Takes the commands of a script on streams.
-pub fn run(line: Line<'_>, script: &str, output: &mut Output) {
-    let is_interleaved = line.word(1) != "traditional";
+pub fn run(line: &Line<'_>, script: &str, output: &mut Output) {
+    let is_interleaved = line.word != "traditional";
     let streams = Streams {
         streams: ReassemblyStreams::new(output.alloc, is_interleaved),
         ready: ReadyMessages::new(output.alloc),
@@ -88,9 +88,9 @@ impl Receiver for Streams {
 impl Player for Streams {
     /// `skip ENTRY`; `push STREAM HEX`: a message that is ready; `sizes`; `message STREAM NUMBER FIRST COUNT`: a message whose fragments may
     /// come; `come TSN ..`; and what a queue takes too.
-    fn play(&mut self, line: Line<'_>, output: &mut Output) {
-        match line.word(0) {
-            "skip" => self.skip(entry(line.word(1)), output),
+    fn play(&mut self, line: &Line<'_>, output: &mut Output) {
+        match line.name {
+            "skip" => self.skip(entry(line.word), output),
             "push" => self.push(line, output),
             "sizes" => show_ready(&self.ready, output),
             "message" => output.note(self.rows.push(row_of(line))),
@@ -110,29 +110,25 @@ impl Streams {
         show_sums(self, output);
     }
 
-    fn push(&mut self, line: Line<'_>, output: &mut Output) {
+    fn push(&mut self, line: &Line<'_>, output: &mut Output) {
         let payload = payload_of(line.word(2), output);
         if !have_room(self.streams.queued_bytes(), &self.ready, payload.len()) {
             drop(payload);
             output.push_str("refused");
             return;
         }
-        let id = line.stream(1);
+        let id = StreamId(line.first.half);
         output.note(self.ready.push(Message::new(id, PpId(53), payload)));
         show_ready(&self.ready, output);
     }
 
     /// Fragments come: prints, for each, which messages become ready, and how many bytes are held then.
-    fn come(&mut self, line: Line<'_>, output: &mut Output) {
+    fn come(&mut self, line: &Line<'_>, output: &mut Output) {
         for word in line.rest(1) {
-            self.come_once(value(word), output);
+            self.take_one(Number::of(word).long, output);
+            show_each(&mut self.ready, output);
+            output.fill(" #", &[self.streams.queued_bytes() as u128]);
         }
-    }
-
-    fn come_once(&mut self, tsn: u64, output: &mut Output) {
-        self.take_one(tsn, output);
-        show_each(&mut self.ready, output);
-        write!(output, " {}", self.streams.queued_bytes());
     }
 
     fn take_one(&mut self, tsn: u64, output: &mut Output) {
@@ -152,16 +148,16 @@ fn show_each(ready: &mut ReadyMessages, output: &mut Output) {
 }
 
 fn show_ready(ready: &ReadyMessages, output: &mut Output) {
-    let (count, bytes) = (ready.len(), ready.total_bytes());
-    write!(output, "ready {count}, their bytes {bytes}");
+    let sums = [ready.len() as u128, ready.total_bytes() as u128];
+    output.fill("ready #, their bytes #", &sums);
 }
 
-fn row_of(line: Line<'_>) -> Row {
+fn row_of(line: &Line<'_>) -> Row {
     Row {
-        key: stream_key(line.word(1)),
-        number: line.half(2),
-        first: line.number(3),
-        count: line.number(4),
+        key: stream_key(line.word),
+        number: line.second.half,
+        first: line.third.long,
+        count: line.fourth.long,
     }
 }
 

@@ -2,13 +2,12 @@
 
 use crate::output::Output;
 use crate::receiver::player::{Player, play_each};
-use crate::words::{Line, value, whole, yes_or_no};
+use crate::words::{Line, Number, yes_or_no};
 use sctp_packet::{GapAckBlock, SackChunk};
 use sctp_rx::DataTracker;
 use sctp_serial::{SocketTime, Tsn};
 use sctp_state::{Options, SocketHandoverState};
 use std::alloc::AllocError;
-use std::time::Duration;
 
 /// A tracker at a moment, and what it wrote for a handover.
 #[derive(Drop)]
@@ -20,8 +19,8 @@ struct Tracker {
 }
 
 /// Takes the commands of a script on a tracker.
-pub fn run(line: Line<'_>, script: &str, output: &mut Output) {
-    let first = line.tsn(1);
+pub fn run(line: &Line<'_>, script: &str, output: &mut Output) {
+    let first = Tsn(line.first.word);
     let tracker = Tracker {
         tracker: DataTracker::new(output.alloc, first, &Options::default()),
         state: SocketHandoverState::empty(output.alloc),
@@ -34,23 +33,22 @@ pub fn run(line: Line<'_>, script: &str, output: &mut Output) {
 impl Player for Tracker {
     /// `come TSN ..`, `twice TSN ..`, `urgent TSN ..`; `sack WINDOW`; `front`; `readiness`; `timer`; `write`; `restore TSN`; and
     /// tests and changes. A TSN `+N` is the first one and N.
-    fn play(&mut self, line: Line<'_>, output: &mut Output) {
-        let argument = line.word(1);
-        match line.word(0) {
+    fn play(&mut self, line: &Line<'_>, output: &mut Output) {
+        match line.name {
             "come" => self.come(line, 1, false, output),
             "twice" => self.come(line, 2, false, output),
             "urgent" => self.come(line, 1, true, output),
-            "sack" => show_sack(self.tracker.create_selective_ack(whole(argument)), output),
+            "sack" => show_sack(self.tracker.create_selective_ack(line.first.word), output),
             "write" => self.write(output),
-            "restore" => self.restore(Tsn(whole(argument)), output),
-            name => self.answer(name, argument, output),
+            "restore" => self.restore(Tsn(line.first.word), output),
+            _ => self.answer(line, output),
         }
     }
 }
 
 impl Tracker {
     /// TSNs come, each so many times.
-    fn come(&mut self, line: Line<'_>, times: u8, is_immediate: bool, output: &mut Output) {
+    fn come(&mut self, line: &Line<'_>, times: u8, is_immediate: bool, output: &mut Output) {
         for word in line.rest(1) {
             for _ in 0..times {
                 let tsn = tsn_of(self.first, word);
@@ -60,9 +58,9 @@ impl Tracker {
     }
 
     /// `at MS`, `end`, `rto MS`, `force`.
-    fn change(&mut self, name: &str, millis: u64) {
-        let time = Duration::from_millis(millis);
-        match name {
+    fn change(&mut self, line: &Line<'_>) {
+        let time = line.first.millis();
+        match line.name {
             "at" => self.now = SocketTime::zero() + time,
             "end" => self.tracker.observe_packet_end(self.now),
             "rto" => self.tracker.update_rto(time),
@@ -72,15 +70,16 @@ impl Tracker {
     }
 
     /// What is asked, and tests, are answered; a change is printed.
-    fn answer(&mut self, name: &str, word: &str, output: &mut Output) {
-        if show(&self.tracker, name, output) {
+    fn answer(&mut self, line: &Line<'_>, output: &mut Output) {
+        if show(&self.tracker, line.name, output) {
             return;
         }
-        match test(&mut self.tracker, self.now, name, tsn_of(self.first, word)) {
+        let tsn = tsn_of(self.first, line.word);
+        match test(&mut self.tracker, self.now, line.name, tsn) {
             Some(answer) => output.push_str(yes_or_no(answer)),
             None => {
-                self.change(name, value(word));
-                output.push_str(name);
+                self.change(line);
+                output.push_str(line.name);
             }
         }
     }
@@ -88,9 +87,14 @@ impl Tracker {
     fn write(&mut self, output: &mut Output) {
         self.tracker.add_to_handover_state(&mut self.state);
         let rx = &self.state.rx;
-        let (front, assembled) = (rx.last_cumulative_acked_tsn, rx.last_assembled_tsn);
-        let has_seen = yes_or_no(rx.seen_packet);
-        write!(output, "{front} {assembled} {has_seen}");
+        output.fill(
+            "# # ?",
+            &[
+                rx.last_cumulative_acked_tsn as u128,
+                rx.last_assembled_tsn as u128,
+                rx.seen_packet as u128,
+            ],
+        );
     }
 
     /// A new tracker takes up what was written.
@@ -104,8 +108,8 @@ impl Tracker {
 
 fn tsn_of(first: Tsn, word: &str) -> Tsn {
     match word.strip_prefix('+') {
-        Some(offset) => first + whole(offset),
-        None => Tsn(whole(word)),
+        Some(offset) => first + Number::of(offset).word,
+        None => Tsn(Number::of(word).word),
     }
 }
 
@@ -127,7 +131,7 @@ fn come_once(
 /// `front`, `readiness`, `timer`: whether it is one of them.
 fn show(tracker: &DataTracker, name: &str, output: &mut Output) -> bool {
     match name {
-        "front" => write!(output, "{}", tracker.last_cumulative_acked_tsn().0),
+        "front" => output.put(&tracker.last_cumulative_acked_tsn().0),
         "readiness" => write!(output, "[{}]", tracker.get_handover_readiness()),
         "timer" => show_timer(tracker.next_timeout(), output),
         _ => return false,
@@ -152,7 +156,7 @@ fn show_timer(expiry: SocketTime, output: &mut Output) {
     if expiry == SocketTime::infinite_future() {
         output.push_str("none");
     } else {
-        write!(output, "{}", expiry.as_nanos() / 1_000_000);
+        output.put(&(expiry.as_nanos() / 1_000_000));
     }
 }
 
@@ -160,7 +164,8 @@ fn show_timer(expiry: SocketTime, output: &mut Output) {
 fn show_sack(sack: Result<SackChunk, AllocError>, output: &mut Output) {
     match sack {
         Ok(sack) => {
-            write!(output, "{} {}", sack.cumulative_tsn_ack.0, sack.a_rwnd);
+            let front = [sack.cumulative_tsn_ack.0 as u128, sack.a_rwnd as u128];
+            output.fill("# #", &front);
             show_blocks(&sack.gap_ack_blocks, output);
             show_duplicates(&sack.duplicate_tsns, output);
             drop(sack);
@@ -171,13 +176,13 @@ fn show_sack(sack: Result<SackChunk, AllocError>, output: &mut Output) {
 
 fn show_blocks(blocks: &[GapAckBlock], output: &mut Output) {
     for block in blocks {
-        write!(output, " {}-{}", block.start, block.end);
+        output.fill(" #-#", &[block.start as u128, block.end as u128]);
     }
 }
 
 fn show_duplicates(duplicates: &[Tsn], output: &mut Output) {
     output.push_str(" again");
     for tsn in duplicates {
-        write!(output, " {}", tsn.0);
+        output.fill(" #", &[tsn.0 as u128]);
     }
 }

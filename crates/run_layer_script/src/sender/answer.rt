@@ -2,6 +2,7 @@
 
 use crate::output::Output;
 use std::alloc::AllocError;
+use std::fmt::Debug;
 
 #[derive(Clone, Copy)]
 pub enum Answer {
@@ -26,17 +27,30 @@ pub fn done<T: Drop, E: Drop>(outcome: Result<T, E>) -> Answer {
     }
 }
 
+impl Output {
+    /// Writes the text with the numbers.
+    pub fn text(&mut self, text: &str, numbers: &[u128]) -> Answer {
+        self.fill(text, numbers);
+        Answer::Text
+    }
+
+    /// Writes the value as it is debugged.
+    pub fn debug_text<T: Debug>(&mut self, value: &T) -> Answer {
+        self.put_debug(value);
+        Answer::Text
+    }
+}
+
 /// Ends the answer's line. A text stands there already.
 pub fn finish(output: &mut Output, line: &str, answer: Answer) {
     match answer {
-        Answer::Unknown => writeln!(output, "? {line}"),
+        Answer::Unknown => output.unknown(line),
         Answer::Done => output.push_str("done\n"),
         Answer::Refused => output.push_str("refused\n"),
         Answer::Nothing => output.push_str("nothing\n"),
-        Answer::Is(true) => output.push_str("yes\n"),
-        Answer::Is(false) => output.push_str("no\n"),
-        Answer::Number(number) => writeln!(output, "{number}"),
-        Answer::Two(first, second) => writeln!(output, "{first} {second}"),
+        Answer::Is(is_so) => output.fill("?\n", &[is_so as u128]),
+        Answer::Number(number) => output.fill("#\n", &[number as u128]),
+        Answer::Two(first, second) => output.fill("# #\n", &[first as u128, second as u128]),
         Answer::Text => output.push_str("\n"),
         Answer::NoMemory => output.note(Err(AllocError)),
     }

@@ -37,7 +37,7 @@ impl Bench {
         }
     }
 
-    pub fn answer(&mut self, part: &str, line: Line<'_>, output: &mut Output) -> Answer {
+    pub fn answer(&mut self, part: &str, line: &Line<'_>, output: &mut Output) -> Answer {
         let events = &mut self.events;
         match part {
             "queue" => queue::answer(&mut self.queue, events, line, output),
@@ -45,7 +45,7 @@ impl Bench {
                 transmission::answer(&mut self.sender, &mut self.queue, events, line, output)
             }
             "both" => handover::answer(output.alloc, &mut self.queue, &mut self.sender, line),
-            "event" => event(events, line.word(0), output),
+            "event" => event(events, line.name, output),
             "data" => data::answer(&mut self.data, events, line, output),
             "item" => item::answer(&mut self.item, line, output),
             _ => Answer::Unknown,
@@ -56,9 +56,9 @@ impl Bench {
 fn next_event(events: &mut Events, output: &mut Output) -> Answer {
     match events.next_event() {
         Some(event) => {
-            write!(output, "{event:?}");
+            let answer = output.debug_text(&event);
             drop(event);
-            Answer::Text
+            answer
         }
         None => Answer::Nothing,
     }
@@ -67,10 +67,8 @@ fn next_event(events: &mut Events, output: &mut Output) -> Answer {
 fn next_given_up(events: &mut Events, output: &mut Output) -> Answer {
     match events.next_given_up() {
         Some(record) => {
-            {
-                write!(output, "message {} {:?}", record.number.0, record.cause);
-                Answer::Text
-            }
+            output.fill("message # ", &[record.number.0 as u128]);
+            output.debug_text(&record.cause)
         }
         None => Answer::Nothing,
     }

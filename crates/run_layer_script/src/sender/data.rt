@@ -6,52 +6,51 @@ use crate::sender::fragment::{bytes, sack, show_chunks, show_skips};
 use crate::words::Line;
 use sctp_chunk::SpareBuffers;
 use sctp_packet::{Data, SackChunk};
-use sctp_serial::{Fsn, LifecycleId, Mid, OutgoingMessageId, PpId, SocketTime, Ssn, StreamKey};
+use sctp_serial::{
+    Fsn, LifecycleId, Mid, OutgoingMessageId, PpId, SocketTime, Ssn, StreamId, StreamKey, Tsn,
+};
 use sctp_state::{Events, SocketHandoverState};
 use sctp_tx_outstanding::{Discarded, Item, OutstandingData};
 use std::alloc::Global;
 use std::collections::VecDeque;
 use std::mem;
 
-fn due(line: Line<'_>) -> Option<SocketTime> {
-    if line.flag(8) {
-        Some(line.moment(8))
-    } else {
-        None
-    }
+fn due(line: &Line<'_>) -> Option<SocketTime> {
+    let due = line.number(8);
+    if due.flag { Some(due.moment()) } else { None }
 }
 
 /// `send STREAM SSN MESSAGE BYTES LIMIT END LIFECYCLE DUE`: an ordered fragment that is sent at moment 0, with its limit of
 /// retransmissions, and the moment from which it isn't worth sending, 0 if there is none.
-fn send(alloc: Global, data: &mut OutstandingData, line: Line<'_>) -> Answer {
-    match bytes(alloc, usize::from(line.half(4))) {
+fn send(alloc: Global, data: &mut OutstandingData, line: &Line<'_>) -> Answer {
+    match bytes(alloc, usize::from(line.fourth.half)) {
         Ok(payload) => insert(data, payload, line),
         Err(_) => Answer::NoMemory,
     }
 }
 
-fn insert(data: &mut OutstandingData, payload: Vec<u8>, line: Line<'_>) -> Answer {
+fn insert(data: &mut OutstandingData, payload: Vec<u8>, line: &Line<'_>) -> Answer {
     if payload.len() >= 100 {
         drop(payload);
         return Answer::Refused;
     }
     let fragment = Data {
-        stream_key: StreamKey::Ordered(line.stream(1)),
-        ssn: Ssn(line.half(2)),
+        stream_key: StreamKey::Ordered(StreamId(line.first.half)),
+        ssn: Ssn(line.second.half),
         mid: Mid(0),
         fsn: Fsn(0),
         ppid: PpId(53),
         payload,
         is_beginning: true,
-        is_end: line.flag(6),
+        is_end: line.number(6).flag,
     };
     let item = Item::new(
-        OutgoingMessageId(line.whole(3)),
+        OutgoingMessageId(line.third.word),
         fragment,
         SocketTime::zero(),
-        line.half(5),
+        line.number(5).half,
         due(line),
-        LifecycleId::new(line.number(7)),
+        LifecycleId::new(line.number(7).long),
     );
     match data.insert(item) {
         Ok(tsn) => Answer::Number(u64::from(tsn.0)),
@@ -63,17 +62,13 @@ fn insert(data: &mut OutstandingData, payload: Vec<u8>, line: Line<'_>) -> Answe
 fn receive_sack(
     data: &mut OutstandingData,
     events: &mut Events,
-    line: Line<'_>,
+    line: &Line<'_>,
     output: &mut Output,
 ) -> Answer {
-    match sack(output.alloc, line.tsn(1), line.half(2), line.half(3)) {
-        Ok(chunk) => {
-            let answer = handle(data, &chunk, events, output);
-            drop(chunk);
-            answer
-        }
-        Err(_) => Answer::NoMemory,
-    }
+    let chunk = sack(output, &line.first, &line.second, &line.third);
+    let answer = handle(data, &chunk, events, output);
+    drop(chunk);
+    answer
 }
 
 fn handle(
@@ -88,13 +83,13 @@ fn handle(
     let mut spares = SpareBuffers::new(output.alloc, 0);
     match data.handle_sack(chunk, false, &mut spares, events) {
         Ok(info) => {
-            write!(
-                output,
-                "AckInfo {{ bytes_acked: {}, has_packet_loss: {} }}",
-                info.bytes_acked, info.has_packet_loss
+            output.fill(
+                "AckInfo { bytes_acked: #, has_packet_loss: ",
+                &[info.bytes_acked as u128],
             );
-            Answer::Text
-        },
+            output.put(&info.has_packet_loss);
+            output.text(" }", &[])
+        }
         Err(_) => Answer::NoMemory,
     }
 }
@@ -104,7 +99,7 @@ fn point(data: &OutstandingData, size: usize, output: &mut Output) -> Answer {
     if data.is_interleaved() {
         match data.create_iforward_tsn(size) {
             Ok(chunk) => {
-                let tsn = u64::from(chunk.new_cumulative_tsn.0);
+                let tsn = chunk.new_cumulative_tsn;
                 let answer = show_skips(output, tsn, &chunk.skipped_streams);
                 drop(chunk);
                 answer
@@ -114,7 +109,7 @@ fn point(data: &OutstandingData, size: usize, output: &mut Output) -> Answer {
     } else {
         match data.create_forward_tsn(size) {
             Ok(chunk) => {
-                let tsn = u64::from(chunk.new_cumulative_tsn.0);
+                let tsn = chunk.new_cumulative_tsn;
                 let answer = show_skips(output, tsn, &chunk.skipped_streams);
                 drop(chunk);
                 answer
@@ -125,11 +120,8 @@ fn point(data: &OutstandingData, size: usize, output: &mut Output) -> Answer {
 }
 
 fn push_discarded(output: &mut Output, message: Discarded) {
-    write!(
-        output,
-        "Discarded {{ stream_id: {}, message_id: {} }}",
-        message.stream_id.0, message.message_id.0
-    )
+    let names = [message.stream_id.0 as u128, message.message_id.0 as u128];
+    output.fill("Discarded { stream_id: #, message_id: # }", &names);
 }
 
 fn push_rests(output: &mut Output, rests: &VecDeque<Discarded>) {
@@ -157,20 +149,12 @@ fn rests(data: &mut OutstandingData, output: &mut Output) -> Answer {
 fn rest(data: &mut OutstandingData, output: &mut Output) -> Answer {
     match data.get_unsent_message_to_discard() {
         Some(message) => {
-            push_some(output, message);
-            Answer::Text
-        },
-        None => {
-            output.push_str("None");
-            Answer::Text
-        },
+            output.push_str("Some(");
+            push_discarded(output, message);
+            output.text(")", &[])
+        }
+        None => output.text("None", &[]),
     }
-}
-
-fn push_some(output: &mut Output, message: Discarded) {
-    output.push_str("Some(");
-    push_discarded(output, message);
-    output.push_str(")")
 }
 
 fn write(
@@ -183,14 +167,9 @@ fn write(
         return Answer::NoMemory;
     }
     let tx = &state.tx;
-    {
-        write!(
-            output,
-            "{} {} {:?}",
-            tx.next_tsn, tx.last_cumulative_tsn_ack, tx.outstanding_data
-        );
-        Answer::Text
-    }
+    let tsns = [tx.next_tsn as u128, tx.last_cumulative_tsn_ack as u128];
+    output.fill("# # ", &tsns);
+    output.debug_text(&tx.outstanding_data)
 }
 
 /// `record MICROSECONDS`: what is handed over at this moment.
@@ -202,12 +181,9 @@ fn record(data: &OutstandingData, now: SocketTime, output: &mut Output) -> Answe
 }
 
 /// `rtt MOMENT TSN`
-fn round_trip(data: &OutstandingData, line: Line<'_>, output: &mut Output) -> Answer {
-    match data.measure_rtt(line.moment(1), line.tsn(2)) {
-        Some(rtt) => {
-            write!(output, "{}", rtt.as_millis());
-            Answer::Text
-        },
+fn round_trip(data: &OutstandingData, line: &Line<'_>, output: &mut Output) -> Answer {
+    match data.measure_rtt(line.first.moment(), Tsn(line.second.word)) {
+        Some(rtt) => output.text("#", &[rtt.as_millis()]),
         None => Answer::Nothing,
     }
 }
@@ -216,57 +192,58 @@ fn round_trip(data: &OutstandingData, line: Line<'_>, output: &mut Output) -> An
 /// the highest outstanding, and the last that all are acknowledged to. `numbers`: the next and the last acknowledged one.
 fn count(data: &OutstandingData, verb: &str, output: &mut Output) -> Answer {
     match verb {
-        "counts" => write!(
-            output,
-            "{} {} {}",
-            data.unacked_items(),
-            data.unacked_packet_bytes(),
-            data.unacked_payload_bytes()
+        "counts" => output.text(
+            "# # #",
+            &[
+                data.unacked_items() as u128,
+                data.unacked_packet_bytes() as u128,
+                data.unacked_payload_bytes() as u128,
+            ],
         ),
-        "tsns" => write!(
-            output,
-            "{} {} {}",
-            data.next_tsn().0,
-            data.highest_outstanding_tsn().0,
-            data.last_cumulative_acked_tsn().0
+        "tsns" => output.text(
+            "# # #",
+            &[
+                data.next_tsn().0 as u128,
+                data.highest_outstanding_tsn().0 as u128,
+                data.last_cumulative_acked_tsn().0 as u128,
+            ],
         ),
-        _ => write!(output, "{} {}", data.next_number(), data.acked_number()),
-    };
-    Answer::Text
+        _ => output.text("# #", &[data.next_number(), data.acked_number() as u128]),
+    }
 }
 
-fn asked(data: &OutstandingData, line: Line<'_>) -> Answer {
-    match line.word(0) {
+fn asked(data: &OutstandingData, line: &Line<'_>) -> Answer {
+    match line.name {
         "is-empty" => Answer::Is(data.is_empty()),
         "is-due" => Answer::Is(data.should_send_forward_tsn()),
         "is-interleaved" => Answer::Is(data.is_interleaved()),
         "has-lost" => Answer::Is(data.has_data_to_be_retransmitted()),
         "has-fast" => Answer::Is(data.has_data_to_be_fast_retransmitted()),
         "has-rests" => Answer::Is(data.has_unsent_messages_to_discard()),
-        "unwrapped" => Answer::Number(data.unwrapped(line.tsn(1))),
+        "unwrapped" => Answer::Number(data.unwrapped(Tsn(line.first.word))),
         _ => Answer::Unknown,
     }
 }
 
 /// `new TSN INTERLEAVED`: with no fragments, the first of which takes this TSN.
-fn renew(alloc: Global, data: &mut OutstandingData, line: Line<'_>) -> Answer {
-    let other = OutstandingData::new(alloc, line.tsn(1), true, line.flag(2));
+fn renew(alloc: Global, data: &mut OutstandingData, line: &Line<'_>) -> Answer {
+    let other = OutstandingData::new(alloc, Tsn(line.first.word), true, line.second.flag);
     drop(mem::replace(data, other));
     Answer::Done
 }
 
 /// `restored TSN LAST`: the same, and all was acknowledged to the last TSN.
-fn restore(alloc: Global, data: &mut OutstandingData, line: Line<'_>) -> Answer {
-    let mut other = OutstandingData::new(alloc, line.tsn(1), true, false);
-    other.reset_sequence_numbers(line.tsn(2));
+fn restore(alloc: Global, data: &mut OutstandingData, line: &Line<'_>) -> Answer {
+    let mut other = OutstandingData::new(alloc, Tsn(line.first.word), true, false);
+    other.reset_sequence_numbers(Tsn(line.second.word));
     drop(mem::replace(data, other));
     Answer::Done
 }
 
-fn change(data: &mut OutstandingData, events: &mut Events, line: Line<'_>) -> Answer {
-    match line.word(0) {
+fn change(data: &mut OutstandingData, events: &mut Events, line: &Line<'_>) -> Answer {
+    match line.name {
         "time-out" => done(data.nack_all(events)),
-        "expire" => done(data.expire_outstanding_chunks(line.moment(1), events)),
+        "expire" => done(data.expire_outstanding_chunks(line.first.moment(), events)),
         "begin-reset" => done(data.begin_reset_streams()),
         _ => asked(data, line),
     }
@@ -276,28 +253,28 @@ fn change(data: &mut OutstandingData, events: &mut Events, line: Line<'_>) -> An
 pub fn answer(
     data: &mut OutstandingData,
     events: &mut Events,
-    line: Line<'_>,
+    line: &Line<'_>,
     output: &mut Output,
 ) -> Answer {
-    match line.word(0) {
+    match line.name {
         "new" => renew(output.alloc, data, line),
         "restored" => restore(output.alloc, data, line),
         "send" => send(output.alloc, data, line),
         "sack" => receive_sack(data, events, line, output),
-        "point" => point(data, line.size(1), output),
+        "point" => point(data, line.first.size, output),
         "resend" => {
-            let chunks = data.get_chunks_to_be_retransmitted(line.size(1), line.size(2));
+            let chunks = data.get_chunks_to_be_retransmitted(line.first.size, line.second.size);
             show_chunks(output, chunks)
         }
         "resend-fast" => {
-            let chunks = data.get_chunks_to_be_fast_retransmitted(line.size(1));
+            let chunks = data.get_chunks_to_be_fast_retransmitted(line.first.size);
             show_chunks(output, chunks)
         }
         "rest" => rest(data, output),
         "rests" => rests(data, output),
-        "record" => record(data, line.fine_moment(1), output),
+        "record" => record(data, line.first.fine_moment(), output),
         "rtt" => round_trip(data, line, output),
-        "counts" | "tsns" | "numbers" => count(data, line.word(0), output),
+        "counts" | "tsns" | "numbers" => count(data, line.name, output),
         _ => change(data, events, line),
     }
 }

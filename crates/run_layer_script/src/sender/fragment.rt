@@ -2,6 +2,7 @@
 
 use crate::output::Output;
 use crate::sender::answer::Answer;
+use crate::words::Number;
 use sctp_packet::{Data, GapAckBlock, SackChunk, SkippedStream};
 use sctp_serial::{LifecycleId, SocketTime, StreamKey, Tsn};
 use sctp_tx_queue::DataToSend;
@@ -36,7 +37,7 @@ fn push_payload(output: &mut Output, bytes: &[u8]) {
         return output.push_str(" no bytes");
     }
     match first_of_run(bytes) {
-        Some(first) => write!(output, " {} bytes from {first}", bytes.len()),
+        Some(first) => output.fill(" # bytes from #", &[bytes.len() as u128, first as u128]),
         None => {
             output.push_str(" ");
             output.push_hex(bytes);
@@ -44,23 +45,26 @@ fn push_payload(output: &mut Output, bytes: &[u8]) {
     }
 }
 
-pub fn push_data(output: &mut Output, data: &Data) {
+pub fn push_data(output: &mut Output, data: &Data) -> Answer {
     let order = match data.stream_key {
         StreamKey::Ordered(_) => "ordered",
         StreamKey::Unordered(_) => "unordered",
     };
-    write!(
-        output,
-        "{order} {} ssn {} mid {} fsn {} ppid {}",
-        data.stream_key.id().0,
-        data.ssn.0,
-        data.mid.0,
-        data.fsn.0,
-        data.ppid.0
+    output.push_str(order);
+    output.fill(
+        " # ssn # mid # fsn # ppid #",
+        &[
+            data.stream_key.id().0 as u128,
+            data.ssn.0 as u128,
+            data.mid.0 as u128,
+            data.fsn.0 as u128,
+            data.ppid.0 as u128,
+        ],
     );
     output.push_str(if data.is_beginning { " beginning" } else { "" });
     output.push_str(if data.is_end { " end" } else { "" });
-    push_payload(output, &data.payload)
+    push_payload(output, &data.payload);
+    Answer::Text
 }
 
 /// Milliseconds; 0 where there is no such moment.
@@ -79,15 +83,16 @@ pub fn number_of(lifecycle: Option<LifecycleId>) -> u64 {
     }
 }
 
-pub fn push_sent(output: &mut Output, sent: &DataToSend) {
-    write!(output, "message {} ", sent.message_id.0);
+fn push_sent(output: &mut Output, sent: &DataToSend) -> Answer {
+    output.fill("message # ", &[sent.message_id.0 as u128]);
     push_data(output, &sent.data);
-    write!(
-        output,
-        " limit {} until {} lifecycle {}",
-        sent.max_retransmissions,
-        millis_of(sent.expires_at),
-        number_of(sent.lifecycle_id)
+    output.text(
+        " limit # until # lifecycle #",
+        &[
+            sent.max_retransmissions as u128,
+            millis_of(sent.expires_at),
+            number_of(sent.lifecycle_id) as u128,
+        ],
     )
 }
 
@@ -95,9 +100,9 @@ pub fn push_sent(output: &mut Output, sent: &DataToSend) {
 pub fn show_sent(output: &mut Output, sent: Result<Option<DataToSend>, AllocError>) -> Answer {
     match sent {
         Ok(Some(sent)) => {
-            push_sent(output, &sent);
+            let answer = push_sent(output, &sent);
             drop(sent);
-            Answer::Text
+            answer
         }
         Ok(None) => Answer::Nothing,
         Err(_) => Answer::NoMemory,
@@ -108,10 +113,10 @@ fn push_chunks(output: &mut Output, chunks: &[(Tsn, Data)]) {
     if chunks.is_empty() {
         output.push_str("nothing");
     }
-    let mut space = "";
+    let mut text = "# with #";
     for chunk in chunks {
-        write!(output, "{space}{} with {}", chunk.0.0, chunk.1.payload.len());
-        space = " ";
+        output.fill(text, &[chunk.0.0 as u128, chunk.1.payload.len() as u128]);
+        text = " # with #";
     }
 }
 
@@ -129,39 +134,37 @@ pub fn show_chunks(output: &mut Output, chunks: Result<Vec<(Tsn, Data)>, AllocEr
 
 fn push_skip(output: &mut Output, skip: &SkippedStream) {
     match skip {
-        SkippedStream::ForwardTsn(id, ssn) => write!(output, " {} to ssn {}", id.0, ssn.0),
+        SkippedStream::ForwardTsn(id, ssn) => {
+            output.fill(" # to ssn #", &[id.0 as u128, ssn.0 as u128])
+        }
         SkippedStream::IForwardTsn(StreamKey::Ordered(id), mid) => {
-            write!(output, " ordered {} to mid {}", id.0, mid.0)
+            output.fill(" ordered # to mid #", &[id.0 as u128, mid.0 as u128])
         }
         SkippedStream::IForwardTsn(StreamKey::Unordered(id), mid) => {
-            write!(output, " unordered {} to mid {}", id.0, mid.0)
+            output.fill(" unordered # to mid #", &[id.0 as u128, mid.0 as u128])
         }
     }
 }
 
 /// A number, and the streams that a forward point names, with the number that it goes to on each.
-pub fn show_skips(output: &mut Output, number: u64, skips: &[SkippedStream]) -> Answer {
-    push_skips(output, number, skips);
-    Answer::Text
-}
-
-fn push_skips(output: &mut Output, number: u64, skips: &[SkippedStream]) {
-    write!(output, "{number}:");
+pub fn show_skips(output: &mut Output, number: Tsn, skips: &[SkippedStream]) -> Answer {
+    output.fill("#:", &[number.0 as u128]);
     for skip in skips {
         push_skip(output, skip);
     }
+    Answer::Text
 }
 
 /// A SACK with a block from one offset to another, none where the first is 0.
-pub fn sack(alloc: Global, tsn: Tsn, first: u16, last: u16) -> Result<SackChunk, AllocError> {
-    let mut gap_ack_blocks = Vec::new(alloc);
-    if first > 0 {
-        gap_ack_blocks.push(GapAckBlock::new(first, last))?;
+pub fn sack(output: &mut Output, tsn: &Number, first: &Number, last: &Number) -> SackChunk {
+    let mut gap_ack_blocks = Vec::new(output.alloc);
+    if first.half > 0 {
+        output.note(gap_ack_blocks.push(GapAckBlock::new(first.half, last.half)));
     }
-    Ok(SackChunk {
-        cumulative_tsn_ack: tsn,
+    SackChunk {
+        cumulative_tsn_ack: Tsn(tsn.word),
         a_rwnd: 5_242_880,
         gap_ack_blocks,
-        duplicate_tsns: Vec::new(alloc),
-    })
+        duplicate_tsns: Vec::new(output.alloc),
+    }
 }

@@ -62,13 +62,13 @@ pub fn answer(
     alloc: Global,
     queue: &mut SendQueue,
     sender: &mut RetransmissionQueue,
-    line: Line<'_>,
+    line: &Line<'_>,
 ) -> Answer {
-    if line.word(0) != "hand-over" {
+    if line.name != "hand-over" {
         return Answer::Unknown;
     }
     let mut state = SocketHandoverState::empty(alloc);
-    let answer = pass_on(alloc, queue, sender, line.moment(1), &mut state);
+    let answer = pass_on(alloc, queue, sender, line.first.moment(), &mut state);
     drop(state);
     answer
 }

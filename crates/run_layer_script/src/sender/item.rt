@@ -58,14 +58,14 @@ fn push_if(output: &mut Output, is_so: bool, word: &str) {
 }
 
 /// What holds of the item.
-fn push_look(output: &mut Output, item: &Item) {
+fn look(output: &mut Output, item: &Item) -> Answer {
     push_if(output, item.is_outstanding(), "outstanding ");
     push_if(output, item.is_nacked(), "nacked ");
     push_if(output, item.should_be_retransmitted(), "lost ");
     push_if(output, item.is_fast(), "fast ");
     push_if(output, item.is_acked(), "acked ");
     push_if(output, item.is_abandoned(), "abandoned ");
-    write!(output, "sendings {}", item.sendings())
+    output.text("sendings #", &[item.sendings() as u128])
 }
 
 fn put(kept: &mut Option<Item>, item: Option<Item>) -> Answer {
@@ -74,8 +74,8 @@ fn put(kept: &mut Option<Item>, item: Option<Item>) -> Answer {
 }
 
 /// `new LIMIT SHORT`
-fn renew(alloc: Global, kept: &mut Option<Item>, line: Line<'_>) -> Answer {
-    match limited(alloc, line.half(1), line.flag(2)) {
+fn renew(alloc: Global, kept: &mut Option<Item>, line: &Line<'_>) -> Answer {
+    match limited(alloc, line.first.half, line.second.flag) {
         Ok(item) => put(kept, item),
         Err(_) => Answer::NoMemory,
     }
@@ -92,9 +92,9 @@ fn names(item: &Item) -> Answer {
 fn copied(item: &Item, output: &mut Output) -> Answer {
     match copy_of(output.alloc, item.data()) {
         Ok(copy) => {
-            push_data(output, &copy);
+            let answer = push_data(output, &copy);
             drop(copy);
-            Answer::Text
+            answer
         }
         Err(_) => Answer::NoMemory,
     }
@@ -102,59 +102,45 @@ fn copied(item: &Item, output: &mut Output) -> Answer {
 
 /// `sizes INTERLEAVED`: of the header, of the chunk, and of a chunk of the same fragment.
 fn sizes(item: &Item, is_interleaved: bool, output: &mut Output) -> Answer {
-    write!(
-        output,
-        "{} {} {}",
-        header_size(is_interleaved),
-        item.chunk_size(is_interleaved),
-        chunk_size(item.data(), is_interleaved)
-    );
-    Answer::Text
+    output.text(
+        "# # #",
+        &[
+            header_size(is_interleaved) as u128,
+            item.chunk_size(is_interleaved) as u128,
+            chunk_size(item.data(), is_interleaved) as u128,
+        ],
+    )
 }
 
-fn asked(item: &Item, line: Line<'_>, output: &mut Output) -> Answer {
-    match line.word(0) {
-        "is-lost" => Answer::Is(item.is_lost(line.flag(1))),
+fn asked(item: &Item, line: &Line<'_>, output: &mut Output) -> Answer {
+    match line.name {
+        "is-lost" => Answer::Is(item.is_lost(line.first.flag)),
         "is-used-up" => Answer::Is(item.is_used_up()),
-        "has-expired" => Answer::Is(item.has_expired(line.moment(1))),
+        "has-expired" => Answer::Is(item.has_expired(line.first.moment())),
         "was-resent" => Answer::Is(item.has_been_retransmitted()),
         "payload-size" => Answer::Number(item.payload_size() as u64),
         "names" => names(item),
-        "data" => {
-            push_data(output, item.data());
-            Answer::Text
-        },
+        "data" => push_data(output, item.data()),
         "copy" => copied(item, output),
-        "sizes" => sizes(item, line.flag(1), output),
-        "rtt" => {
-            let rtt = item.get_rtt_from(line.moment(1)).as_millis();
-            {
-                write!(output, "{rtt}");
-                Answer::Text
-            }
-        }
-        "look" => {
-            push_look(output, item);
-            Answer::Text
-        },
+        "sizes" => sizes(item, line.first.flag, output),
+        "rtt" => output.text("#", &[item.get_rtt_from(line.first.moment()).as_millis()]),
+        "look" => look(output, item),
         _ => Answer::Unknown,
     }
 }
 
-fn change(item: &mut Item, line: Line<'_>, output: &mut Output) -> Answer {
-    match line.word(0) {
-        "nack" => item.nack(line.flag(1), line.flag(2)),
+fn change(item: &mut Item, line: &Line<'_>, output: &mut Output) -> Answer {
+    match line.name {
+        "nack" => item.nack(line.first.flag, line.second.flag),
         "ack" => item.ack(),
         "uncover" => item.uncover(),
         "resend" => item.mark_as_retransmitted(),
         "miss-fast" => item.miss_fast(),
         "abandon" => item.abandon(),
+        "hand-over" => return hand_over(item, line, output),
         _ => return asked(item, line, output),
     }
-    {
-        push_look(output, item);
-        Answer::Text
-    }
+    look(output, item)
 }
 
 fn restore(
@@ -170,17 +156,14 @@ fn restore(
         Ok(other) => drop(mem::replace(item, other)),
         Err(_) => return Answer::NoMemory,
     }
-    {
-        write!(output, "{record:?}");
-        Answer::Text
-    }
+    output.debug_text(record)
 }
 
 /// `hand-over MOMENT LATER`: the record of one moment, which is taken up at another.
-fn hand_over(item: &mut Item, line: Line<'_>, output: &mut Output) -> Answer {
-    match item.handed_over(output.alloc, line.moment(1)) {
+fn hand_over(item: &mut Item, line: &Line<'_>, output: &mut Output) -> Answer {
+    match item.handed_over(output.alloc, line.first.moment()) {
         Ok(record) => {
-            let answer = restore(item, line.moment(2), &record, output);
+            let answer = restore(item, line.second.moment(), &record, output);
             drop(record);
             answer
         }
@@ -188,22 +171,15 @@ fn hand_over(item: &mut Item, line: Line<'_>, output: &mut Output) -> Answer {
     }
 }
 
-fn answered(item: &mut Item, line: Line<'_>, output: &mut Output) -> Answer {
-    match line.word(0) {
-        "hand-over" => hand_over(item, line, output),
-        _ => change(item, line, output),
-    }
-}
-
-pub fn answer(kept: &mut Option<Item>, line: Line<'_>, output: &mut Output) -> Answer {
-    match line.word(0) {
+pub fn answer(kept: &mut Option<Item>, line: &Line<'_>, output: &mut Output) -> Answer {
+    match line.name {
         "new" => renew(output.alloc, kept, line),
         "placeholder" => put(
             kept,
             Some(Item::placeholder(MESSAGE, Data::empty(output.alloc))),
         ),
         _ => match kept {
-            Some(item) => answered(item, line, output),
+            Some(item) => change(item, line, output),
             None => Answer::Nothing,
         },
     }

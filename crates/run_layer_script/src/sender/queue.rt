@@ -15,9 +15,9 @@ const MANY: usize = 20_000;
 
 /// `accept STREAM BYTES` at moment 0, and behind these: `accept-named` a lifecycle id, `accept-short` that and a lifetime,
 /// `accept-once` that and no retransmission.
-fn accept(alloc: Global, queue: &mut SendQueue, line: Line<'_>) -> Answer {
-    match bytes(alloc, line.size(2)) {
-        Ok(payload) => add(queue, line.stream(1), payload, &options_of(line)),
+fn accept(alloc: Global, queue: &mut SendQueue, line: &Line<'_>) -> Answer {
+    match bytes(alloc, line.second.size) {
+        Ok(payload) => add(queue, StreamId(line.first.half), payload, &options_of(line)),
         Err(_) => Answer::NoMemory,
     }
 }
@@ -34,11 +34,11 @@ fn add(queue: &mut SendQueue, id: StreamId, payload: Vec<u8>, options: &SendOpti
     }
 }
 
-fn options_of(line: Line<'_>) -> SendOptions {
+fn options_of(line: &Line<'_>) -> SendOptions {
     let mut options = SendOptions::default();
-    options.lifecycle_id = LifecycleId::new(line.number(3));
-    match line.word(0) {
-        "accept-short" => options.lifetime = Some(line.millis(4)),
+    options.lifecycle_id = LifecycleId::new(line.third.long);
+    match line.name {
+        "accept-short" => options.lifetime = Some(line.fourth.millis()),
         "accept-once" => options.max_retransmissions = Some(0),
         _ => {}
     }
@@ -49,32 +49,29 @@ fn options_of(line: Line<'_>) -> SendOptions {
 fn produce(
     queue: &mut SendQueue,
     events: &mut Events,
-    line: Line<'_>,
+    line: &Line<'_>,
     output: &mut Output,
 ) -> Answer {
-    let most = line.size(2);
+    let most = line.second.size;
     if most == 0 {
         return Answer::Refused;
     }
-    show_sent(output, queue.produce(line.moment(1), most, events))
+    show_sent(output, queue.produce(line.first.moment(), most, events))
 }
 
 /// `request MOST`: the streams that go into a request.
 fn request(queue: &mut SendQueue, most: usize, output: &mut Output) -> Answer {
     match queue.get_streams_ready_to_reset(most) {
-        Ok(ids) => {
-            write!(output, "{ids:?}");
-            Answer::Text
-        },
+        Ok(ids) => output.debug_text(&ids),
         Err(_) => Answer::NoMemory,
     }
 }
 
 /// `options TOTAL STREAM`: another queue, with these low thresholds.
-fn restart(alloc: Global, queue: &mut SendQueue, line: Line<'_>) -> Answer {
+fn restart(alloc: Global, queue: &mut SendQueue, line: &Line<'_>) -> Answer {
     let mut options = Options::default();
-    options.total_buffered_amount_low_threshold = line.size(1);
-    options.default_stream_buffered_amount_low_threshold = line.size(2);
+    options.total_buffered_amount_low_threshold = line.first.size;
+    options.default_stream_buffered_amount_low_threshold = line.second.size;
     drop(mem::replace(queue, SendQueue::new(alloc, &options)));
     Answer::Done
 }
@@ -89,61 +86,50 @@ fn write(
         return Answer::NoMemory;
     }
     let tx = &state.tx;
-    {
-        write!(
-            output,
-            "{} {:?} {:?}",
-            tx.next_outgoing_message_id, tx.streams, tx.queued_messages
-        );
-        Answer::Text
-    }
+    output.fill("# ", &[tx.next_outgoing_message_id as u128]);
+    output.put_debug(&tx.streams);
+    output.push_str(" ");
+    output.debug_text(&tx.queued_messages)
 }
 
 /// `record MICROSECONDS`: what is handed over at this moment.
-fn record(queue: &SendQueue, line: Line<'_>, output: &mut Output) -> Answer {
+fn record(queue: &SendQueue, line: &Line<'_>, output: &mut Output) -> Answer {
     let mut state = SocketHandoverState::empty(output.alloc);
-    let answer = write(queue, line.fine_moment(1), &mut state, output);
+    let answer = write(queue, line.first.fine_moment(), &mut state, output);
     drop(state);
     answer
 }
 
-fn number_asked(queue: &SendQueue, line: Line<'_>) -> Option<u64> {
-    let id = line.stream(1);
-    match line.word(0) {
-        "amount" => Some(queue.buffered_amount(id) as u64),
-        "total" => Some(queue.total_buffered_amount() as u64),
-        "priority" => Some(u64::from(queue.get_priority(id))),
-        "threshold" => Some(queue.buffered_amount_low_threshold(id) as u64),
-        "readiness" => Some(u64::from(queue.get_handover_readiness(line.flag(1)).0)),
-        _ => None,
+fn asked(queue: &SendQueue, line: &Line<'_>) -> Answer {
+    let id = StreamId(line.first.half);
+    match line.name {
+        "amount" => Answer::Number(queue.buffered_amount(id) as u64),
+        "total" => Answer::Number(queue.total_buffered_amount() as u64),
+        "priority" => Answer::Number(u64::from(queue.get_priority(id))),
+        "threshold" => Answer::Number(queue.buffered_amount_low_threshold(id) as u64),
+        name => is_asked(queue, name, line.first.flag),
     }
 }
 
-fn is_asked(queue: &SendQueue, line: Line<'_>) -> Answer {
-    match line.word(0) {
+fn is_asked(queue: &SendQueue, name: &str, is_strict: bool) -> Answer {
+    match name {
         "is-empty" => Answer::Is(queue.is_empty()),
         "has-data" => Answer::Is(queue.has_data_to_send()),
         "has-ready" => Answer::Is(queue.has_streams_ready_to_be_reset()),
         "is-interleaved" => Answer::Is(queue.is_interleaved()),
+        "readiness" => Answer::Number(u64::from(queue.get_handover_readiness(is_strict).0)),
         _ => Answer::Unknown,
     }
 }
 
-fn asked(queue: &SendQueue, line: Line<'_>) -> Answer {
-    match number_asked(queue, line) {
-        Some(number) => Answer::Number(number),
-        None => is_asked(queue, line),
-    }
-}
-
-fn change(queue: &mut SendQueue, events: &mut Events, line: Line<'_>) -> Answer {
-    let id = line.stream(1);
-    match line.word(0) {
+fn change(queue: &mut SendQueue, events: &mut Events, line: &Line<'_>) -> Answer {
+    let id = StreamId(line.first.half);
+    match line.name {
         "set-threshold" => {
-            done(queue.set_buffered_amount_low_threshold(id, line.size(2), events))
+            done(queue.set_buffered_amount_low_threshold(id, line.second.size, events))
         }
-        "set-priority" => done(queue.set_priority(id, line.half(2))),
-        "discard" => done(queue.discard(id, OutgoingMessageId(line.whole(2)), events)),
+        "set-priority" => done(queue.set_priority(id, line.second.half)),
+        "discard" => done(queue.discard(id, OutgoingMessageId(line.second.word), events)),
         "prepare" => done(queue.prepare_reset_stream(id, events)),
         "commit" => done(queue.commit_reset_streams(&[id])),
         "roll-back" => done(queue.rollback_reset_streams(&[id])),
@@ -156,17 +142,17 @@ fn change(queue: &mut SendQueue, events: &mut Events, line: Line<'_>) -> Answer 
 fn answer_once(
     queue: &mut SendQueue,
     events: &mut Events,
-    line: Line<'_>,
+    line: &Line<'_>,
     output: &mut Output,
 ) -> Answer {
-    match line.word(0) {
+    match line.name {
         "accept" | "accept-named" | "accept-short" | "accept-once" => accept(
             output.alloc,
             queue,
             line,
         ),
         "produce" => produce(queue, events, line, output),
-        "request" => request(queue, line.size(1), output),
+        "request" => request(queue, line.first.size, output),
         "record" => record(queue, line, output),
         "interleave" => {
             queue.enable_message_interleaving(true);
@@ -181,7 +167,7 @@ fn answer_once(
 pub fn answer(
     queue: &mut SendQueue,
     events: &mut Events,
-    line: Line<'_>,
+    line: &Line<'_>,
     output: &mut Output,
 ) -> Answer {
     match answer_once(queue, events, line, output) {

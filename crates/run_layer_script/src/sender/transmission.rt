@@ -14,21 +14,14 @@ use std::alloc::AllocError;
 fn receive_sack(
     sender: &mut RetransmissionQueue,
     events: &mut Events,
-    line: Line<'_>,
+    line: &Line<'_>,
     output: &mut Output,
 ) -> Answer {
-    match sack(output.alloc, line.tsn(2), line.half(3), line.half(4)) {
-        Ok(chunk) => {
-            let result = sender.handle_sack(line.moment(1), &chunk, events);
-            drop(chunk);
-            match result {
-                Ok(result) => {
-                    write!(output, "{result:?}");
-                    Answer::Text
-                },
-                Err(_) => Answer::NoMemory,
-            }
-        }
+    let chunk = sack(output, &line.second, &line.third, &line.fourth);
+    let result = sender.handle_sack(line.first.moment(), &chunk, events);
+    drop(chunk);
+    match result {
+        Ok(result) => output.debug_text(&result),
         Err(_) => Answer::NoMemory,
     }
 }
@@ -36,8 +29,7 @@ fn receive_sack(
 fn shown(chunk: &Chunk, output: &mut Output) -> Answer {
     match chunk {
         Chunk::ForwardTsn(chunk) => {
-            let tsn = u64::from(chunk.new_cumulative_tsn.0);
-            show_skips(output, tsn, &chunk.skipped_streams)
+            show_skips(output, chunk.new_cumulative_tsn, &chunk.skipped_streams)
         }
         _ => Answer::Nothing,
     }
@@ -62,8 +54,8 @@ fn is(outcome: Result<bool, AllocError>) -> Answer {
     }
 }
 
-fn asked(sender: &RetransmissionQueue, line: Line<'_>) -> Answer {
-    match line.word(0) {
+fn asked(sender: &RetransmissionQueue, line: &Line<'_>) -> Answer {
+    match line.name {
         "has-fast" => Answer::Is(sender.has_data_to_be_fast_retransmitted()),
         "can-send" => Answer::Is(sender.can_send_data()),
         "is-empty" => Answer::Is(sender.is_empty()),
@@ -77,26 +69,18 @@ fn asked(sender: &RetransmissionQueue, line: Line<'_>) -> Answer {
             u64::from(sender.last_assigned_tsn().0),
             u64::from(sender.next_tsn().0),
         ),
-        "readiness" => Answer::Number(u64::from(sender.get_handover_readiness(line.flag(1)).0)),
+        "readiness" => Answer::Number(u64::from(sender.get_handover_readiness(line.first.flag).0)),
         _ => Answer::Unknown,
     }
 }
 
 /// `expires`: when t3-rtx does.
-fn expires(sender: &RetransmissionQueue, output: &mut Output) -> Answer {
-    let millis = millis_of(Some(sender.next_timeout()));
-    {
-        write!(output, "{millis}");
-        Answer::Text
-    }
-}
-
-fn settle(sender: &mut RetransmissionQueue, line: Line<'_>, output: &mut Output) -> Answer {
-    match line.word(0) {
-        "rto" => sender.update_rto(line.millis(1)),
-        "set-window" => sender.set_cwnd(line.size(1)),
+fn settle(sender: &mut RetransmissionQueue, line: &Line<'_>, output: &mut Output) -> Answer {
+    match line.name {
+        "rto" => sender.update_rto(line.first.millis()),
+        "set-window" => sender.set_cwnd(line.first.size),
         "begin-reset" => return done(sender.begin_reset_streams()),
-        "expires" => return expires(sender, output),
+        "expires" => return output.text("#", &[millis_of(Some(sender.next_timeout()))]),
         "point" => return point(sender, output),
         _ => return asked(sender, line),
     }
@@ -108,17 +92,17 @@ pub fn answer(
     sender: &mut RetransmissionQueue,
     queue: &mut SendQueue,
     events: &mut Events,
-    line: Line<'_>,
+    line: &Line<'_>,
     output: &mut Output,
 ) -> Answer {
-    let now = line.moment(1);
-    match line.word(0) {
+    let now = line.first.moment();
+    match line.name {
         "send" => {
-            let room = usize::from(line.half(2));
+            let room = usize::from(line.second.half);
             show_chunks(output, sender.get_chunks_to_send(now, room, queue, events))
         }
         "fast" => {
-            let chunks = sender.get_chunks_for_fast_retransmit(now, line.size(2));
+            let chunks = sender.get_chunks_for_fast_retransmit(now, line.second.size);
             show_chunks(output, chunks)
         }
         "sack" => receive_sack(sender, events, line, output),

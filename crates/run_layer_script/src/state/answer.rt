@@ -1,11 +1,11 @@
 //! What commands say and answer, and the loop over the commands of a section.
 
 use crate::output::Output;
-use crate::words::{self, Line};
+use crate::words::Line;
 use std::alloc::AllocError;
-use std::fmt::Display;
+use std::fmt::{Debug, Display};
 
-/// What a command answers.
+/// What a command answers. Where memory was refused, `Output` notes it, and nothing is printed of the answer.
 #[derive(Clone, Copy)]
 pub enum Answer {
     /// It is done. What it answers, if anything, has been printed.
@@ -17,34 +17,19 @@ pub enum Answer {
     Refused,
     /// The line is no command.
     Unknown,
-    /// There was no memory for it.
-    NoMemory,
-}
-
-/// Done, unless there was no memory for it.
-pub fn done<T: Drop, E: Drop>(outcome: Result<T, E>) -> Answer {
-    match outcome {
-        Ok(_) => Answer::Done,
-        Err(_) => Answer::NoMemory,
-    }
 }
 
 /// What is tried in a section.
 pub trait Subject {
     /// Does what the line says. What is printed goes behind the line.
-    fn obey(&mut self, line: Line<'_>, output: &mut Output) -> Answer;
-}
-
-/// The bytes that hex digits say; what the command answers where the word has no such digits alone.
-pub fn bytes_of(digits: &str, output: &mut Output) -> Result<Vec<u8>, Answer> {
-    words::bytes_of(digits, output).ok_or(Answer::Unknown)
+    fn obey(&mut self, line: &Line<'_>, output: &mut Output) -> Answer;
 }
 
 /// Lets the subject do each of the commands, and prints the answers.
 pub fn run_commands<S: Subject>(commands: &str, output: &mut Output, subject: &mut S) {
     for command in commands.lines() {
         output.push_str(command);
-        let answer = subject.obey(Line(command), output);
+        let answer = subject.obey(&Line::new(command), output);
         output.finish(answer);
     }
 }
@@ -52,42 +37,46 @@ pub fn run_commands<S: Subject>(commands: &str, output: &mut Output, subject: &m
 impl Output {
     /// Ends the line with what the command answers.
     fn finish(&mut self, answer: Answer) {
-        let text = match answer {
-            Answer::Done => "\n",
-            Answer::Flag(true) => ": yes\n",
-            Answer::Flag(false) => ": no\n",
-            Answer::Number(number) => {
-                writeln!(self, ": {number}");
-                return;
-            }
-            Answer::Refused => ": refused\n",
-            Answer::Unknown => " ?\n",
-            Answer::NoMemory => {
-                self.note(Err(AllocError));
-                return;
-            }
-        };
-        self.push_str(text);
+        match answer {
+            Answer::Done => self.push_str("\n"),
+            Answer::Flag(flag) => self.fill(": ?\n", &[flag as u128]),
+            Answer::Number(number) => self.fill(": #\n", &[number]),
+            Answer::Refused => self.push_str(": refused\n"),
+            Answer::Unknown => self.push_str(" ?\n"),
+        }
+    }
+
+    /// Done, if there was memory for it.
+    pub fn done<E: Drop>(&mut self, outcome: Result<(), E>) -> Answer {
+        self.note(outcome);
+        Answer::Done
     }
 
     /// Prints a value.
     pub fn show<T: Display>(&mut self, value: &T) -> Answer {
-        write!(self, ": {value}");
+        self.push_str(": ");
+        self.put(value);
         Answer::Done
     }
 
     /// Prints why a call fails, and the number of that.
     pub fn show_error<T: Display>(&mut self, error: &T, number: u8) -> Answer {
-        write!(self, ": {error} ({number})");
+        self.show(error);
+        self.fill(" (#)", &[number as u128]);
         Answer::Done
     }
 
-    /// Prints values, each with its name. A flag is 1 or 0.
-    pub fn show_all(&mut self, values: &[(&str, u128)]) -> Answer {
-        self.push_str(":");
-        for (name, value) in values {
-            write!(self, " {name} {value}");
-        }
+    /// Prints a text with values. A flag is 1 or 0.
+    pub fn show_numbers(&mut self, text: &str, values: &[u128]) -> Answer {
+        self.push_str(": ");
+        self.fill(text, values);
+        Answer::Done
+    }
+
+    /// Prints a value as it is debugged, behind a text.
+    pub fn show_debug<T: Debug>(&mut self, text: &str, value: &T) -> Answer {
+        self.push_str(text);
+        self.put_debug(value);
         Answer::Done
     }
 

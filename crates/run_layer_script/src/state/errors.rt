@@ -1,7 +1,7 @@
 //! `errors`: why calls fail, in words and by number. A command is the name of a call and of an error.
 
 use crate::output::Output;
-use crate::state::answer::{Answer, Subject, run_commands};
+use crate::state::answer::{Answer, Subject};
 use crate::words::Line;
 use sctp_state::{
     BatchFault, BatchSendError, CallError, HandoverError, HandoverReadiness, ResetStreamsError,
@@ -9,33 +9,28 @@ use sctp_state::{
 };
 
 #[derive(Clone, Copy)]
-struct Errors;
-
-pub fn run(commands: &str, output: &mut Output) {
-    run_commands(commands, output, &mut Errors);
-}
+pub struct Errors;
 
 impl Subject for Errors {
-    fn obey(&mut self, line: Line<'_>, output: &mut Output) -> Answer {
-        match line.word(0) {
-            "too-large" => too_large(line.numbers(), output),
-            "send" => send(line.last(), output),
-            "batch" => batch(line.last(), output),
-            "call" => call(line.last(), output),
-            "reset" => reset(line.last(), output),
-            "hand-over" => hand_over(line.last(), output),
-            "restore" => restore(line.last(), output),
+    fn obey(&mut self, line: &Line<'_>, output: &mut Output) -> Answer {
+        match line.name {
+            "too-large" => too_large(line, output),
+            "send" => send(line.last, output),
+            "batch" => batch(line.last, output),
+            "call" => call(line.last, output),
+            "reset" => reset(line.last, output),
+            "hand-over" => hand_over(line.last, output),
+            "restore" => restore(line.last, output),
             _ => Answer::Unknown,
         }
     }
 }
 
 /// `too-large LENGTH LIMIT`
-fn too_large(numbers: [u64; 4], output: &mut Output) -> Answer {
-    let [len, limit, _, _] = numbers;
+fn too_large(line: &Line<'_>, output: &mut Output) -> Answer {
     let error = SendError::MessageTooLarge {
-        len: len as usize,
-        limit: limit as usize,
+        len: line.first.size,
+        limit: line.second.size,
     };
     output.show_error(&error, error.number())
 }
@@ -67,27 +62,19 @@ fn show_batch(fault: &BatchFault, output: &mut Output) -> Answer {
 
 /// The second message of a batch is empty.
 fn refused_batch(output: &mut Output) -> Answer {
-    match vec![in output.alloc; (1usize, SendError::EmptyPayload)] {
-        Ok(errors) => {
-            let fault = BatchFault::Refused(BatchSendError(errors));
-            let answer = show_batch(&fault, output);
-            drop(fault);
-            answer
-        }
-        Err(_) => Answer::NoMemory,
-    }
+    let mut errors = Vec::new(output.alloc);
+    output.note(errors.push((1, SendError::EmptyPayload)));
+    let fault = BatchFault::Refused(BatchSendError(errors));
+    show_batch(&fault, output);
+    drop(fault);
+    Answer::Done
 }
 
 fn call(name: &str, output: &mut Output) -> Answer {
-    let error = match name {
-        "memory" => CallError::Memory,
-        "failed" => CallError::Failed,
-        _ => return Answer::Unknown,
-    };
-    output.show(&error);
-    {
-        write!(output, " ({})", error as u8);
-        Answer::Done
+    match name {
+        "memory" => output.show_error(&CallError::Memory, CallError::Memory as u8),
+        "failed" => output.show_error(&CallError::Failed, CallError::Failed as u8),
+        _ => Answer::Unknown,
     }
 }
 
@@ -100,10 +87,8 @@ fn reset(name: &str, output: &mut Output) -> Answer {
         _ => return Answer::Unknown,
     };
     output.show(&error);
-    {
-        write!(output, " ({})", error as u8);
-        Answer::Done
-    }
+    output.fill(" (#)", &[error as u8 as u128]);
+    Answer::Done
 }
 
 fn hand_over(name: &str, output: &mut Output) -> Answer {
@@ -125,8 +110,6 @@ fn restore(name: &str, output: &mut Output) -> Answer {
         _ => return Answer::Unknown,
     };
     output.show(&error);
-    {
-        write!(output, " ({})", error as u8);
-        Answer::Done
-    }
+    output.fill(" (#)", &[error as u8 as u128]);
+    Answer::Done
 }

@@ -1,11 +1,10 @@
 //! `events`: what a socket emits, and the records of messages given up.
 
 use crate::output::Output;
-use crate::state::answer::{Answer, Subject, bytes_of, done, run_commands};
-use crate::words::{Line, low_half, low_word};
+use crate::state::answer::{Answer, Subject, run_commands};
+use crate::words::{Line, bytes_of};
 use sctp_serial::{LifecycleId, OutgoingMessageId, StreamId};
 use sctp_state::{ErrorKind, EventMark, EventSink, Events, GivenUp, GivenUpCause, SocketEvent};
-use std::alloc::Global;
 
 /// What waits, and the last mark.
 #[derive(Drop)]
@@ -24,32 +23,28 @@ pub fn run(commands: &str, output: &mut Output) {
 
 impl Subject for Marked {
     /// `mark`; `roll-back`: to the mark; `waiting`; `next`; `next-given-up`; and what is emitted.
-    fn obey(&mut self, line: Line<'_>, output: &mut Output) -> Answer {
-        match line.word(0) {
+    fn obey(&mut self, line: &Line<'_>, output: &mut Output) -> Answer {
+        match line.name {
             "mark" => self.mark = self.events.mark(),
             "roll-back" => self.events.roll_back(self.mark),
-            "waiting" => return waiting(&self.events, output),
+            "waiting" => return waiting(self.events.mark(), output),
             "next" => return next(&mut self.events, output),
             "next-given-up" => return next_given_up(&mut self.events, output),
+            "given-up" | "sent-again" | "dropped-by-reset" => give_up(
+                &mut self.events,
+                line,
+                output,
+            ),
             _ => return happen(&mut self.events, line, output),
         }
         Answer::Done
     }
 }
 
-/// As one that knows nothing but the trait sees it.
-fn add<S: EventSink>(events: &mut S, event: SocketEvent) -> Answer {
-    done(events.add(event))
-}
-
-fn take<S: EventSink>(events: &mut S) -> Option<SocketEvent> {
-    events.next_event()
-}
-
-fn next(events: &mut Events, output: &mut Output) -> Answer {
-    match take(events) {
+fn next<S: EventSink>(events: &mut S, output: &mut Output) -> Answer {
+    match events.next_event() {
         Some(event) => {
-            write!(output, ": {event:?}");
+            output.show_debug(": ", &event);
             drop(event);
             Answer::Done
         }
@@ -59,89 +54,56 @@ fn next(events: &mut Events, output: &mut Output) -> Answer {
 
 fn next_given_up(events: &mut Events, output: &mut Output) -> Answer {
     match events.next_given_up() {
-        Some(record) => {
-            write!(output, ": {record:?}");
-            Answer::Done
-        },
+        Some(record) => output.show_debug(": ", &record),
         None => Answer::Flag(false),
     }
 }
 
-fn waiting(events: &Events, output: &mut Output) -> Answer {
-    let mark = events.mark();
-    let values = [
-        ("events", mark.events as u128),
-        ("given-up", mark.given_up as u128),
-    ];
-    output.show_all(&values)
+fn waiting(mark: EventMark, output: &mut Output) -> Answer {
+    let counts = [mark.events as u128, mark.given_up as u128];
+    output.show_numbers("events # given-up #", &counts)
 }
 
-/// `given-up MESSAGE`: its lifetime passed; `sent-again MESSAGE COUNT`; `dropped-by-reset MESSAGE`; `connected`; `low STREAM`;
-/// `end MESSAGE`; and what `happen_long` says.
-fn happen(events: &mut Events, line: Line<'_>, output: &mut Output) -> Answer {
-    let [first, second, _, _] = line.numbers();
-    match line.word(0) {
-        "given-up" => give_up(events, first, GivenUpCause::Lifetime),
-        "sent-again" => give_up(
-            events,
-            first,
-            GivenUpCause::Retransmissions(low_word(second)),
-        ),
-        "dropped-by-reset" => give_up(events, first, GivenUpCause::Reset),
-        "connected" => add(events, SocketEvent::OnConnected()),
-        "low" => add(
-            events,
-            SocketEvent::OnBufferedAmountLow(StreamId(low_half(first))),
-        ),
-        "end" => end(events, first),
-        _ => happen_long(events, line, output),
+/// `given-up MESSAGE`: its lifetime passed; `sent-again MESSAGE COUNT`; `dropped-by-reset MESSAGE`.
+fn give_up(events: &mut Events, line: &Line<'_>, output: &mut Output) {
+    let number = OutgoingMessageId(line.first.word);
+    let cause = match line.name {
+        "given-up" => GivenUpCause::Lifetime,
+        "sent-again" => GivenUpCause::Retransmissions(line.second.word),
+        _ => GivenUpCause::Reset,
+    };
+    output.note(events.add_given_up(GivenUp { number, cause }));
+}
+
+/// Emits the event, as one that knows nothing but the trait.
+fn happen<S: EventSink>(events: &mut S, line: &Line<'_>, output: &mut Output) -> Answer {
+    match event(line, output) {
+        Some(event) => output.done(events.add(event)),
+        None if line.name == "end" => Answer::Refused,
+        None => Answer::Unknown,
     }
 }
 
-fn give_up(events: &mut Events, number: u64, cause: GivenUpCause) -> Answer {
-    let number = OutgoingMessageId(low_word(number));
-    done(events.add_given_up(GivenUp { number, cause }))
-}
-
-fn end(events: &mut Events, number: u64) -> Answer {
-    match LifecycleId::new(number) {
-        Some(id) => add(events, SocketEvent::OnLifecycleEnd(id)),
-        None => Answer::Refused,
+/// `connected`; `low STREAM`; `end MESSAGE`; `packet HEX`, `aborted TEXT`, `reset-by-peer STREAM STREAM`.
+fn event(line: &Line<'_>, output: &mut Output) -> Option<SocketEvent> {
+    let stream = StreamId(line.first.half);
+    match line.name {
+        "connected" => Some(SocketEvent::OnConnected()),
+        "low" => Some(SocketEvent::OnBufferedAmountLow(stream)),
+        "end" => LifecycleId::new(line.first.long).map(SocketEvent::OnLifecycleEnd),
+        "packet" => bytes_of(line.last, output).map(SocketEvent::SendPacket),
+        "aborted" => Some(aborted(line.last, output)),
+        "reset-by-peer" => Some(reset_by_peer(&[stream, StreamId(line.second.half)], output)),
+        _ => None,
     }
 }
 
-/// `packet HEX`, `aborted TEXT`, `reset-by-peer STREAM STREAM`.
-fn happen_long(events: &mut Events, line: Line<'_>, output: &mut Output) -> Answer {
-    match line.word(0) {
-        "packet" => packet(events, line.last(), output),
-        "aborted" => aborted(output.alloc, events, line.last()),
-        "reset-by-peer" => reset_by_peer(output.alloc, events, line.numbers()),
-        _ => Answer::Unknown,
-    }
+fn aborted(text: &str, output: &mut Output) -> SocketEvent {
+    let text = output.made_text(String::from_str(output.alloc, text));
+    SocketEvent::OnAborted(ErrorKind::PeerReported, text)
 }
 
-fn packet(events: &mut Events, digits: &str, output: &mut Output) -> Answer {
-    match bytes_of(digits, output) {
-        Ok(bytes) => add(events, SocketEvent::SendPacket(bytes)),
-        Err(answer) => answer,
-    }
-}
-
-fn aborted(alloc: Global, events: &mut Events, text: &str) -> Answer {
-    match String::from_str(alloc, text) {
-        Ok(text) => add(
-            events,
-            SocketEvent::OnAborted(ErrorKind::PeerReported, text),
-        ),
-        Err(_) => Answer::NoMemory,
-    }
-}
-
-fn reset_by_peer(alloc: Global, events: &mut Events, numbers: [u64; 4]) -> Answer {
-    let [first, second, _, _] = numbers;
-    let streams = [StreamId(low_half(first)), StreamId(low_half(second))];
-    match Vec::from_slice(alloc, &streams) {
-        Ok(streams) => add(events, SocketEvent::OnIncomingStreamReset(streams)),
-        Err(_) => Answer::NoMemory,
-    }
+fn reset_by_peer(streams: &[StreamId], output: &mut Output) -> SocketEvent {
+    let streams = output.made(Vec::from_slice(output.alloc, streams));
+    SocketEvent::OnIncomingStreamReset(streams)
 }

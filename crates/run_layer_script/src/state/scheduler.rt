@@ -1,39 +1,44 @@
 //! `scheduler BYTES`: which stream sends next, with fragments of so many bytes at most.
 
 use crate::output::Output;
-use crate::state::answer::{Answer, Subject, done, run_commands};
-use crate::words::{Line, low_half};
+use crate::state::answer::{Answer, Subject, run_commands};
+use crate::words::Line;
 use sctp_serial::StreamId;
 use sctp_stream_scheduler::StreamScheduler;
 
-pub fn run(line: Line<'_>, commands: &str, output: &mut Output) {
-    let mut scheduler = StreamScheduler::new(output.alloc, line.size(1));
+pub fn run(line: &Line<'_>, commands: &str, output: &mut Output) {
+    let mut scheduler = StreamScheduler::new(output.alloc, line.first.size);
     run_commands(commands, output, &mut scheduler);
     drop(scheduler);
 }
 
 impl Subject for StreamScheduler {
-    /// `bytes STREAM BYTES PRIORITY`, `turn STREAM BYTES PRIORITY`, and what `change` and `ask` say.
-    fn obey(&mut self, line: Line<'_>, _output: &mut Output) -> Answer {
-        let [stream, bytes, priority, _] = line.numbers();
-        let id = StreamId(low_half(stream));
-        match line.word(0) {
-            "bytes" => done(self.set_bytes_remaining(id, bytes as usize, low_half(priority))),
-            "turn" => done(self.take_turn(id, bytes as usize, low_half(priority))),
-            name => change(self, name, id),
+    /// `bytes STREAM BYTES PRIORITY`, `turn STREAM BYTES PRIORITY`, `interleaved`, `leave STREAM`, and what `ask` says.
+    fn obey(&mut self, line: &Line<'_>, output: &mut Output) -> Answer {
+        let id = StreamId(line.first.half);
+        let (bytes, priority) = (line.second.size, line.third.half);
+        match line.name {
+            "bytes" => output.note(self.set_bytes_remaining(id, bytes, priority)),
+            "turn" => output.note(self.take_turn(id, bytes, priority)),
+            "interleaved" => self.enable_message_interleaving(true),
+            "leave" => self.leave(id),
+            name => return ask(self, name, id),
         }
+        Answer::Done
     }
 }
 
-/// `interleaved`, `leave STREAM`, `accept STREAM`.
-fn change(scheduler: &mut StreamScheduler, name: &str, id: StreamId) -> Answer {
+/// `accept STREAM`, `next`, `active STREAM`, `count`, `payload`, `is-interleaved`.
+fn ask(scheduler: &mut StreamScheduler, name: &str, id: StreamId) -> Answer {
     match name {
-        "interleaved" => scheduler.enable_message_interleaving(true),
-        "leave" => scheduler.leave(id),
-        "accept" => return accept(scheduler, id),
-        _ => return ask(scheduler, name, id),
+        "accept" => accept(scheduler, id),
+        "next" => next(scheduler),
+        "active" => Answer::Flag(scheduler.is_active(id)),
+        "count" => Answer::Number(scheduler.active_count() as u128),
+        "payload" => Answer::Number(scheduler.max_payload() as u128),
+        "is-interleaved" => Answer::Flag(scheduler.is_interleaved()),
+        _ => Answer::Unknown,
     }
-    Answer::Done
 }
 
 fn accept(scheduler: &mut StreamScheduler, id: StreamId) -> Answer {
@@ -42,18 +47,6 @@ fn accept(scheduler: &mut StreamScheduler, id: StreamId) -> Answer {
     }
     scheduler.accept(id);
     Answer::Done
-}
-
-/// `next`, `active STREAM`, `count`, `payload`, `is-interleaved`.
-fn ask(scheduler: &StreamScheduler, name: &str, id: StreamId) -> Answer {
-    match name {
-        "next" => next(scheduler),
-        "active" => Answer::Flag(scheduler.is_active(id)),
-        "count" => Answer::Number(scheduler.active_count() as u128),
-        "payload" => Answer::Number(scheduler.max_payload() as u128),
-        "is-interleaved" => Answer::Flag(scheduler.is_interleaved()),
-        _ => Answer::Unknown,
-    }
 }
 
 fn next(scheduler: &StreamScheduler) -> Answer {

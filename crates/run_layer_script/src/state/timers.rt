@@ -9,36 +9,30 @@ use crate::state::options::set_option;
 use crate::words::Line;
 use sctp_serial::SocketTime;
 use sctp_state::{BackoffAlgorithm, Options, RetransmissionTimeout, Timer};
-use std::time::Duration;
 
-fn timer(line: Line<'_>) -> Timer {
-    let [duration, restarts, longest, _] = line.numbers();
-    let backoff = if line.last() == "fixed" {
+pub fn timer(line: &Line<'_>) -> Timer {
+    let backoff = if line.last == "fixed" {
         BackoffAlgorithm::Fixed
     } else {
         BackoffAlgorithm::Exponential
     };
-    let longest = if longest == u64::MAX {
+    let longest = if line.third.long == u64::MAX {
         None
     } else {
-        Some(Duration::from_millis(longest))
+        Some(line.third.millis())
     };
-    let restarts = u32::try_from(restarts).ok();
-    Timer::new(Duration::from_millis(duration), backoff, restarts, longest)
-}
-
-pub fn run(line: Line<'_>, commands: &str, output: &mut Output) {
-    let mut timer = timer(line);
-    run_commands(commands, output, &mut timer);
+    let restarts = u32::try_from(line.second.long).ok();
+    Timer::new(line.first.millis(), backoff, restarts, longest)
 }
 
 impl Subject for Timer {
     /// `start MS`, `expire MS`, `duration MS`, `stop`, `running`, `next`, `lasts`.
-    fn obey(&mut self, line: Line<'_>, _output: &mut Output) -> Answer {
-        let time = line.millis(1);
-        match line.word(0) {
-            "start" => self.start(SocketTime::zero() + time),
-            "expire" => return Answer::Flag(self.expire(SocketTime::zero() + time)),
+    fn obey(&mut self, line: &Line<'_>, _output: &mut Output) -> Answer {
+        let time = line.first.millis();
+        let now = SocketTime::zero() + time;
+        match line.name {
+            "start" => self.start(now),
+            "expire" => return Answer::Flag(self.expire(now)),
             "duration" => self.set_duration(time),
             "stop" => self.stop(),
             name => return ask(self, name),
@@ -81,16 +75,16 @@ pub fn run_timeout(commands: &str, output: &mut Output) {
 
 impl Subject for Estimate {
     /// `rto` and `srtt`, in whole milliseconds; `sample MS`; or an option, with which the timeout begins anew.
-    fn obey(&mut self, line: Line<'_>, _output: &mut Output) -> Answer {
-        match line.word(0) {
+    fn obey(&mut self, line: &Line<'_>, _output: &mut Output) -> Answer {
+        match line.name {
             "rto" => Answer::Number(self.timeout.rto().as_millis()),
             "srtt" => Answer::Number(self.timeout.srtt().as_millis()),
             "sample" => {
-                self.timeout.observe_rto(line.millis(1));
+                self.timeout.observe_rto(line.first.millis());
                 Answer::Done
             }
-            name => {
-                let answer = set_option(&mut self.options, name, line.number(1));
+            _ => {
+                let answer = set_option(&mut self.options, line);
                 self.timeout = RetransmissionTimeout::new(&self.options);
                 answer
             }

@@ -1,7 +1,6 @@
 //! A builder of packets from port 5000 to port 5001 with the tag 321.
 
 use crate::output::Output;
-use crate::show::{Hex, refuse};
 use crate::wire::chunks;
 use sctp_packet::{Chunk, Data, DataChunk, SctpPacketBuilder};
 use sctp_serial::Tsn;
@@ -21,7 +20,7 @@ pub fn answer(
 ) -> bool {
     match name {
         "builder" => limit(output, builder, number as usize),
-        "unsummed" => writeln!(output, "{}", Hex(builder.unsummed())),
+        "unsummed" => output.hex_line(builder.unsummed()),
         "no-checksum" => builder.write_checksum(false),
         "build" => build(output, builder, number),
         "data" => data(output, builder, number as usize),
@@ -37,12 +36,9 @@ fn limit(output: &mut Output, builder: &mut SctpPacketBuilder, limit: usize) {
 }
 
 fn room(output: &mut Output, builder: &SctpPacketBuilder) {
-    writeln!(
-        output,
-        "empty: {}, room {}",
-        builder.is_empty(),
-        builder.bytes_remaining()
-    );
+    output.push_str("empty: ");
+    output.put(&builder.is_empty());
+    output.fill(", room #\n", &[builder.bytes_remaining() as u128]);
 }
 
 /// Adds the chunk where it fits.
@@ -52,7 +48,7 @@ pub fn add(output: &mut Output, builder: &mut SctpPacketBuilder, bytes: &[u8]) {
             add_chunk(output, builder, &chunk);
             drop(chunk);
         }
-        Err(fault) => refuse(output, fault),
+        Err(fault) => output.refuse(fault),
     }
 }
 
@@ -67,7 +63,7 @@ fn add_chunk(output: &mut Output, builder: &mut SctpPacketBuilder, chunk: &Chunk
 
 fn build(output: &mut Output, builder: &mut SctpPacketBuilder, word: u32) {
     let packet = builder.build(word);
-    writeln!(output, "{}", Hex(&packet));
+    output.hex_line(&packet);
     room(output, builder);
 }
 
@@ -75,7 +71,7 @@ fn build(output: &mut Output, builder: &mut SctpPacketBuilder, word: u32) {
 fn data(output: &mut Output, builder: &SctpPacketBuilder, size: usize) {
     let payload = output.made(vec![in output.alloc; 0u8; size]);
     let chunk = data_of(output.alloc, payload);
-    writeln!(output, "{}", builder.fits(&chunk));
+    output.put_line(&builder.fits(&chunk));
     drop(chunk);
 }
 
@@ -91,6 +87,6 @@ fn data_of(alloc: Global, payload: Vec<u8>) -> Chunk {
 
 fn fragment(output: &mut Output) {
     let data = Data::empty(output.alloc);
-    writeln!(output, "{data:?}");
+    output.debug_line(&data);
     chunks::order(output, data.stream_key);
 }

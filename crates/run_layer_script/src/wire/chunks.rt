@@ -1,22 +1,23 @@
 //! Chunks alone.
 
 use crate::output::Output;
-use crate::show::refuse;
 use crate::wire::items::{show, show_read};
 use sctp_packet::{Chunk, RawChunk, SkippedStream};
 use sctp_serial::StreamKey;
-use sctp_wire::{ChunkParseError, FromItem, RawItem, SerializableTlv, items_from_bytes};
+use sctp_wire::{ChunkParseError, FromItem, RawItem, items_from_bytes};
 use std::alloc::Global;
-use std::fmt::Display;
 
 /// Whether the line was a command.
 pub fn answer(output: &mut Output, name: &str, bytes: &[u8]) -> bool {
     match name {
         "raw" => raw(output, bytes),
-        "item-chunk" => writeln!(output, "{:?}", from_item(bytes)),
-        "chunk" => one(output, bytes),
-        "chunks" => all::<Chunk>(output, bytes),
-        "fields" => fields(output, bytes),
+        "item-chunk" => output.debug_line(&from_item(bytes)),
+        "chunk" | "fields" => one(output, name, bytes),
+        "chunks" => show_read(
+            output,
+            items_from_bytes::<Chunk>(output.alloc, bytes),
+            bytes,
+        ),
         _ => return false,
     }
     true
@@ -25,10 +26,11 @@ pub fn answer(output: &mut Output, name: &str, bytes: &[u8]) -> bool {
 /// The chunk at the front, and its value where it is asked for as its own type and as the next one.
 fn raw(output: &mut Output, bytes: &[u8]) {
     let read = RawChunk::from_bytes(bytes);
-    writeln!(output, "{read:?}");
+    output.debug_line(&read);
     if let Ok((chunk, _)) = read {
-        let other = chunk.value_as(chunk.typ.wrapping_add(1));
-        writeln!(output, "{:?}, {other:?}", chunk.value_as(chunk.typ));
+        output.put_debug(&chunk.value_as(chunk.typ));
+        output.push_str(", ");
+        output.debug_line(&chunk.value_as(chunk.typ.wrapping_add(1)));
     }
 }
 
@@ -43,29 +45,27 @@ pub fn first(alloc: Global, bytes: &[u8]) -> Result<Chunk, ChunkParseError> {
     Chunk::try_from(alloc, raw)
 }
 
-fn one(output: &mut Output, bytes: &[u8]) {
+/// What the first chunk says, or all its fields.
+fn one(output: &mut Output, name: &str, bytes: &[u8]) {
     match first(output.alloc, bytes) {
         Ok(chunk) => {
-            show(output, &chunk);
+            show_as(output, name, &chunk);
             drop(chunk);
         }
-        Err(fault) => refuse(output, fault),
+        Err(fault) => output.refuse(fault),
     }
 }
 
-fn fields(output: &mut Output, bytes: &[u8]) {
-    match first(output.alloc, bytes) {
-        Ok(chunk) => {
-            show_fields(output, &chunk);
-            drop(chunk);
-        }
-        Err(fault) => refuse(output, fault),
+fn show_as(output: &mut Output, name: &str, chunk: &Chunk) {
+    match name {
+        "chunk" => show(output, chunk),
+        _ => show_fields(output, chunk),
     }
 }
 
 /// All fields, and of each stream whether it is the unordered one, which is not to be seen in them.
 fn show_fields(output: &mut Output, chunk: &Chunk) {
-    writeln!(output, "{chunk:?}");
+    output.debug_line(chunk);
     match chunk {
         Chunk::Data(c) => order(output, c.data.stream_key),
         Chunk::IData(c) => order(output, c.data.stream_key),
@@ -75,7 +75,8 @@ fn show_fields(output: &mut Output, chunk: &Chunk) {
 }
 
 pub fn order(output: &mut Output, key: StreamKey) {
-    writeln!(output, "unordered: {}", key.is_unordered());
+    output.push_str("unordered: ");
+    output.put_line(&key.is_unordered());
 }
 
 fn orders(output: &mut Output, skipped: &[SkippedStream]) {
@@ -84,8 +85,4 @@ fn orders(output: &mut Output, skipped: &[SkippedStream]) {
             order(output, *key);
         }
     }
-}
-
-fn all<T: FromItem + SerializableTlv + Display>(output: &mut Output, bytes: &[u8]) {
-    show_read(output, items_from_bytes::<T>(output.alloc, bytes), bytes);
 }

@@ -8,7 +8,8 @@ use crate::words::bytes_of;
 /// What the first bytes of the packet are read as, for each number of them.
 pub fn cut(output: &mut Output, packet: &[u8]) {
     for look in [Look::AnyChecksum, Look::ItsChecksum] {
-        write!(output, "cut, {look}: ");
+        output.push_str("cut, ");
+        output.push_str(look.name());
         show_cuts(output, packet, look);
     }
 }
@@ -44,7 +45,8 @@ fn answer_lengths(output: &mut Output, digits: &str, words: &str) -> bool {
 fn lengths(output: &mut Output, packet: &[u8], numbers: &[u32]) {
     let place = number(numbers, 0);
     for look in [Look::AnyChecksum, Look::ItsChecksum] {
-        write!(output, "length at {place}, {look}: ");
+        output.fill("length at #, ", &[place as u128]);
+        output.push_str(look.name());
         show_lengths(output, packet, place as usize, numbers, look);
     }
 }

@@ -3,7 +3,6 @@
 ghost use Rattle.std.specs.Prelude.{◌<◌, ◌^◌};
 
 use crate::output::Output;
-use crate::show::Hex;
 use crate::wire::packets;
 use sctp_error_cause::NoUserDataErrorCause;
 use sctp_packet::write_chunk_header;
@@ -45,10 +44,7 @@ pub fn answer(output: &mut Output, name: &str, numbers: &[u32]) -> bool {
         "dtls" => accepts(output, dtls(), first, second),
         "header" => headers(output, half(first), (second & 0x7fff) as usize),
         "misread" => misread(output, half(first)),
-        "result" => {
-            let result = ReconfigurationResponseResult::try_from(first);
-            writeln!(output, "{result:?}");
-        }
+        "result" => output.debug_line(&ReconfigurationResponseResult::try_from(first)),
         "response" => response(output, first, second),
         "cookie" => cookie(output, first as usize),
         "zeros" => zeros(output, first as usize),
@@ -65,7 +61,7 @@ fn dtls() -> Policy {
 }
 
 fn accepts(output: &mut Output, policy: Policy, word: u32, field: u32) {
-    writeln!(output, "{}", policy.accepts(word, field));
+    output.put_line(&policy.accepts(word, field));
 }
 
 /// Its lower half.
@@ -79,7 +75,7 @@ fn headers(output: &mut Output, typ: u16, size: usize)
 {
     let mut bytes = Vec::new(output.alloc);
     output.note(write_headers(&mut bytes, typ, size));
-    writeln!(output, "{}", Hex(&bytes));
+    output.hex_line(&bytes);
 }
 
 fn write_headers(output: &mut Vec<u8>, typ: u16, size: usize) -> Result<(), AllocError>
@@ -94,10 +90,11 @@ fn write_headers(output: &mut Vec<u8>, typ: u16, size: usize) -> Result<(), Allo
 /// The faults of readers of three other types on an empty parameter of this type.
 fn misread(output: &mut Output, typ: u16) {
     let raw = RawParameter { typ, value: &[] };
-    let heartbeat = HeartbeatInfoParameter::try_from(output.alloc, raw).err();
-    let response = ReconfigurationResponseParameter::try_from(output.alloc, raw).err();
-    let no_user_data = NoUserDataErrorCause::try_from(output.alloc, raw).err();
-    writeln!(output, "{heartbeat:?}, {response:?}, {no_user_data:?}");
+    output.put_debug(&HeartbeatInfoParameter::try_from(output.alloc, raw).err());
+    output.push_str(", ");
+    output.put_debug(&ReconfigurationResponseParameter::try_from(output.alloc, raw).err());
+    output.push_str(", ");
+    output.debug_line(&NoUserDataErrorCause::try_from(output.alloc, raw).err());
 }
 
 /// Whether a response can be written that has neither of its TSNs, or the sender's alone, where it isn't 0.
@@ -108,14 +105,14 @@ fn response(output: &mut Output, seq: u32, tsn: u32) {
         sender_next_tsn: if tsn == 0 { None } else { Some(Tsn(tsn)) },
         receiver_next_tsn: None,
     };
-    writeln!(output, "{}", response.encodable());
+    output.put_line(&response.encodable());
 }
 
 /// Whether a STATE COOKIE of so many zeros can be written.
 fn cookie(output: &mut Output, size: usize) {
     let cookie = output.made(vec![in output.alloc; 0u8; size]);
     let parameter = StateCookieParameter { cookie };
-    writeln!(output, "{}", parameter.encodable());
+    output.put_line(&parameter.encodable());
 }
 
 /// A packet of zeros.

@@ -1,7 +1,6 @@
 //! Packets, read and built again.
 
 use crate::output::Output;
-use crate::show::{Hex, refuse};
 use sctp_crc32c::crc32c_of;
 use sctp_packet::{Chunk, PacketView, SctpPacket, SctpPacketBuilder, chunk_fits};
 use sctp_wire::Policy;
@@ -23,12 +22,9 @@ pub fn unchecked() -> Policy {
 /// The CRC32c of the bytes, and its own bytes as they are written.
 pub fn crc32c(output: &mut Output, bytes: &[u8]) {
     let word = crc32c_of(bytes);
-    writeln!(
-        output,
-        "{} {}",
-        Hex(&word.to_be_bytes()),
-        Hex(&word.to_le_bytes())
-    );
+    output.push_hex(&word.to_be_bytes());
+    output.push_str(" ");
+    output.hex_line(&word.to_le_bytes());
 }
 
 /// A packet whose bytes have the checksum `word`.
@@ -38,7 +34,7 @@ pub fn read(output: &mut Output, bytes: &[u8], word: u32, policy: &Policy) {
             show(output, &packet, bytes);
             drop(packet);
         }
-        Err(fault) => refuse(output, fault),
+        Err(fault) => output.refuse(fault),
     }
 }
 
@@ -46,7 +42,7 @@ pub fn read(output: &mut Output, bytes: &[u8], word: u32, policy: &Policy) {
 pub fn look(output: &mut Output, bytes: &[u8], word: u32, policy: &Policy) {
     match PacketView::new(bytes, word, policy) {
         Ok(view) => walk(output, view),
-        Err(fault) => refuse(output, fault),
+        Err(fault) => output.refuse(fault),
     }
 }
 
@@ -56,17 +52,17 @@ fn walk(output: &mut Output, mut view: PacketView<'_>) {
             return;
         };
         match chunk.data_view() {
-            Some(fragment) => writeln!(output, "{fragment:?}"),
-            None => writeln!(output, "{chunk:?}"),
+            Some(fragment) => output.debug_line(&fragment),
+            None => output.debug_line(&chunk),
         }
     }
 }
 
 /// What the packet's chunks say, and whether it is written alike.
 pub fn show(output: &mut Output, packet: &SctpPacket, bytes: &[u8]) {
-    writeln!(output, "{} chunks", packet.chunks.len());
+    output.fill("# chunks\n", &[packet.chunks.len() as u128]);
     for chunk in &packet.chunks {
-        writeln!(output, "{chunk}");
+        output.put_line(chunk);
     }
     let header = packet.common_header;
     let mut builder = SctpPacketBuilder::new(
@@ -85,7 +81,9 @@ pub fn show(output: &mut Output, packet: &SctpPacket, bytes: &[u8]) {
 fn show_built(output: &mut Output, builder: &mut SctpPacketBuilder, checksum: u32, bytes: &[u8]) {
     let room = builder.bytes_remaining();
     let is_alike = is_padded_as(bytes, &builder.build(checksum));
-    writeln!(output, "written alike: {is_alike}, room {room}");
+    output.push_str("written alike: ");
+    output.put(&is_alike);
+    output.fill(", room #\n", &[room as u128]);
 }
 
 /// Those that fit.

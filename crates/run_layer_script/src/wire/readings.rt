@@ -6,7 +6,6 @@ use sctp_packet::{Chunk, PacketParseError, SctpPacket};
 use sctp_probe::ByteSum;
 use sctp_wire::{Checksum, Policy};
 use std::alloc::{AllocError, Global};
-use std::fmt;
 
 /// Which checksums are let through.
 #[derive(Clone, Copy)]
@@ -15,16 +14,14 @@ pub enum Look {
     ItsChecksum,
 }
 
-impl fmt::Display for Look {
-    fn fmt<W: fmt::Write>(&self, f: &mut fmt::Formatter<W>) -> fmt::Result {
+impl Look {
+    pub fn name(self) -> &'static str {
         match self {
-            Look::AnyChecksum => f.write_str("any checksum"),
-            Look::ItsChecksum => f.write_str("its checksum"),
+            Look::AnyChecksum => "any checksum: ",
+            Look::ItsChecksum => "its checksum: ",
         }
     }
-}
 
-impl Look {
     fn policy(self) -> Policy {
         match self {
             Look::AnyChecksum => packets::unchecked(),
@@ -104,12 +101,12 @@ impl Run {
     }
 
     fn show(&self, output: &mut Output) {
-        let (first, last, text) = (self.first, self.last, &self.text);
-        if first == last {
-            write!(output, "{first} {text}");
-        } else {
-            write!(output, "{first}-{last} {text}");
+        output.put(&self.first);
+        if self.first != self.last {
+            output.fill("-#", &[self.last as u128]);
         }
+        output.push_str(" ");
+        output.push_str(&self.text);
     }
 
     /// Ends the line with the last run.

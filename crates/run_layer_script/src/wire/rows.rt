@@ -1,19 +1,9 @@
 //! A conversation as rows, drawn.
 
 use crate::output::Output;
-use crate::show::Hex;
-use crate::words::bytes_of;
+use crate::words::{bytes_of, cut};
 use sctp_trace::{CaptureError, End, Row, What, capture, chart, ladder, packet_label};
 use std::alloc::AllocError;
-
-/// A row as it is written, but for what it shows.
-#[derive(Clone, Copy)]
-struct Head<'a> {
-    kind: &'a str,
-    end: End,
-    nanoseconds: u64,
-    rest: &'a str,
-}
 
 /// Whether the line was a row, or said how to draw those so far.
 pub fn answer(output: &mut Output, rows: &mut Vec<Row>, line: &str) -> bool {
@@ -37,7 +27,7 @@ fn show(output: &mut Output, drawing: Result<Vec<u8>, AllocError>) {
 
 fn show_capture(output: &mut Output, capture: Result<Vec<u8>, CaptureError>) -> bool {
     match capture {
-        Ok(bytes) => writeln!(output, "{}", Hex(&bytes)),
+        Ok(bytes) => output.hex_line(&bytes),
         Err(CaptureError::Memory) => output.note(Err(AllocError)),
         Err(CaptureError::TooLong) => return false,
     }
@@ -45,36 +35,26 @@ fn show_capture(output: &mut Output, capture: Result<Vec<u8>, CaptureError>) -> 
 }
 
 fn add_row(output: &mut Output, rows: &mut Vec<Row>, line: &str) -> bool {
-    let Some(head) = head_of(line) else {
-        return false;
-    };
-    let Head {
-        end,
-        nanoseconds,
-        ..
-    } = head;
-    match what_of(output, head.kind, head.rest) {
-        Some(what) => {
-            output.note(rows.push(Row {
-                end,
-                nanoseconds,
-                what,
-            }));
+    match row_of(output, line) {
+        Some(row) => {
+            output.note(rows.push(row));
             true
         }
         None => false,
     }
 }
 
-fn head_of(line: &str) -> Option<Head<'_>> {
+fn row_of(output: &mut Output, line: &str) -> Option<Row> {
     let (kind, rest) = line.split_once(' ')?;
     let (end, rest) = rest.split_once(' ')?;
     let (nanoseconds, rest) = rest.split_once(' ')?;
-    Some(Head {
-        kind,
-        end: end_of(end)?,
-        nanoseconds: nanoseconds.parse::<u64>().ok()?,
-        rest,
+    let end = end_of(end)?;
+    let nanoseconds = nanoseconds.parse::<u64>().ok()?;
+    let what = what_of(output, kind, rest)?;
+    Some(Row {
+        end,
+        nanoseconds,
+        what,
     })
 }
 
@@ -97,7 +77,7 @@ fn what_of(output: &mut Output, kind: &str, rest: &str) -> Option<What> {
 }
 
 fn sent_of(output: &mut Output, rest: &str) -> Option<What> {
-    let (number, digits) = rest.split_once(' ').unwrap_or((rest, ""));
+    let (number, digits) = cut(rest, ' ');
     let number = number.parse::<usize>().ok()?;
     let bytes = bytes_of(digits, output)?;
     let label = output.made_text(packet_label(output.alloc, &bytes));

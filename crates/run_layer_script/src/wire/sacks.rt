@@ -16,13 +16,13 @@ pub fn answer(output: &mut Output, name: &str, numbers: &[u32]) -> bool {
 
 fn clean(output: &mut Output, numbers: &[u32]) {
     let cleaned = clean_sack(sack(output, numbers));
-    writeln!(output, "{cleaned}");
+    output.put_line(&cleaned);
     drop(cleaned);
 }
 
 fn validate(output: &mut Output, numbers: &[u32]) {
     let sack = sack(output, numbers);
-    writeln!(output, "{}", validate_sack(&sack));
+    output.put_line(&validate_sack(&sack));
     drop(sack);
 }
 

@@ -1,7 +1,6 @@
 //! Packets that other stacks emitted.
 
 use crate::output::Output;
-use crate::show::refuse;
 use crate::wire::packets;
 use sctp_packet::{Chunk, PacketParseError, PacketView, RawChunk, SctpPacket};
 use sctp_wire::ChunkParseError;
@@ -14,15 +13,18 @@ pub fn read(output: &mut Output, bytes: &[u8]) {
             compare(output, &packet, bytes);
             drop(packet);
         }
-        Err(fault) => refuse(output, fault),
+        Err(fault) => output.refuse(fault),
     }
 }
 
 fn compare(output: &mut Output, packet: &SctpPacket, bytes: &[u8]) {
     packets::show(output, packet, bytes);
     match is_alike(output.alloc, &packet.chunks, bytes) {
-        Ok(alike) => writeln!(output, "in place alike: {alike}"),
-        Err(fault) => refuse(output, fault),
+        Ok(alike) => {
+            output.push_str("in place alike: ");
+            output.put_line(&alike);
+        }
+        Err(fault) => output.refuse(fault),
     }
 }
 
