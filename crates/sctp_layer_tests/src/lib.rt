@@ -1,20 +1,13 @@
-//! Tests of the layers below the association that are no rows of a script: numbers that wrap and keys through their bound, ids as
-//! they are printed, packets of chunks that were written before, and sender and receiver in want of memory. Apart, so that each crate
-//! is proved once.
+//! Tests of the layers below the association that are no rows of a script: numbers that wrap, through their bound, buffers that are used
+//! again, and sender and receiver in want of memory. Apart, so that each crate is proved once.
 #![tactic(auto)]
 
 #[cfg(test)]
-mod builder;
+mod receiver;
 #[cfg(test)]
-mod queue_calls;
+mod receives;
 #[cfg(test)]
-mod reassembly_key;
-#[cfg(test)]
-mod receiver_memory;
-#[cfg(test)]
-mod sender_memory;
-#[cfg(test)]
-mod sender_steps;
+mod sender;
 #[cfg(test)]
 mod serial;
 #[cfg(test)]
