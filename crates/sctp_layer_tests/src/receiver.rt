@@ -102,7 +102,7 @@ fn can_be_reset<Q: Receives>(queue: &mut Q) -> bool {
     }
     let before = queue.counts().0;
     let is_taken = queue.is_next(b"").is_some();
-    before <= 1 && is_taken == (before == 1) && queue.counts().1 == 0
+    (before <= 1) & (is_taken == (before == 1)) & (queue.counts().1 == 0)
 }
 
 /// Whether the queue does as it should, wherever an allocation was refused.

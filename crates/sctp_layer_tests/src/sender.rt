@@ -1,30 +1,32 @@
 //! Scenarios of a sender in which any allocation may be refused: each call answers as with ample memory, or that memory lacks. What it
 //! leaves then its contract says; the sender goes on until nothing is left.
 
-use Call::{
-    Accept, AcceptOnce, AcceptShort, BeginReset, Expire, HandOver, Point, Sack, Send, SendFast,
-    TimeOut,
-};
-use sctp_packet::{Chunk, Data, GapAckBlock, SackChunk};
+use Call::{Accept, BeginReset, Expire, Sack, Send, SendFast, TimeOut};
+use sctp_packet::{Data, GapAckBlock, SackChunk};
 use sctp_serial::{Message, PpId, SocketTime, StreamId, Tsn};
-use sctp_state::api::handover::HandoverSocketState;
-use sctp_state::{Events, Options, SendOptions, SocketHandoverState};
+use sctp_state::{Events, Options, SendOptions};
 use sctp_tx::{HandleSackResult, RetransmissionQueue, SendQueue};
 use std::alloc::{AllocError, Global};
 use std::time::Duration;
+
+/// How long a message is worth sending.
+#[derive(Clone, Copy)]
+enum Limit {
+    None,
+    /// It isn't sent again.
+    Once,
+    /// Its lifetime is 100 ms.
+    Short,
+}
 
 /// Moments are in milliseconds.
 #[derive(Clone, Copy)]
 enum Call {
     /// A message of so many bytes on a stream, accepted at moment 0: 1.
-    Accept(u16, usize),
-    /// One that isn't sent again.
-    AcceptOnce(u16, usize),
-    /// One with a lifetime of 100 ms.
-    AcceptShort(u16, usize),
-    /// A packet with 1,176 bytes of room: the TSN of its only chunk, or 0 where it has none.
-    Send(u64),
-    /// One that ignores the congestion window.
+    Accept(u16, usize, Limit),
+    /// So many packets, each with 1,176 bytes of room: the TSN of the last one's only chunk, or 0 where it has none.
+    Send(u64, u32),
+    /// A packet that ignores the congestion window, the same.
     SendFast(u64),
     /// A SACK: its cumulative TSN and a block from one offset to another, none where they are 0. What it brings: a round trip 2, else
     /// something new 1.
@@ -33,45 +35,26 @@ enum Call {
     TimeOut(u64),
     /// Whether a forward point is due.
     Expire(u64),
-    /// The TSN of the forward point.
-    Point,
     BeginReset,
-    /// The sender takes its own record up: 1.
-    HandOver(u64),
-}
-
-fn at(millis: u64) -> SocketTime {
-    SocketTime::zero() + Duration::from_millis(millis)
 }
 
 /// What a scenario asks of a sender. It knows no more of one than its answers.
 trait Sends {
-    fn accepts(
-        &mut self,
-        stream: u16,
-        size: usize,
-        options: &SendOptions,
-    ) -> Result<u32, AllocError>;
+    fn accepts(&mut self, stream: u16, size: usize, limit: Limit) -> Result<u32, AllocError>;
 
-    fn sends(&mut self, now: SocketTime) -> Result<u32, AllocError>;
+    fn sends(&mut self, millis: u64) -> Result<u32, AllocError>;
 
-    fn sends_fast(&mut self, now: SocketTime) -> Result<u32, AllocError>;
+    fn sends_fast(&mut self, millis: u64) -> Result<u32, AllocError>;
 
-    fn hears(&mut self, now: SocketTime, sack: &SackChunk) -> Result<u32, AllocError>;
+    fn hears(&mut self, millis: u64, sack: &SackChunk) -> Result<u32, AllocError>;
 
-    fn times_out(&mut self, now: SocketTime) -> Result<u32, AllocError>;
+    fn times_out(&mut self, millis: u64) -> Result<u32, AllocError>;
 
-    fn expires(&mut self, now: SocketTime) -> Result<u32, AllocError>;
-
-    fn points(&self) -> Result<u32, AllocError>;
+    fn expires(&mut self, millis: u64) -> Result<u32, AllocError>;
 
     fn begins_reset(&mut self) -> Result<u32, AllocError>;
 
-    fn writes(&self, now: SocketTime, state: &mut SocketHandoverState) -> Result<(), AllocError>;
-
-    fn takes_up(&mut self, now: SocketTime, state: &SocketHandoverState) -> Result<u32, AllocError>;
-
-    fn last_tsn(&self) -> Tsn;
+    fn last_tsn(&self) -> u32;
 
     fn rests(&self) -> bool;
 }
@@ -95,51 +78,63 @@ fn fresh(alloc: Global) -> Sender {
     }
 }
 
+fn at(millis: u64) -> SocketTime {
+    SocketTime::zero() + Duration::from_millis(millis)
+}
+
+fn options_of(limit: Limit) -> SendOptions {
+    let options = SendOptions::default();
+    match limit {
+        Limit::None => options,
+        Limit::Once => SendOptions {
+            max_retransmissions: Some(0),
+            ..options
+        },
+        Limit::Short => SendOptions {
+            lifetime: Some(Duration::from_millis(100)),
+            ..options
+        },
+    }
+}
+
 /// The TSN of the only one; 0 where there is none.
-fn only(chunks: &[(Tsn, Data)]) -> u32 {
-    match chunks {
+fn only(chunks: Vec<(Tsn, Data)>) -> u32 {
+    let tsn = match chunks.as_slice() {
         [] => 0,
         [chunk] => chunk.0.0,
         _ => 1,
-    }
-}
-
-fn point_of(chunk: &Chunk) -> u32 {
-    match chunk {
-        Chunk::ForwardTsn(chunk) => chunk.new_cumulative_tsn.0,
-        _ => 0,
-    }
+    };
+    drop(chunks);
+    tsn
 }
 
 impl Sends for Sender {
-    fn accepts(
-        &mut self,
-        stream: u16,
-        size: usize,
-        options: &SendOptions,
-    ) -> Result<u32, AllocError> {
+    fn accepts(&mut self, stream: u16, size: usize, limit: Limit) -> Result<u32, AllocError> {
         if size == 0 || size > 12_000 || self.queue.total_buffered_amount() > 12_000 {
             return Ok(0);
         }
         let payload = vec![in self.alloc; 7u8; size]?;
         let message = Message::new(StreamId(stream), PpId(53), payload);
-        self.queue.add(at(0), message, options)?;
+        self.queue.add(at(0), message, &options_of(limit))?;
         Ok(1)
     }
 
-    fn sends(&mut self, now: SocketTime) -> Result<u32, AllocError> {
+    fn sends(&mut self, millis: u64) -> Result<u32, AllocError> {
+        let (queue, events) = (&mut self.queue, &mut self.events);
         let chunks = self
             .items
-            .get_chunks_to_send(now, 1176, &mut self.queue, &mut self.events)?;
-        Ok(only(&chunks))
+            .get_chunks_to_send(at(millis), 1176, queue, events)?;
+        Ok(only(chunks))
     }
 
-    fn sends_fast(&mut self, now: SocketTime) -> Result<u32, AllocError> {
-        Ok(only(&self.items.get_chunks_for_fast_retransmit(now, 1176)?))
+    fn sends_fast(&mut self, millis: u64) -> Result<u32, AllocError> {
+        let chunks = self.items.get_chunks_for_fast_retransmit(at(millis), 1176)?;
+        Ok(only(chunks))
     }
 
-    fn hears(&mut self, now: SocketTime, sack: &SackChunk) -> Result<u32, AllocError> {
-        Ok(match self.items.handle_sack(now, sack, &mut self.events)? {
+    fn hears(&mut self, millis: u64, sack: &SackChunk) -> Result<u32, AllocError> {
+        let answer = self.items.handle_sack(at(millis), sack, &mut self.events)?;
+        Ok(match answer {
             HandleSackResult::Valid { rtt: Some(_), .. } => 2,
             HandleSackResult::Valid {
                 reset_error_counter: true,
@@ -149,19 +144,15 @@ impl Sends for Sender {
         })
     }
 
-    fn times_out(&mut self, now: SocketTime) -> Result<u32, AllocError> {
-        Ok(self.items.handle_timeout(now, &mut self.events)? as u32)
+    fn times_out(&mut self, millis: u64) -> Result<u32, AllocError> {
+        Ok(self.items.handle_timeout(at(millis), &mut self.events)? as u32)
     }
 
-    fn expires(&mut self, now: SocketTime) -> Result<u32, AllocError> {
-        Ok(self.items.should_send_forward_tsn(now, &mut self.events)? as u32)
-    }
-
-    fn points(&self) -> Result<u32, AllocError> {
-        let chunk = self.items.create_forward_tsn()?;
-        let tsn = point_of(&chunk);
-        drop(chunk);
-        Ok(tsn)
+    fn expires(&mut self, millis: u64) -> Result<u32, AllocError> {
+        Ok(
+            self.items
+                .should_send_forward_tsn(at(millis), &mut self.events)? as u32,
+        )
     }
 
     fn begins_reset(&mut self) -> Result<u32, AllocError> {
@@ -169,115 +160,68 @@ impl Sends for Sender {
         Ok(1)
     }
 
-    fn writes(&self, now: SocketTime, state: &mut SocketHandoverState) -> Result<(), AllocError> {
-        self.queue.add_to_handover_state(now, state)?;
-        self.items.add_to_handover_state(now, state)
-    }
-
-    fn takes_up(
-        &mut self,
-        now: SocketTime,
-        state: &SocketHandoverState,
-    ) -> Result<u32, AllocError> {
-        match state.socket_state {
-            HandoverSocketState::Connected if state.is_valid() => {
-                self.queue.restore_from_state(now, state)?;
-                self.items.restore_from_state(now, state)?;
-                Ok(1)
-            }
-            _ => Ok(0),
-        }
-    }
-
-    fn last_tsn(&self) -> Tsn {
-        self.items.last_assigned_tsn()
+    fn last_tsn(&self) -> u32 {
+        self.items.last_assigned_tsn().0
     }
 
     fn rests(&self) -> bool {
-        self.queue.is_empty() && self.items.is_empty() && self.items.unacked_packet_bytes() == 0
+        self.queue.is_empty() & self.items.is_empty() & (self.items.unacked_packet_bytes() == 0)
     }
 }
 
-fn sack(alloc: Global, tsn: Tsn, first: u16, last: u16) -> Result<SackChunk, AllocError> {
+fn sack(alloc: Global, tsn: u32, first: u16, last: u16) -> Result<SackChunk, AllocError> {
     let mut gap_ack_blocks = Vec::new(alloc);
     if first > 0 {
         gap_ack_blocks.push(GapAckBlock::new(first, last))?;
     }
     Ok(SackChunk {
-        cumulative_tsn_ack: tsn,
+        cumulative_tsn_ack: Tsn(tsn),
         a_rwnd: 5_242_880,
         gap_ack_blocks,
         duplicate_tsns: Vec::new(alloc),
     })
 }
 
-/// The sender's record, once it is written, is taken up.
-fn goes_over<S: Sends>(
+fn hears<S: Sends>(
     sender: &mut S,
-    now: SocketTime,
-    state: &mut SocketHandoverState,
+    millis: u64,
+    sack: Result<SackChunk, AllocError>,
 ) -> Result<u32, AllocError> {
-    state.socket_state = HandoverSocketState::Connected;
-    state.my_verification_tag = 1;
-    state.peer_verification_tag = 1;
-    sender.writes(now, state)?;
-    sender.takes_up(now, state)
+    sender.hears(millis, &sack?)
 }
 
-fn hands_over<S: Sends>(alloc: Global, sender: &mut S, now: SocketTime) -> Result<u32, AllocError> {
-    let mut state = SocketHandoverState::empty(alloc);
-    let outcome = goes_over(sender, now, &mut state);
-    drop(state);
-    outcome
-}
-
-fn options_of(call: Call) -> SendOptions {
-    let options = SendOptions::default();
-    match call {
-        AcceptOnce(..) => SendOptions {
-            max_retransmissions: Some(0),
-            ..options
-        },
-        AcceptShort(..) => SendOptions {
-            lifetime: Some(Duration::from_millis(100)),
-            ..options
-        },
-        _ => options,
+fn sends_each<S: Sends>(sender: &mut S, millis: u64, count: u32) -> Result<u32, AllocError> {
+    let mut last = 0;
+    for _ in 0..count {
+        last = sender.sends(millis)?;
     }
+    Ok(last)
 }
 
 fn answer<S: Sends>(alloc: Global, sender: &mut S, call: Call) -> Result<u32, AllocError> {
     match call {
-        Accept(stream, size) | AcceptOnce(stream, size) | AcceptShort(stream, size) => {
-            sender.accepts(stream, size, &options_of(call))
-        }
-        Send(millis) => sender.sends(at(millis)),
-        SendFast(millis) => sender.sends_fast(at(millis)),
-        Sack(millis, tsn, first, last) => {
-            sender.hears(at(millis), &sack(alloc, Tsn(tsn), first, last)?)
-        }
-        TimeOut(millis) => sender.times_out(at(millis)),
-        Expire(millis) => sender.expires(at(millis)),
-        Point => sender.points(),
+        Accept(stream, size, limit) => sender.accepts(stream, size, limit),
+        Send(millis, count) => sends_each(sender, millis, count),
+        SendFast(millis) => sender.sends_fast(millis),
+        Sack(millis, tsn, first, last) => hears(sender, millis, sack(alloc, tsn, first, last)),
+        TimeOut(millis) => sender.times_out(millis),
+        Expire(millis) => sender.expires(millis),
         BeginReset => sender.begins_reset(),
-        HandOver(millis) => hands_over(alloc, sender, at(millis)),
     }
 }
 
-/// A turn of the sender, at a moment when t3-rtx has expired: what it sends comes.
-fn turn<S: Sends>(alloc: Global, sender: &mut S, millis: u64) -> Result<(), AllocError> {
-    for call in [TimeOut(millis), Expire(millis), Point, Send(millis)] {
-        answer(alloc, sender, call)?;
-    }
-    let sack = sack(alloc, sender.last_tsn(), 0, 0)?;
-    sender.hears(at(millis), &sack)?;
-    Ok(())
+/// A turn of the sender, at a moment when t3-rtx has expired: what it sends comes. Where a call lacks memory the next turn makes it again.
+fn turn<S: Sends>(alloc: Global, sender: &mut S, millis: u64) {
+    let _ = sender.times_out(millis);
+    let _ = sender.expires(millis);
+    let _ = sender.sends(millis);
+    let sack = sack(alloc, sender.last_tsn(), 0, 0);
+    let _ = hears(sender, millis, sack);
 }
 
-/// A turn that lacks memory is followed by another.
 fn comes_to_rest<S: Sends>(alloc: Global, sender: &mut S) -> bool {
     for i in 1..12 {
-        let _ = turn(alloc, sender, 100_000 * i);
+        turn(alloc, sender, 100_000 * i);
     }
     sender.rests()
 }
@@ -286,70 +230,72 @@ fn comes_to_rest<S: Sends>(alloc: Global, sender: &mut S) -> bool {
 fn all_answer<S: Sends>(alloc: Global, sender: &mut S, calls: &[(Call, u32)]) -> bool {
     for (call, want) in calls {
         match answer(alloc, sender, *call) {
-            Ok(number) if number == *want => {}
-            Ok(_) => return false,
+            Ok(number) => {
+                if number != *want {
+                    return false;
+                }
+            }
             Err(_) => break,
         }
     }
     comes_to_rest(alloc, sender)
 }
 
-fn holds(alloc: Global, calls: &[(Call, u32)]) -> bool {
+fn hold(alloc: Global, calls: &[(Call, u32)]) -> bool {
     let mut sender = fresh(alloc);
     let outcome = all_answer(alloc, &mut sender, calls);
     drop(sender);
     outcome
 }
 
-/// Three packets are lost; one goes again, and the sender goes on from its record.
-const SENDS_AGAIN: [(Call, u32); 11] = [
-    (Accept(1, 2500), 1),
-    (Send(0), 10),
-    (Send(0), 11),
-    (Send(0), 12),
-    (TimeOut(500), 1),
-    (Send(500), 10),
-    (HandOver(600), 1),
-    (Sack(700, 10, 0, 0), 1),
-    (Accept(2, 5), 1),
-    (Send(700), 11),
-    (Point, 10),
-];
+/// Three packets are lost; one goes again, and then the others.
+fn sends_again(alloc: Global) -> bool {
+    let calls = [
+        (Accept(1, 2500, Limit::None), 1),
+        (Send(0, 3), 12),
+        (TimeOut(500), 1),
+        (Send(500, 1), 10),
+        (Sack(700, 10, 0, 0), 1),
+        (Accept(2, 5, Limit::None), 1),
+        (Send(700, 1), 11),
+    ];
+    hold(alloc, &calls)
+}
 
 /// The third report has TSN 10 go again at once.
-const RECOVERS: [(Call, u32); 11] = [
-    (Accept(1, 5800), 1),
-    (Send(0), 10),
-    (Send(0), 11),
-    (Send(0), 12),
-    (Send(0), 13),
-    (Send(0), 14),
-    (Sack(100, 9, 2, 2), 1),
-    (Sack(101, 9, 2, 3), 1),
-    (Sack(102, 9, 2, 4), 1),
-    (SendFast(102), 10),
-    (Sack(150, 14, 0, 0), 2),
-];
+fn recovers(alloc: Global) -> bool {
+    let calls = [
+        (Accept(1, 5800, Limit::None), 1),
+        (Send(0, 5), 14),
+        (Sack(100, 9, 2, 2), 1),
+        (Sack(101, 9, 2, 3), 1),
+        (Sack(102, 9, 2, 4), 1),
+        (SendFast(102), 10),
+        (Sack(150, 14, 0, 0), 2),
+    ];
+    hold(alloc, &calls)
+}
 
-/// A message's lifetime ends, and the rest of another one leaves the queue; a reset holds the forward point.
-const GIVES_UP: [(Call, u32); 11] = [
-    (AcceptShort(1, 20), 1),
-    (Send(0), 10),
-    (AcceptOnce(2, 1500), 1),
-    (Send(0), 11),
-    (BeginReset, 1),
-    (TimeOut(500), 1),
-    (Expire(500), 1),
-    (Point, 11),
-    (Send(500), 0),
-    (Sack(600, 11, 0, 0), 2),
-    (Point, 12),
-];
+/// A message's lifetime ends, and the rest of another one leaves the queue; a reset holds the forward point before its end.
+fn gives_up(alloc: Global) -> bool {
+    let calls = [
+        (Accept(1, 20, Limit::Short), 1),
+        (Send(0, 1), 10),
+        (Accept(2, 1500, Limit::Once), 1),
+        (Send(0, 1), 11),
+        (BeginReset, 1),
+        (TimeOut(500), 1),
+        (Expire(500), 1),
+        (Send(500, 1), 0),
+        (Sack(600, 11, 0, 0), 2),
+        (Expire(600), 1),
+    ];
+    hold(alloc, &calls)
+}
 
 /// The test to run with a refused allocation.
 #[test]
 fn tells_want_of_memory(rt: HostRuntime) {
-    for calls in [SENDS_AGAIN, RECOVERS, GIVES_UP] {
-        assert!(rt; holds(rt.alloc(), &calls));
-    }
+    let alloc = rt.alloc();
+    assert!(rt; sends_again(alloc) & recovers(alloc) & gives_up(alloc));
 }
