@@ -2,6 +2,7 @@
 
 use crate::tests::run_read;
 use sctp_world::*;
+use std::alloc::Global;
 use std::io;
 use std::io::{Read, Write};
 
@@ -67,51 +68,51 @@ impl Write for Filling {
     }
 }
 
-#[test]
-fn reading_ends(rt: HostRuntime) {
-    let mut out = Vec::new(rt.alloc());
-    assert_eq!(rt;
-        run_read(rt.alloc(), &mut Newlines, &mut out),
-        Err(ScriptFault::Read)
-    );
-    assert!(rt; out.is_empty());
-}
-
-#[test]
-fn a_read_fails_at_each_place(rt: HostRuntime) {
+/// Whether the script ends as it should where the reader fails after so many reads.
+fn ends_torn(alloc: Global, reads: usize) -> bool {
+    let mut out = Vec::new(alloc);
+    let mut torn = Torn { bytes: LINE, reads };
+    let end = run_read(alloc, &mut torn, &mut out);
     // 71 bytes in reads of 16: the sixth read is the one that says that the input has ended
-    for reads in 0..7 {
-        let mut out = Vec::new(rt.alloc());
-        let mut torn = Torn { bytes: LINE, reads };
-        let end = run_read(rt.alloc(), &mut torn, &mut out);
-        let is_right = if reads == 6 {
-            end == Ok(())
-        } else {
-            end == Err(ScriptFault::Read)
-        };
-        assert!(rt; is_right, "after {reads} reads");
-        let want: &[u8] = if reads >= 5 { PRINTED } else { b"" };
-        assert_eq!(rt; out.as_slice(), want, "after {reads} reads");
-    }
+    let is_end = if reads == 6 {
+        end == Ok(())
+    } else {
+        end == Err(ScriptFault::Read)
+    };
+    let want: &[u8] = if reads >= 5 { PRINTED } else { b"" };
+    is_end & (out.as_slice() == want)
+}
+
+/// The same where the writer fails after so many writes. Of 19 and more there is one for each.
+fn ends_full(alloc: Global, writes: usize) -> bool {
+    let mut reader = LINE;
+    let mut filling = Filling {
+        taken: Vec::new(alloc),
+        writes,
+    };
+    let end = run_read(alloc, &mut reader, &mut filling);
+    let has_ended = end == Ok(());
+    let taken = filling.taken.as_slice();
+    (has_ended | (end == Err(ScriptFault::Write)))
+        & PRINTED.starts_with(taken)
+        & (has_ended == (taken.len() == PRINTED.len()))
+        & (has_ended | (writes < 19))
+}
+
+fn never_ends(alloc: Global) -> bool {
+    let mut out = Vec::new(alloc);
+    let end = run_read(alloc, &mut Newlines, &mut out);
+    (end == Err(ScriptFault::Read)) & out.is_empty()
 }
 
 #[test]
-fn a_write_fails_at_each_place(rt: HostRuntime) {
-    let mut ended = false;
-    for writes in 0..20 {
-        let mut reader = LINE;
-        let mut filling = Filling {
-            taken: Vec::new(rt.alloc()),
-            writes,
-        };
-        let end = run_read(rt.alloc(), &mut reader, &mut filling);
-        ended = end == Ok(());
-        assert!(rt;
-            ended || end == Err(ScriptFault::Write),
-            "at {writes} writes"
-        );
-        assert!(rt; PRINTED.starts_with(&filling.taken), "at {writes} writes");
-        assert_eq!(rt; ended, filling.taken.len() == PRINTED.len());
+fn ends_with_its_reader_and_its_writer(rt: HostRuntime) {
+    let mut are_right = never_ends(rt.alloc());
+    for reads in 0..7 {
+        are_right &= ends_torn(rt.alloc(), reads);
     }
-    assert!(rt; ended);
+    for writes in 0..20 {
+        are_right &= ends_full(rt.alloc(), writes);
+    }
+    assert!(rt; are_right);
 }
