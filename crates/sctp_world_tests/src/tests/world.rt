@@ -44,21 +44,22 @@ fn is_set<W: Watched>(world: &mut W) -> bool {
         Event::Call(End::A, Call::SetLowThreshold(StreamId(1), 4)),
         Event::Call(End::A, Call::SetMaxMessageSize(4)),
     ];
-    let is_done = world.does(&settings).is_ok();
+    let is_set = world.does(&settings).is_ok();
     drop(settings);
-    is_done && are_done(world.entries())
+    is_set & are_done(world.entries())
+}
+
+fn is_done(entry: &Entry) -> bool {
+    matches!(entry, Entry::Call(End::A, _, _, Answer::Done))
 }
 
 /// Whether these are three settings, and nothing else.
 fn are_done(entries: &[Entry]) -> bool {
-    matches!(
-        entries,
-        [
-            Entry::Call(End::A, _, _, Answer::Done),
-            Entry::Call(End::A, _, _, Answer::Done),
-            Entry::Call(End::A, _, _, Answer::Done)
-        ]
-    )
+    let mut holds = entries.len() == 3;
+    for entry in entries {
+        holds &= is_done(entry);
+    }
+    holds
 }
 
 /// Connects both ends, and sends the message.
