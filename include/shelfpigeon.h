@@ -195,8 +195,8 @@ static inline uint32_t pigeon_default_options(pigeon_options *options) { return 
 
 /* Writes the options of data channels (RFC 8831), which differ from the defaults in four: DTLS finds damage, where the peer says so too
  * (RFC 9653); the window is twice the largest message of 262,144 bytes; on each stream 16 MiB may wait, and as much as is offered in all; and
- * PIGEON_AVOID_STALLS is set. The mtu of 1,191 leaves room for DTLS and UDP, there are 65,535 streams each way. With another largest message set max_message_size, and the window to twice what the peer may send.
- * PIGEON_INVALID_SIZE. */
+ * PIGEON_AVOID_STALLS is set. The mtu of 1,191 leaves room for DTLS and UDP, there are 65,535 streams each way. With another largest message set
+ * max_message_size, and the window to twice what the peer may send. PIGEON_INVALID_SIZE. */
 uint32_t pigeon_options_for_webrtc_sized(void *options, size_t size);
 static inline uint32_t pigeon_options_for_webrtc(pigeon_options *options) { return pigeon_options_for_webrtc_sized(options, options->size); }
 
