@@ -51,7 +51,7 @@ abbrev pub fragment_flags : (immediate unordered beginning end : Bool) → ℕ
 fragment_flags immediate unordered beginning end =
     (if immediate then 8 else 0) + ((if unordered then 4 else 0) + ((if beginning then 2 else 0) + (if end then 1 else 0)))
 
--- the flag T: the tag in the packet is the peer's own one, sent back (RFC 9260 section 8.5.1)
+-- the flag T: the packet's tag is the one that the answered packet had (RFC 9260 section 8.5.1)
 abbrev pub reflected_flag : Bool → ℕ
 reflected_flag reflected = if reflected then 1 else 0
 

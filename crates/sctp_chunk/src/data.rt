@@ -27,15 +27,15 @@ const FLAG_END: u8 = 1;
 #[derive(Drop)]
 pub struct Data {
     pub stream_key: StreamKey,
-    /// The message's number in its stream, where messages are not interleaved; else 0.
+    /// The message's number in its stream, as DATA carries it; 0 in what was read from I-DATA.
     pub ssn: Ssn,
     /// Whether the message begins here.
     pub is_beginning: bool,
     /// Whether the message ends here.
     pub is_end: bool,
-    /// The message's number in its stream, where messages are interleaved; else 0.
+    /// The message's number in its stream, as I-DATA carries it; 0 in what was read from DATA.
     pub mid: Mid,
-    /// The fragment's number in its message, where messages are interleaved; else 0.
+    /// The fragment's number in its message, as I-DATA carries it; 0 in what was read from DATA.
     pub fsn: Fsn,
     pub ppid: PpId,
     pub payload: Vec<u8>,

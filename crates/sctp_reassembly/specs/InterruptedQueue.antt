@@ -1,5 +1,5 @@
 -- What a call on the queue leaves where memory runs out before its end: its first steps are done, and of what comes behind them nothing. A
--- reset that is deferred stays so, with what waits for it.
+-- reset that is deferred stays so, with what waits for it, but where streams are reset (`reset_in_part`).
 use Rattle.std.specs.Prelude.{ℕ, zero, suc, false, if◌then◌else◌, Option, None, List, [], ◌∷◌}
 use Rattle.sctp_serial.specs.declared.api.StreamId.{StreamId}
 use Rattle.sctp_chunk.specs.Chunk.{FragmentTree}
