@@ -1,5 +1,5 @@
 -- The laws of pairs of numbers in the order of their ranks.
-use Rattle.std.specs.Prelude.{◌≡◌, ℕ, suc, ◌<◌, ◌≤◌, ◌^◌, nat_lt}
+use Rattle.std.specs.Prelude.{◌≡◌, ℕ, suc, ◌<◌, ◌≤◌, ◌^◌}
 use Rattle.std.specs.Ordering.{nat_cmp, ordering_then}
 use Rattle.std.proofs.Common.{arith}
 use Rattle.std.proofs.lemmas.Bool.Decides.{nat_tests}
@@ -19,9 +19,6 @@ pair_within a b p = omega (arith, p.0, p.1)
 
 pub pair_follows : (a b : ℕ) → IsPair a b → pair_rank a b < pair_bound → IsPair (pair_after_number a b) (pair_after_index b) × (pair_rank (pair_after_number a b) (pair_after_index b) ≡ suc (pair_rank a b))
 pair_follows a b p less = grind (arith, nat_tests)
-
-pub pair_below : (a b n : ℕ) → b < 2 ^ 64 → nat_lt a n ≡ nat_lt (pair_rank a b) (pair_rank n 0)
-pair_below a b n small = grind (arith, nat_tests)
 
 pub pair_made : {K : Type 0} (f : ℕ → ℕ → K) (a b c d : ℕ) → a ≡ c → b ≡ d → f a b ≡ f c d
 pair_made f a b c d p q = cc

@@ -9,6 +9,6 @@ pub mod reassembly_key;
 pub use interval::{Entries, Entry, Interval, goes_on_to};
 pub use message::message_of;
 pub use reassembly_key::{
-    InterleavedKey, ReassemblyKey, TraditionalKey, UnorderedInterleavedKey, is_before,
-    is_below_number, is_same, leads_to, next_key, touch,
+    InterleavedKey, ReassemblyKey, TraditionalKey, UnorderedInterleavedKey, is_before, is_same,
+    leads_to, next_key, touch,
 };

@@ -63,15 +63,6 @@ pub fn is_before<K: ReassemblyKey>(x: K, y: K) -> bool
     x.cmp(&y).is_lt()
 }
 
-/// Whether the key's number is below this one: then the key comes before each of that number.
-pub fn is_below_number<K: ReassemblyKey>(key: K, number: u128) -> bool
-    ensures rank { result ≡ nat_lt (rank_at K.number K.index key) (pair_rank number 0) }
-    ensures number { result ≡ nat_lt (K.number key) number }
-{
-    key.known();
-    (key.number() as u128) < number
-}
-
 /// Whether `y` is the next key after `x`.
 pub fn leads_to<K: ReassemblyKey>(x: K, y: K) -> bool
     ensures { result ≡ (rank_at K.number K.index y == suc (rank_at K.number K.index x)) }
