@@ -4,6 +4,7 @@ use Rattle.std.specs.List.{list_all}
 use Rattle.std.specs.List.Sorted.{IsStrictlySortedBy}
 use Rattle.std.specs.Map.{keys_of}
 use Rattle.std.specs.Ordering.{nat_cmp}
+use Rattle.std.proofs.lemmas.Bool.Decides.{nat_tests}
 use Rattle.std.proofs.lemmas.Nat.{le_or_l, le_or_r}
 use Rattle.std.proofs.lemmas.Bool.{and_from, eqb-true}
 use Rattle.rand_core.specs.Stream.{Stream as Words}
@@ -212,6 +213,9 @@ unset : (b : Bool) (n : ℕ) → 0 < n → cond b n 0 ≡ 0 → b ≡ false
 unset true n some h = absurd (omega (arith, some, h))
 unset false n some h = refl
 
+none_above : (n : ℕ) → nat_lt 0 n ≡ false → n ≡ 0
+none_above n h = grind (arith, nat_tests)
+
 none_pending : (o : Option Request) → request_bit o ≡ 0 → is_some o ≡ false
 none_pending None h = refl
 none_pending (Some r) h = absurd (omega (arith, h))
@@ -234,7 +238,7 @@ nothing_waits t c h =
       no_request = none_pending t.requests.current block.1;
       no_recovery = unset (is_some t.sender.windows.fast_recovery_exit) 1024 (omega arith) (no_bits (sender.items_bit strict t.sender) (sender.recovery_bit t.sender) going.0).1;
       no_gap = unset (has_gap t.tracker.tracker.seen) 8 (omega arith) come.0;
-      no_fragment = unset _ 128 (omega arith) held.0;
+      no_fragment = none_above (received.fragments_of t.reassembly.streams) (unset _ 128 (omega arith) held.0);
       no_deferred = none_deferred t.reassembly.deferred held.1;
     }
 

@@ -1,5 +1,5 @@
 -- An end is handed over, and a new one with the same options, at the same moment, takes its record up: what it has again.
-use Rattle.std.specs.Prelude.{◌≡◌, ℕ, ◌+◌, ◌*◌, ◌^◌, ◌<◌, ◌≤◌, ◌==◌, ◌||◌, Bool, true, false, is_some, nat_lt, List, [], ◌∷◌, length, map}
+use Rattle.std.specs.Prelude.{◌≡◌, ℕ, ◌+◌, ◌*◌, ◌^◌, ◌<◌, ◌≤◌, ◌==◌, Bool, true, false, is_some, nat_lt, List, [], ◌∷◌, length, map}
 use Rattle.std.specs.List.{list_any}
 use Rattle.std.specs.List.Sorted.{IsStrictlySortedBy}
 use Rattle.std.specs.Map.{keys_of, values_of}
@@ -14,7 +14,8 @@ use Rattle.sctp_state.specs.Validity.{is_valid_state}
 use Rattle.sctp_rx.specs.Seen.{has_gap}
 use Rattle.sctp_rx.specs.DataTracker as tracker
 use Rattle.sctp_rx.specs.Delivery.{OrderedStream, UnorderedStream, fresh_unordered}
-use Rattle.sctp_rx.specs.ReassemblyHandover.{space_of, ordered_is_held, unordered_is_held}
+use Rattle.sctp_rx.specs.ReassemblyStreams.{fragments_of}
+use Rattle.sctp_rx.specs.ReassemblyHandover.{space_of}
 use Rattle.sctp_tx_outstanding.specs.Item.{Item}
 use Rattle.sctp_tx_outstanding.specs.OutstandingData.{Outstanding, next_number, wire_tsn}
 use Rattle.sctp_tx_outstanding.specs.Again.{items_again}
@@ -154,7 +155,7 @@ pub record NothingWaits (t : Tcb) (q : Queue) : Type 0 where
   pub no_request : is_some t.requests.current ≡ false
   pub no_recovery : is_some t.sender.windows.fast_recovery_exit ≡ false
   pub no_gap : has_gap t.tracker.tracker.seen ≡ false
-  pub no_fragment : (ordered_is_held t.reassembly.streams.ordered || unordered_is_held t.reassembly.streams.unordered) ≡ false
+  pub no_fragment : fragments_of t.reassembly.streams ≡ 0
   pub no_deferred : is_some t.reassembly.deferred ≡ false
 
 -- The end closes. Its record is valid, a new end takes it up and sends what may be sent, and it has the association, what was

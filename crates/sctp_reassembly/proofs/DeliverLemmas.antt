@@ -1,12 +1,13 @@
 -- What becomes ready, one message after the other.
 use Rattle.std.proofs.Common.{◌≡◌, ℕ, zero, suc, ◌+◌, ◌==◌, Bool, true, false, not, cond, Option, Some, None, List, [], ◌∷◌, ◌++◌, length, refl, ap, sym, subst, ◌∙◌, arith, append_assoc, append-nil}
-use Rattle.std.specs.Prelude.{◌&&◌, nat_lt, option_map, option_to_list}
+use Rattle.std.specs.Prelude.{◌&&◌, nat_lt, max, option_map, option_to_list}
 use Rattle.std.specs.List.{find}
 use Rattle.std.proofs.lemmas.Bool.Decides.{nat_tests}
 use Rattle.sctp_serial.specs.Messages.{Message}
+use Rattle.sctp_serial.specs.Unwrapped.{origin}
 use Rattle.sctp_fragments.specs.Runs.{is_held, with_item, AreRuns}
 use Rattle.sctp_fragments.specs.Held.{Held, rank_of, goes_on, NonePass, NoneComplete, NoneInTurn, without_first_of, left_by, intervals_of, is_in_turn, is_complete, IsTaken, IsPlaced, message_of_run}
-use Rattle.sctp_reassembly.specs.Delivery.{OrderedDelivery, OrderedStream, deliver, deliver_within, at_rest, preceded_by, delivering, ordered_arrival, first_complete, ready_bytes}
+use Rattle.sctp_reassembly.specs.Delivery.{OrderedDelivery, OrderedStream, deliver, deliver_within, at_rest, preceded_by, delivering, ordered_arrival, unordered_arrival, first_complete, ready_bytes}
 use Rattle.std.proofs.lemmas.List.Sums.{sum_by_push}
 use Rattle.sctp_reassembly.proofs.FindLemmas.{found, without_found, not_found, taken_left}
 use Rattle.sctp_reassembly.proofs.HolderLemmas.{only_one}
@@ -127,6 +128,11 @@ whole_leaves x s n hs none turn same kept =
 
     made : state (n + 1) hs ≡ state (suc s.next) []
     made = ap (λ (k : ℕ). state k hs) next ∙ ap (state (suc s.next)) (kept ∙ no_items s.held none)
+
+-- a whole unordered message, of one fragment, comes where nothing is held
+pub whole_alone : (x : Held) (near passed : ℕ) → is_complete (x ∷ []) ≡ true → nat_lt x.number passed ≡ false
+    → unordered_arrival x (record { near = near; passed = passed; held = [] }) ≡ record { stream = record { near = max origin x.number; passed = passed; held = [] }; messages = message_of_run (x ∷ []) ∷ [] }
+whole_alone x near passed whole due = rw due (rw whole refl)
 
 pub first_complete_none : (hs : List Held) → NoneComplete (intervals_of hs) → first_complete hs ≡ []
 first_complete_none hs none = ap (λ (o : Option (List Held)). option_to_list (option_map message_of_run o)) (not_found is_complete (intervals_of hs) none)

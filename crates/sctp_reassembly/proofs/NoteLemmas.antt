@@ -18,6 +18,8 @@ use Rattle.std.proofs.lemmas.Map.Entries.{none_past_head, lookup-filter-keys}
 use Rattle.std.proofs.lemmas.Map.Keys.{sorted_tail, IsDistinct-from_sorted}
 use Rattle.sctp_serial.specs.declared.api.StreamId.{StreamId}
 use Rattle.sctp_state.specs.declared.api.handover.HandoverUnorderedStream.{HandoverUnorderedStream}
+use Rattle.sctp_serial.specs.Unwrapped.{origin}
+use Rattle.sctp_fragments.specs.ReassemblyKey.{pair_rank}
 use Rattle.sctp_fragments.specs.Runs.{from_rank}
 use Rattle.sctp_fragments.specs.Held.{Held, rank_of}
 use Rattle.sctp_reassembly.specs.Delivery.{UnorderedStream, fresh_unordered, held_from}
@@ -43,16 +45,24 @@ other_note a c note h = apart a c note.0 note.1 h
 turned : (a b : ℕ) → (a == b) ≡ false → (b == a) ≡ false
 turned a b h = grind (arith, nat_tests)
 
--- none of these notes is below the rank
-pub none_from : (n : ℕ) (notes : Notes) → All (λ k. is_gt (note_cmp (n, 0) k) ≡ false) notes → NoneBelow n notes
+-- ranks of unordered fragments are in the order of their TSNs
+pub by_tsn : (n m : ℕ) → n ≤ m → pair_rank origin n ≤ pair_rank origin m
+by_tsn n m l = omega (arith, l)
+
+-- a note by the key of a fragment
+pub noted_at : (number tsn id : ℕ) (notes : Notes) (hs : List Held) → number ≡ origin → is_noted notes (tsn, id) ≡ true → BeginsFrom (pair_rank number tsn) hs → HasNote notes id hs
+noted_at number tsn id notes hs is there begins = inr (tsn, there, subst (λ n. BeginsFrom (pair_rank n tsn) hs) is begins)
+
+-- none of these notes is below the TSN
+pub none_from : (n : ℕ) (notes : Notes) → All (λ k. is_gt (note_cmp (n, 0) k) ≡ false) notes → NoneBelow (pair_rank origin n) notes
 none_from n [] all note there = absurd (cc)
 none_from n (x ∷ xs) all note there = go (is_at (note_cmp note) x) refl there (none_from n xs (All-tail (λ k. is_gt (note_cmp (n, 0) k) ≡ false) x xs all) note)
   where
     same_rank : (a c b d : ℕ) → is_at (note_cmp (a, c)) (b, d) ≡ true → a ≡ b
     same_rank a c b d h = grind (arith, nat_tests)
 
-    go : (b : Bool) → is_at (note_cmp note) x ≡ b → (b || is_noted xs note) ≡ true → (is_noted xs note ≡ true → n ≤ note.0) → n ≤ note.0
-    go true h t ih = subst (λ r. n ≤ r) (sym (same_rank note.0 note.1 x.0 x.1 h)) (first_rank n x.0 0 x.1 (All-head (λ k. is_gt (note_cmp (n, 0) k) ≡ false) x xs all))
+    go : (b : Bool) → is_at (note_cmp note) x ≡ b → (b || is_noted xs note) ≡ true → (is_noted xs note ≡ true → pair_rank origin n ≤ pair_rank origin note.0) → pair_rank origin n ≤ pair_rank origin note.0
+    go true h t ih = by_tsn n note.0 (subst (λ r. n ≤ r) (sym (same_rank note.0 note.1 x.0 x.1 h)) (first_rank n x.0 0 x.1 (All-head (λ k. is_gt (note_cmp (n, 0) k) ≡ false) x xs all)))
     go false h t ih = ih t
 
 -- a note that goes out, and one that comes in
@@ -193,7 +203,7 @@ cut_one n below rest id hs none has =
       | inr some ↦ go some.0 some.1 some.2 (is_noted below (some.0, id)) refl
     ]
   where
-    go : (rank : ℕ) → is_noted (below ++ rest) (rank, id) ≡ true → BeginsFrom rank hs → (b : Bool) → is_noted below (rank, id) ≡ b → HasNote below id hs ⊎ IsDone n rest id hs
+    go : (rank : ℕ) → is_noted (below ++ rest) (rank, id) ≡ true → BeginsFrom (pair_rank origin rank) hs → (b : Bool) → is_noted below (rank, id) ≡ b → HasNote below id hs ⊎ IsDone n rest id hs
     go rank there begins true h = inl (inr (rank, h, begins))
     go rank there begins false h =
         let back : is_noted rest (rank, id) ≡ true = sym (ap (λ b. b || is_noted rest (rank, id)) h) ∙ (sym (list_any-append (is_at (note_cmp (rank, id))) below rest) ∙ there) in

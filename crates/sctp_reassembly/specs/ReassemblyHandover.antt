@@ -1,24 +1,18 @@
 -- The reassembly's part of a handover record: which streams there are, and the numbers of their next messages.
-use Rattle.std.specs.Prelude.{ℕ, ◌+◌, ◌||◌, Bool, if◌then◌else◌, Option, None, Some, bit_or, List, [], map}
+use Rattle.std.specs.Prelude.{ℕ, ◌+◌, nat_lt, Bool, if◌then◌else◌, Option, None, Some, bit_or, List, [], map}
 use Rattle.sctp_serial.specs.Unwrapped.{origin, u32_space, halves, wire}
 use Rattle.sctp_state.specs.declared.api.handover.HandoverOrderedStream.{HandoverOrderedStream}
 use Rattle.sctp_state.specs.declared.api.handover.HandoverUnorderedStream.{HandoverUnorderedStream}
 use Rattle.sctp_state.specs.Handover.{Receive}
 use Rattle.sctp_reassembly.specs.Delivery.{OrderedStream, UnorderedStream, fresh_unordered}
-use Rattle.sctp_reassembly.specs.ReassemblyStreams.{Entries, Streams, is_any_held}
+use Rattle.sctp_reassembly.specs.ReassemblyStreams.{Entries, Streams, fragments_of}
 use Rattle.sctp_reassembly.specs.ReassemblyQueue.{Reassembly, Deferred}
 
 -- ---- what stands in the way
 
-abbrev pub ordered_is_held : Entries OrderedStream → Bool
-ordered_is_held es = is_any_held (λ s. s.held) es
-
-abbrev pub unordered_is_held : Entries UnorderedStream → Bool
-unordered_is_held es = is_any_held (λ s. s.held) es
-
 -- the bit of fragments that are held
 abbrev pub streams_readiness : Streams → ℕ
-streams_readiness ss = if ordered_is_held ss.ordered || unordered_is_held ss.unordered then 128 else 0
+streams_readiness ss = if nat_lt 0 (fragments_of ss) then 128 else 0
 
 -- the bit of a reset that is deferred
 abbrev pub deferred_readiness : Option Deferred → ℕ

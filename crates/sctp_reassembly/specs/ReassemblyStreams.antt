@@ -55,9 +55,6 @@ pub record AreCounted {S : Type 0} (held : S → List Held) (bytes fragments : �
   pub bytes_are : bytes ≡ bytes_held held es
   pub fragments_are : fragments ≡ fragments_held held es
 
-abbrev pub is_any_held : {S : Type 0} → (S → List Held) → Entries S → Bool
-is_any_held held es = list_any (λ s. nat_lt 0 (length (held s))) (values_of es)
-
 -- ---- all streams of an association
 
 pub record Streams : Type 0 where

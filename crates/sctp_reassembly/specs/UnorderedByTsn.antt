@@ -1,9 +1,11 @@
--- Notes of the streams that hold a fragment: a rank, below which a stream holds none, and its id.
+-- Notes of the streams that hold a fragment: a TSN, below which a stream holds none, and its id.
 use Rattle.std.specs.Prelude.{◌≡◌, ◌⊎◌, ℕ, ◌≤◌, ◌==◌, Bool, true, false, List, [], map}
 use Rattle.std.specs.List.{list_any}
 use Rattle.std.specs.Ordering.{nat_cmp, ordering_then}
 use Rattle.std.specs.declared.cmp.Ordering.{Ordering}
 use Rattle.std.specs.BTreeMap.{is_at}
+use Rattle.sctp_serial.specs.Unwrapped.{origin}
+use Rattle.sctp_fragments.specs.ReassemblyKey.{pair_rank}
 use Rattle.sctp_fragments.specs.Runs.{from_rank}
 use Rattle.sctp_fragments.specs.Held.{Held, rank_of}
 use Rattle.sctp_reassembly.specs.Delivery.{UnorderedStream, fresh_unordered, held_from}
@@ -24,7 +26,7 @@ BeginsFrom rank hs = (n : ℕ) → n ≤ rank → from_rank rank_of n hs ≡ hs
 
 -- nothing is held, or there is a note of it
 abbrev pub HasNote : Notes → ℕ → List Held → Type 0
-HasNote notes id hs = (hs ≡ []) ⊎ ((rank : ℕ) × (is_noted notes (rank, id) ≡ true) × BeginsFrom rank hs)
+HasNote notes id hs = (hs ≡ []) ⊎ ((tsn : ℕ) × (is_noted notes (tsn, id) ≡ true) × BeginsFrom (pair_rank origin tsn) hs)
 
 -- there is a note of each stream that holds a fragment
 abbrev pub AreNoted : Notes → Entries UnorderedStream → Type 0
@@ -40,7 +42,7 @@ KeepsOthers other old new = (note : ℕ × ℕ) → (note.1 == other) ≡ false 
 
 -- no note is of a rank below this one
 abbrev pub NoneBelow : ℕ → Notes → Type 0
-NoneBelow rank notes = (note : ℕ × ℕ) → is_noted notes note ≡ true → rank ≤ note.0
+NoneBelow rank notes = (note : ℕ × ℕ) → is_noted notes note ≡ true → rank ≤ pair_rank origin note.0
 
 -- what a point before the rank leaves of all streams
 abbrev pub drop_below : ℕ → Entries UnorderedStream → Entries UnorderedStream

@@ -58,7 +58,7 @@ fn is_whole_at<K: ReassemblyKey>(key: K, fragment: &Data, number: u128) -> bool
 
 /// Makes a message ready that is one fragment.
 #[tactic(auto, using(crate::proofs::ExtendsLemmas::extends_none))]
-fn hand_on(fragment: Data, ready: &mut ReadyMessages) -> Result<(), AllocError>
+pub(crate) fn hand_on(fragment: Data, ready: &mut ReadyMessages) -> Result<(), AllocError>
     requires { ready_bytes ready.old + length fragment.payload.items < 2 ^ 64 }
     ensures ready { OnOk result (ready.new ≡ ready.old ++ message_of_run (as_held 0 0 fragment ∷ []) ∷ []) }
     ensures err { OnErr result (ready.new ≡ ready.old) }
@@ -253,14 +253,6 @@ impl<K: ReassemblyKey> ReassemblyStream for OrderedStream<K> {
         }
     }
 
-    /// Whether fragments are held.
-    fn is_held(&self) -> bool {
-        match &self.state {
-            OrderedState::Idle(_) => false,
-            OrderedState::Holding(_) => true,
-        }
-    }
-
     /// How many bytes of payload are held.
     fn queued_bytes(&self) -> usize {
         match &self.state {
@@ -283,7 +275,7 @@ impl<K: ReassemblyKey> ReassemblyStream for OrderedStream<K> {
     /// Without memory the fragment, or a message that was in turn, may be lost; what was ready stays ready.
     #[tactic(auto, using(crate::proofs::ExtendsLemmas::extends_none))]
     fn add(&mut self, key: K, fragment: Data, ready: &mut ReadyMessages) -> Result<(), AllocError> {
-        if !self.is_held() && is_whole_at(key, &fragment, self.next()) {
+        if self.held_fragments() == 0 && is_whole_at(key, &fragment, self.next()) {
             return self.pass_on(key, fragment, ready);
         }
         self.keep(key, fragment, ready)

@@ -1,6 +1,6 @@
 //! What both kinds of stream do.
 
-ghost use Rattle.std.specs.Prelude.{◌≡◌, ℕ, suc, ◌+◌, ◌<◌, ◌≤◌, ◌^◌, ◌++◌, [], List, length, nat_lt, OnOk, OnErr};
+ghost use Rattle.std.specs.Prelude.{◌≡◌, ℕ, suc, ◌+◌, ◌<◌, ◌≤◌, ◌^◌, ◌++◌, [], List, length, OnOk, OnErr};
 ghost use Rattle.sctp_serial.specs.Messages.{Message};
 ghost use Rattle.sctp_fragments.specs.Held.{Held, bytes_of};
 ghost use Rattle.sctp_fragments.specs.Interval.{as_held};
@@ -45,10 +45,6 @@ pub trait ReassemblyStream: Drop {
     /// A stream of which nothing came.
     fn new(alloc: Global) -> Self
         ensures { result ≡ fresh };
-
-    /// Whether fragments are held.
-    fn is_held(&self) -> bool
-        ensures { result ≡ nat_lt 0 (length (held self.now)) };
 
     /// How many bytes of payload are held.
     fn queued_bytes(&self) -> usize

@@ -1,12 +1,12 @@
 //! The fragments of all streams, without interleaving of messages or with it.
 
-ghost use Rattle.std.specs.Prelude.{◌≡◌, ℕ, ◌+◌, ◌<◌, ◌≤◌, ◌^◌, ◌++◌, ◌||◌, length, true, IfOk, OnOk, OnErr};
+ghost use Rattle.std.specs.Prelude.{◌≡◌, ℕ, ◌+◌, ◌<◌, ◌≤◌, ◌^◌, ◌++◌, length, true, IfOk, OnOk, OnErr};
 ghost use Rattle.sctp_chunk.specs.Views.{fragment_tree};
 ghost use Rattle.sctp_reassembly.specs.ReassemblyMode.{streams_of};
 ghost use Rattle.sctp_reassembly.specs.Delivery.{ready_bytes, Extends};
 ghost use Rattle.sctp_state.specs.Handover.{handover_state_of, receive_of};
 ghost use Rattle.sctp_state.specs.Validity.{is_valid_reception};
-ghost use Rattle.sctp_reassembly.specs.ReassemblyHandover.{ordered_is_held, unordered_is_held, streams_readiness, streams_written, streams_restored};
+ghost use Rattle.sctp_reassembly.specs.ReassemblyHandover.{streams_readiness, streams_written, streams_restored};
 ghost use Rattle.sctp_reassembly.specs.ReassemblyStreams.{place_of, no_streams, held_bytes, fragments_of, add, skip, skip_each, dropped_to, forward, reset};
 ghost use Rattle.sctp_reassembly.specs.InterruptedStreams.{Stands, add_in_part, skip_in_part, skip_each_in_part, forward_in_part};
 
@@ -229,25 +229,11 @@ impl ReassemblyStreams {
         }
     }
 
-    /// Whether fragments are held.
-    fn is_held(&self) -> bool
-        ensures { result ≡ (ordered_is_held self.now.ordered || unordered_is_held self.now.unordered) }
-    {
-        match &self.mode {
-            ReassemblyMode::Traditional(ordered, unordered) => {
-                ordered.is_held() || unordered.is_held()
-            }
-            ReassemblyMode::Interleaved(ordered, unordered) => {
-                ordered.is_held() || unordered.is_held()
-            }
-        }
-    }
-
     /// Whether the streams can be handed over: no fragment must be held.
     pub fn get_handover_readiness(&self) -> HandoverReadiness
         ensures { result.0 ≡ streams_readiness self.now }
     {
-        HandoverReadiness::STREAM_HAS_UNASSEMBLED_CHUNKS & self.is_held()
+        HandoverReadiness::STREAM_HAS_UNASSEMBLED_CHUNKS & (self.held_fragments() > 0)
     }
 
     /// Writes the streams, and the numbers of the next ordered messages. Without memory nothing is written.
@@ -310,13 +296,10 @@ impl ReassemblyStreams {
     }
 }
 
-/// The fragment's place in its message: its TSN, or with interleaving its FSN, and 0 where it begins the message.
-fn place_of(is_interleaved: bool, tsn: u64, fragment: &Data) -> u64
-    ensures { result ≡ place_of is_interleaved tsn (fragment_tree fragment.now) }
+/// The fragment's place in its message with interleaving: its FSN, and 0 where it begins the message.
+fn place_of(fragment: &Data) -> u64
+    ensures { (tsn : ℕ) → result ≡ place_of true tsn (fragment_tree fragment.now) }
 {
-    if !is_interleaved {
-        return tsn;
-    }
     if fragment.is_beginning {
         return 0;
     }
@@ -379,7 +362,7 @@ fn add_interleaved(
     ensures bytes { held_bytes (streams_of (ReassemblyMode.Interleaved ordered.new unordered.new)) + ready_bytes ready.new ≤ held_bytes (streams_of (ReassemblyMode.Interleaved ordered.old unordered.old)) + ready_bytes ready.old + length fragment.payload.items }
     ensures fragments { fragments_of (streams_of (ReassemblyMode.Interleaved ordered.new unordered.new)) ≤ fragments_of (streams_of (ReassemblyMode.Interleaved ordered.old unordered.old)) + 1 }
 {
-    let index = place_of(true, tsn, &fragment);
+    let index = place_of(&fragment);
     match fragment.stream_key {
         StreamKey::Unordered(id) => {
             let Some(number) = mid_near(unordered.near(id) as u128, fragment.mid) else {

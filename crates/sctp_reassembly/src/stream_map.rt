@@ -7,7 +7,7 @@ ghost use Rattle.std.specs.Ordering.{nat_cmp};
 ghost use Rattle.std.specs.BTreeMap.{is_at};
 ghost use Rattle.sctp_fragments.specs.Interval.{as_held};
 ghost use Rattle.sctp_reassembly.specs.Delivery.{ready_bytes, Extends};
-ghost use Rattle.sctp_reassembly.specs.ReassemblyStreams.{bytes_held, fragments_held, AreCounted, is_any_held, stream_at, with_stream, put_stream, set_stream, forget};
+ghost use Rattle.sctp_reassembly.specs.ReassemblyStreams.{bytes_held, fragments_held, AreCounted, stream_at, with_stream, put_stream, set_stream, forget};
 
 use crate::ready_messages::ReadyMessages;
 use crate::reassembly_stream::ReassemblyStream;
@@ -47,13 +47,6 @@ impl<S: ReassemblyStream> StreamMap<S> {
             bytes: 0,
             fragments: 0,
         }
-    }
-
-    /// Whether fragments are held.
-    pub fn is_held(&self) -> bool
-        ensures { result ≡ is_any_held S.held self.now }
-    {
-        self.streams.values().any(|stream| stream.is_held())
     }
 
     /// How many bytes of payload are held.

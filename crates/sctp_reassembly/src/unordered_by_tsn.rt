@@ -1,14 +1,16 @@
 //! Streams with unordered messages, without interleaving: forward points find their fragments by TSN.
 
 ghost use Rattle.std.specs.Prelude.{◌≡◌, ◌+◌, ◌<◌, ◌≤◌, ◌^◌, ◌++◌, ◌⊎◌, ℕ, [], true, false, length, map, OnOk, OnErr, List, IfOk, IfSome, IfNone};
+ghost use Rattle.sctp_serial.specs.Unwrapped.{origin};
 ghost use Rattle.sctp_fragments.specs.ReassemblyKey.{pair_rank};
 ghost use Rattle.sctp_fragments.specs.Held.{Held};
 ghost use Rattle.sctp_reassembly.specs.Delivery.{fresh_unordered, held_from};
 ghost use Rattle.sctp_reassembly.specs.UnorderedByTsn.{is_noted, BeginsFrom, HasNote, AreNoted, OthersAreNoted, KeepsOthers, NoneBelow, drop_below};
-ghost use Rattle.sctp_reassembly.specs.ReassemblyHandover.{unordered_is_held, unordered_records, unordered_entries};
+ghost use Rattle.sctp_reassembly.specs.ReassemblyHandover.{unordered_records, unordered_entries};
 ghost use Rattle.sctp_reassembly.specs.ReassemblyStreams.{unordered_bytes, unordered_fragments, is_named, stream_at};
 ghost use Rattle.sctp_state.specs.Validity.{rises_from, unordered_ids};
 
+use crate::ordered_stream::FIRST;
 use crate::ready_messages::ReadyMessages;
 use crate::unordered_streams::UnorderedStreams;
 use sctp_chunk::Data;
@@ -19,14 +21,14 @@ use std::alloc::{AllocError, Global};
 use std::collections::BTreeSet;
 use std::marker::Model;
 
-/// The streams, with a note of each that holds a fragment, by the rank of its first one: a forward point looks at those
-/// alone that hold something below it. Where memory for a note was missing, the next point looks at all streams, and makes
-/// the notes anew.
+/// The streams, with a note of each that holds a fragment, by the TSN of its first one: a forward point looks at those
+/// alone that hold something below it. Where a note is missing, for want of memory or since a key has another number than
+/// unordered messages have, the next point looks at all streams, and makes the notes anew.
 #[derive(Drop)]
 pub struct UnorderedByTsn {
     alloc: Global,
     streams: UnorderedStreams<TraditionalKey>,
-    notes: BTreeSet<(u128, u16)>,
+    notes: BTreeSet<(u64, u16)>,
     is_noted: bool,
 }
 
@@ -43,29 +45,23 @@ impl Model for UnorderedByTsn {
     ghost invariant = { λ s. s.is_noted ≡ true → AreNoted s.notes.keys s.streams };
 }
 
-/// A key's rank.
-fn rank(key: TraditionalKey) -> u128
-    ensures { result ≡ pair_rank key.number key.index }
-{
-    key.number as u128 * (1 << 64) + key.index as u128
-}
-
 /// Takes away the note by the key that was the stream's first one.
-fn take_note(notes: &mut BTreeSet<(u128, u16)>, id: StreamId, first: Option<TraditionalKey>)
+fn take_note(notes: &mut BTreeSet<(u64, u16)>, id: StreamId, first: Option<TraditionalKey>)
     ensures { KeepsOthers id.0 notes.old.keys notes.new.keys }
 {
     if let Some(key) = first {
-        notes.remove(&(rank(key), id.0));
+        notes.remove(&(key.index, id.0));
     }
 }
 
 /// Makes the note of a stream by its first key, where it holds a fragment. Says whether there was memory.
-fn make_note(notes: &mut BTreeSet<(u128, u16)>, id: StreamId, first: Option<TraditionalKey>) -> bool
+fn make_note(notes: &mut BTreeSet<(u64, u16)>, id: StreamId, first: Option<TraditionalKey>) -> bool
     ensures kept { (note : ℕ × ℕ) → is_noted notes.old.keys note ≡ true → is_noted notes.new.keys note ≡ true }
     ensures made { result ≡ true → (hs : List Held) → IfSome first (λ k. BeginsFrom (pair_rank k.number k.index) hs) → IfNone first (hs ≡ []) → HasNote notes.new.keys id.0 hs }
 {
     match first {
-        Some(key) => notes.insert((rank(key), id.0)).is_ok(),
+        Some(key) if key.number != FIRST => false,
+        Some(key) => notes.insert((key.index, id.0)).is_ok(),
         None => true,
     }
 }
@@ -74,7 +70,7 @@ fn make_note(notes: &mut BTreeSet<(u128, u16)>, id: StreamId, first: Option<Trad
 fn renew_note(
     is_noted: bool,
     streams: &UnorderedStreams<TraditionalKey>,
-    notes: &mut BTreeSet<(u128, u16)>,
+    notes: &mut BTreeSet<(u64, u16)>,
     id: StreamId,
     first: Option<TraditionalKey>,
 ) -> bool
@@ -91,7 +87,7 @@ fn renew_note(
 fn make_notes(
     alloc: Global,
     streams: &UnorderedStreams<TraditionalKey>,
-    notes: &mut BTreeSet<(u128, u16)>,
+    notes: &mut BTreeSet<(u64, u16)>,
 ) -> bool
     ensures { result ≡ true → AreNoted notes.new.keys streams.now }
 {
@@ -108,30 +104,30 @@ fn make_notes(
     true
 }
 
-/// Whether no note is below the rank.
-fn is_none_below(notes: &BTreeSet<(u128, u16)>, rank: u128) -> bool
-    ensures { result ≡ true → NoneBelow rank notes.now.keys }
+/// Whether no note is below the index.
+fn is_none_below(notes: &BTreeSet<(u64, u16)>, index: u64) -> bool
+    ensures { result ≡ true → NoneBelow (pair_rank origin index) notes.now.keys }
 {
     match notes.first() {
-        Some(least) => rank <= least.0,
+        Some(least) => index <= least.0,
         None => true,
     }
 }
 
-/// Takes away the notes below the rank. Where there are some, it takes memory.
+/// Takes away the notes below the index. Where there are some, it takes memory.
 fn take_below(
     alloc: Global,
-    notes: &mut BTreeSet<(u128, u16)>,
-    rank: u128,
-) -> Option<BTreeSet<(u128, u16)>>
+    notes: &mut BTreeSet<(u64, u16)>,
+    index: u64,
+) -> Option<BTreeSet<(u64, u16)>>
     ensures parts { IfSome result (λ below. notes.old.keys ≡ below.keys ++ notes.new.keys) }
-    ensures rest { IfSome result (λ below. NoneBelow rank notes.new.keys) }
+    ensures rest { IfSome result (λ below. NoneBelow (pair_rank origin index) notes.new.keys) }
     ensures kept { IfNone result (notes.new.keys ≡ notes.old.keys) }
 {
-    if is_none_below(notes, rank) {
+    if is_none_below(notes, index) {
         return Some(BTreeSet::new(alloc));
     }
-    match notes.split_off(&(rank, 0)) {
+    match notes.split_off(&(index, 0)) {
         Ok(rest) => Some(std::mem::replace(notes, rest)),
         Err(_) => None,
     }
@@ -142,7 +138,7 @@ fn forward_noted(
     alloc: Global,
     is_noted: bool,
     streams: &mut UnorderedStreams<TraditionalKey>,
-    notes: &mut BTreeSet<(u128, u16)>,
+    notes: &mut BTreeSet<(u64, u16)>,
     first: TraditionalKey,
 ) -> bool
     ensures same { drop_below (pair_rank first.number first.index) streams.new ≡ drop_below (pair_rank first.number first.index) streams.old }
@@ -152,10 +148,10 @@ fn forward_noted(
     ensures noted { AreNoted notes.old.keys streams.old → result ≡ true → AreNoted notes.new.keys streams.new }
     ensures done { AreNoted notes.old.keys streams.old → result ≡ true → streams.new ≡ drop_below (pair_rank first.number first.index) streams.old }
 {
-    if !is_noted {
+    if !is_noted || first.number != FIRST {
         return false;
     }
-    let Some(below) = take_below(alloc, notes, rank(first)) else {
+    let Some(below) = take_below(alloc, notes, first.index) else {
         return false;
     };
     for note in &below {
@@ -171,7 +167,7 @@ fn forward_noted(
 /// Takes away the notes of the streams that are named, or all where none is.
 fn take_notes(
     streams: &UnorderedStreams<TraditionalKey>,
-    notes: &mut BTreeSet<(u128, u16)>,
+    notes: &mut BTreeSet<(u64, u16)>,
     ids: &[StreamId],
 )
     ensures { (note : ℕ × ℕ) → is_named ids.now note.1 ≡ false → is_noted notes.old.keys note ≡ true → is_noted notes.new.keys note ≡ true }
@@ -225,13 +221,6 @@ impl UnorderedByTsn {
         ensures rises { IfOk result (λ records. rises_from 0 (unordered_ids records.items) ≡ true) }
     {
         self.streams.handed_over(alloc)
-    }
-
-    /// Whether fragments are held.
-    pub fn is_held(&self) -> bool
-        ensures { result ≡ unordered_is_held self.now }
-    {
-        self.streams.is_held()
     }
 
     /// How many bytes of payload are held.

@@ -1,8 +1,8 @@
 //! A stream whose messages become ready when they are complete.
 
-ghost use Rattle.std.specs.Prelude.{◌≡◌, ◌+◌, ◌<◌, ◌≤◌, ◌^◌, ◌++◌, ℕ, suc, length, OnOk, OnErr, IfSome, IfNone, []};
+ghost use Rattle.std.specs.Prelude.{◌≡◌, ◌+◌, ◌<◌, ◌≤◌, ◌^◌, ◌++◌, ◌∷◌, ℕ, suc, length, OnOk, OnErr, IfSome, IfNone, []};
 ghost use Rattle.sctp_serial.specs.Unwrapped.{origin};
-ghost use Rattle.sctp_fragments.specs.Held.{bytes_of};
+ghost use Rattle.sctp_fragments.specs.Held.{bytes_of, is_complete};
 ghost use Rattle.sctp_fragments.specs.Interval.{as_held};
 ghost use Rattle.sctp_fragments.specs.ReassemblyKey.{rank_at};
 ghost use Rattle.sctp_reassembly.specs.Delivery.{held_from, unordered_arrival, unordered_forward, ready_bytes, Extends};
@@ -10,7 +10,7 @@ ghost use Rattle.sctp_reassembly.specs.InterruptedStreams.{unordered_arrival_in_
 ghost use Rattle.sctp_reassembly.specs.UnorderedByTsn.{BeginsFrom};
 ghost use Rattle.sctp_reassembly.specs.UnorderedState.{unordered_of, AreNumbers, IsUsed};
 
-use crate::ordered_stream::FIRST;
+use crate::ordered_stream::{FIRST, hand_on};
 use crate::ready_messages::ReadyMessages;
 use crate::reassembly_stream::ReassemblyStream;
 use crate::unordered_fragments::UnorderedFragments;
@@ -67,7 +67,15 @@ fn give_back<K: ReassemblyKey>(state: &mut UnorderedState<K>)
     }
 }
 
-/// Adds a fragment to those that are held, or as the first one. Of a message that a forward point passed only the number is kept.
+/// Whether the fragment is all of a message.
+fn is_whole(fragment: &Data) -> bool
+    ensures { (number index : ℕ) → result ≡ is_complete (as_held number index fragment.now ∷ []) }
+{
+    fragment.is_beginning && fragment.is_end
+}
+
+/// Adds a fragment to those that are held, or as the first one: one that is all of its message, where none is held, is handed on.
+/// Of a message that a forward point passed only the number is kept.
 #[tactic(auto, using(crate::proofs::ExtendsLemmas::extends_none))]
 fn add_in<K: ReassemblyKey>(
     alloc: Global,
@@ -94,6 +102,9 @@ fn add_in<K: ReassemblyKey>(
             *near = key.number().max(FIRST);
             if key.number() < *passed {
                 return Ok(());
+            }
+            if is_whole(&fragment) {
+                return hand_on(fragment, ready);
             }
             let mut fragments = Box::new(alloc, UnorderedFragments::new(alloc, *near, *passed))?;
             let added = fragments.add(key, fragment, ready);
@@ -205,14 +216,6 @@ impl<K: ReassemblyKey> ReassemblyStream for UnorderedStream<K> {
         }
     }
 
-    /// Whether fragments are held.
-    fn is_held(&self) -> bool {
-        match &self.state {
-            UnorderedState::Idle(_, _) => false,
-            UnorderedState::Holding(_) => true,
-        }
-    }
-
     /// How many bytes of payload are held.
     fn queued_bytes(&self) -> usize {
         match &self.state {
@@ -230,7 +233,7 @@ impl<K: ReassemblyKey> ReassemblyStream for UnorderedStream<K> {
     }
 
     /// Adds a fragment, unless a forward point passed its message; a message that it completes becomes ready. Takes a search
-    /// by halves, unless it does complete one.
+    /// by halves, unless it does complete one. One that is all of it, where nothing is held, is handed on.
     ///
     /// Without memory the fragment, or the message that it completes, may be lost; what was ready stays ready.
     #[tactic(auto, using(crate::proofs::ExtendsLemmas::extends_none))]

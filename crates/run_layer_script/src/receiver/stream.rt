@@ -190,7 +190,7 @@ where
             "number #, held ?, bytes #, ready #",
             &[
                 self.stream.number(),
-                self.stream.is_held() as u128,
+                (self.stream.held_fragments() > 0) as u128,
                 self.stream.queued_bytes() as u128,
                 self.ready.len() as u128,
             ],

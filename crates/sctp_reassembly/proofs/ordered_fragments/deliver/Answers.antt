@@ -1,11 +1,10 @@
 use Rattle.std.proofs.Common.{◌≡◌, ◌+◌, ◌++◌, length, suc, refl, ap, sym, subst, ◌∙◌, arith, rules}
-use Rattle.sctp_serial.specs.Messages.{message_of}
 use Rattle.sctp_fragments.specs.Held.{bytes_of, intervals_of, is_in_turn, NoneInTurn, message_of_run}
 use Rattle.sctp_fragments.specs.Interval.{held_of, run_of}
 use Rattle.sctp_reassembly.specs.Delivery.{deliver}
 use Rattle.sctp_reassembly.proofs.ExtendsLemmas.{extends_none, extends_both}
 use Rattle.sctp_reassembly.proofs.FindLemmas.{find_none, left_unfound}
-use Rattle.sctp_reassembly.proofs.DeliverLemmas.{length_found, found_passes, turn_number, deliver_step, deliver_ends, one_earlier, ready_pushed}
+use Rattle.sctp_reassembly.proofs.DeliverLemmas.{length_found, found_passes, turn_number, deliver_step, deliver_ends, one_earlier}
 use Rattle.sctp_reassembly.proofs.InterruptedLemmas.{turns_begin, turns_step, turns_end, on_err}
 use Rattle.sctp_reassembly.proofs.ordered_fragments.deliver.Goals as goal
 

@@ -1,5 +1,6 @@
 use Rattle.std.proofs.Common.{rules, ◌≡◌, true, [], ◌∷◌, ◌++◌, ap, sym, subst, ◌∙◌, arith}
 use Rattle.sctp_fragments.specs.ReassemblyKey.{pair_rank}
+use Rattle.sctp_serial.specs.Unwrapped.{origin}
 use Rattle.sctp_reassembly.specs.Delivery.{fresh_unordered}
 use Rattle.sctp_reassembly.specs.UnorderedByTsn.{NoneBelow}
 use Rattle.sctp_reassembly.specs.ReassemblyStreams.{stream_at}
@@ -9,7 +10,8 @@ use Rattle.sctp_reassembly.proofs.unordered_by_tsn.forward_noted.Goals as goal
 pub loop-note-init : goal.loop-note-init
 loop-note-init c =
     let n = pair_rank c.args.first.number c.args.first.index in
-    let rest = subst (λ m. NoneBelow m c.take_below.new.notes.keys) c.rank.ensures c.in-Some.ensures.rest in
+    let number : c.args.first.number ≡ origin = search rules in
+    let rest = subst (λ m. NoneBelow (pair_rank m c.args.first.index) c.take_below.new.notes.keys) (sym number) c.in-Some.ensures.rest in
     let parts = c.in-Some.ensures.parts ∙ ap (λ ks. ks ++ c.take_below.new.notes.keys) (sym c.into_iter-note-iterator.ensures.into_iter_gives.0) in
     record {
       same = search rules;

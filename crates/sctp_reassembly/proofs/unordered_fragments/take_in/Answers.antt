@@ -1,13 +1,11 @@
-use Rattle.std.proofs.Common.{◌≡◌, false, inr, ◌++◌, ◌∷◌, [], ◌+◌, ◌≤◌, length, ap, sym, subst, ◌∙◌, arith, rules}
+use Rattle.std.proofs.Common.{◌≡◌, false, inr, ◌++◌, ap, sym, subst, ◌∙◌, arith, rules}
 use Rattle.std.proofs.lemmas.Result.{on_ok_weaker}
 use Rattle.sctp_fragments.specs.Held.{intervals_of, is_complete, left_by, NoneComplete}
-use Rattle.sctp_serial.specs.Messages.{message_of}
 use Rattle.sctp_fragments.specs.Interval.{as_held, held_of, run_of}
-use Rattle.sctp_reassembly.specs.Delivery.{first_complete, ready_bytes}
+use Rattle.sctp_reassembly.specs.Delivery.{first_complete}
 use Rattle.sctp_reassembly.proofs.FindLemmas.{left_none}
-use Rattle.sctp_reassembly.proofs.DeliverLemmas.{added_none, nothing_more, first_complete_none, none_incomplete, none_taken, left_taken, found_taken, ready_pushed}
+use Rattle.sctp_reassembly.proofs.DeliverLemmas.{added_none, nothing_more, first_complete_none, none_incomplete, none_taken, left_taken, found_taken}
 use Rattle.sctp_reassembly.proofs.InterruptedLemmas.{on_err}
-use Rattle.sctp_reassembly.proofs.NoteLemmas.{either}
 use Rattle.sctp_reassembly.proofs.unordered_fragments.take_in.Goals as goal
 
 pub returns-then-not-branch-clause-held : goal.returns-then-not-branch-clause-held
