@@ -14,7 +14,8 @@
  *     PIGEON_SEND_OPTIONS, PIGEON_CHANNELS_OPTIONS, PIGEON_CHANNEL_OPTIONS and PIGEON_CHANNEL_STATISTICS initialize one. A later header may
  *     append fields: with an earlier, shorter size the fields that it lacks have their defaults, or aren't written; one that is longer than the
  *     library's is answered by PIGEON_INVALID_SIZE, and nothing else happens;
- *   - a buffer has as many bytes as its length says; one of length 0 may be anywhere but NULL (PIGEON_EMPTY serves);
+ *   - a buffer has as many bytes as its length says, and a list as many places; one of length 0 may be anywhere but NULL (PIGEON_EMPTY serves
+ *     for bytes);
  *   - a handle is in one call at a time, and only these functions change it: those that take it as const leave it as it is. Different handles
  *     may be in calls of different threads at once, and a handle may move to another thread: the calls of the one come before those of the
  *     other, by a lock or a join. It begins as PIGEON_NO_HANDLE, and is not copied: of two copies only one may be freed;
@@ -214,8 +215,8 @@ static inline uint32_t pigeon_check_options(const pigeon_options *options, uint3
 
 /* Makes a closed socket at moment zero. Tags, first TSNs and ties are the words of ChaCha20 (RFC 8439) whose key is the seed. Take the seed
  * from the system's random source (getrandom, getentropy), a new one for each socket, and keep it to yourself: who knows it can end or forge
- * the association. PIGEON_IN_USE, PIGEON_INVALID_SIZE, PIGEON_INVALID_ARGUMENT (a flag or checksum that there isn't, or a seed of another
- * length), PIGEON_INVALID_OPTIONS, PIGEON_NO_ROOM: the handle stays as it was. */
+ * the association. Of the options max_message_size alone can be set afterwards. PIGEON_IN_USE, PIGEON_INVALID_SIZE, PIGEON_INVALID_ARGUMENT (a
+ * flag or checksum that there isn't, or a seed of another length), PIGEON_INVALID_OPTIONS, PIGEON_NO_ROOM: the handle stays as it was. */
 uint32_t pigeon_new_sized(pigeon_socket *socket, const void *options, size_t size, const uint8_t *seed, size_t seed_size);
 static inline uint32_t pigeon_new(pigeon_socket *socket, const pigeon_options *options, const uint8_t seed[PIGEON_SEED_SIZE]) {
     return pigeon_new_sized(socket, options, options->size, seed, PIGEON_SEED_SIZE);
@@ -231,7 +232,7 @@ void pigeon_free(pigeon_socket *socket);
 uint32_t pigeon_connect(pigeon_socket *socket);
 /* No more messages are accepted, and the association ends once nothing is in flight (RFC 9260 section 9.2). What waits to be sent, or to be
  * sent again, is waited for with PIGEON_AVOID_STALLS alone, and else may be lost: wait until pigeon_is_at_rest says 1. A closed socket stays as
- * it is. Advance the time first. */
+ * it is. Call it behind PIGEON_ON_CONNECTED: before, the socket closes at once, or sends its COOKIE ECHO no more. Advance the time first. */
 uint32_t pigeon_shutdown(pigeon_socket *socket);
 /* Ends the association at once, with an ABORT to the peer (RFC 9260 section 9.1). Without PIGEON_AVOID_STALLS the send queue stays, here and
  * where the peer aborts: what it holds goes to the peer of the next association, a partly sent message from its start, but from its middle at an
@@ -257,7 +258,8 @@ uint32_t pigeon_is_at_rest(const pigeon_socket *socket, uint32_t *rest);
 /* Whether pigeon_handle_input would refuse these bytes, 1 or 0: they are no packet, or not one for this association. It takes no memory.
  * PIGEON_FAILED: the socket has failed, and takes none. */
 uint32_t pigeon_refuses(const pigeon_socket *socket, const uint8_t *bytes, size_t length, uint32_t *refused);
-/* Sets the most bytes of a message that is sent, as the peer's a=max-message-size says (RFC 8841). */
+/* Sets the most bytes of a message that is sent. At 0 each is refused, where an a=max-message-size of 0 (RFC 8841) means any. With
+ * PIGEON_AVOID_STALLS the peer may fill as much beyond the window: a peer's number is to be bounded before it is handed in. */
 uint32_t pigeon_set_max_message_size(pigeon_socket *socket, uint32_t bytes);
 /* Writes the options that the socket was made with, and the size of messages last set. PIGEON_INVALID_SIZE. */
 uint32_t pigeon_get_options_sized(const pigeon_socket *socket, void *options, size_t size);
@@ -266,12 +268,13 @@ static inline uint32_t pigeon_get_options(const pigeon_socket *socket, pigeon_op
 }
 /* The bytes of a stream that wait to be sent. */
 uint32_t pigeon_buffered_amount(const pigeon_socket *socket, uint32_t stream, size_t *bytes);
-/* How many bytes more the send queue takes, of all streams: max_send_buffer_size less what waits. At 0 each message is refused; a message is
- * taken whole where the room is above 0. */
+/* How many bytes more the send queue takes, of all streams: max_send_buffer_size less what waits. At 0 each message is refused; above it
+ * one is taken whole, if per_stream_send_queue_limit allows. */
 uint32_t pigeon_send_queue_room(const pigeon_socket *socket, size_t *bytes);
 
 /* ---- What is counted */
 
+/* Who wrote the cookie of an INIT ACK. PIGEON_PEER_OTHER is never told. */
 enum { PIGEON_PEER_UNKNOWN = 0, PIGEON_PEER_DCSCTP_RS = 1, PIGEON_PEER_DCSCTP_CC = 2, PIGEON_PEER_USRSCTP = 3, PIGEON_PEER_OTHER = 4 };
 
 typedef struct pigeon_metrics {
@@ -286,7 +289,7 @@ typedef struct pigeon_metrics {
     size_t rx_packets_count;  /* over the socket's life */
     size_t rx_messages_count; /* messages of the association that came whole */
     uint32_t peer_rwnd_bytes; /* how much the peer's window still takes */
-    uint32_t peer_implementation;
+    uint32_t peer_implementation; /* by the INIT ACK that came last, of an earlier association too; PIGEON_PEER_UNKNOWN at an end that got none */
     uint16_t negotiated_maximum_incoming_streams;
     uint16_t negotiated_maximum_outgoing_streams;
     bool uses_message_interleaving; /* RFC 8260 */
@@ -321,7 +324,8 @@ enum {
 uint32_t pigeon_handover_readiness(const pigeon_socket *socket, uint32_t *readiness);
 
 /* Hands out the socket's record, by which another socket goes on in its place; this one closes, as PIGEON_ON_CLOSED says, and the peer gets
- * nothing. `needed` becomes the record's length. PIGEON_NOT_READY: nothing changes. PIGEON_SHORT_BUFFER (and `needed` is handed out),
+ * nothing. Take what is ready first: it is acknowledged, and not in the record. Free this one then: its queue stays, and would go out twice.
+ * `needed` becomes the record's length. PIGEON_NOT_READY: nothing changes. PIGEON_SHORT_BUFFER (and `needed` is handed out),
  * PIGEON_NO_ROOM: the socket has closed, and its record stays for the next call, before any other. A packet of the association that is handed
  * in meanwhile is refused with an error, and lost. */
 uint32_t pigeon_handover(pigeon_socket *socket, size_t *needed, uint8_t *buffer, size_t length);
@@ -365,7 +369,8 @@ typedef struct pigeon_send_options {
 
 /* Queues a message, which is copied, and sends as much as may be sent. Advance the time first: lifetime, round trip and retransmission count
  * from the clock's moment. A full queue emits an error at each call: offer no more until PIGEON_BUFFERED_AMOUNT_LOW of the stream, or
- * PIGEON_TOTAL_BUFFERED_AMOUNT_LOW. A message that is refused isn't queued. PIGEON_INVALID_ARGUMENT: flags that there aren't, or a
+ * PIGEON_TOTAL_BUFFERED_AMOUNT_LOW. PIGEON_EMPTY_PAYLOAD, PIGEON_MESSAGE_TOO_LARGE, PIGEON_SHUTTING_DOWN, PIGEON_QUEUE_FULL: it isn't
+ * queued, and emits PIGEON_LIFECYCLE_END of its lifecycle, then PIGEON_ON_ERROR. PIGEON_INVALID_ARGUMENT: flags that there aren't, or a
  * max_retransmissions above 65,535. PIGEON_INVALID_SIZE. PIGEON_NO_ROOM: there is no memory for the copy. */
 uint32_t pigeon_send_sized(pigeon_socket *socket, uint32_t stream, uint32_t ppid, const uint8_t *payload, size_t length, const void *options,
                            size_t size);
@@ -382,10 +387,10 @@ typedef struct pigeon_outgoing {
     size_t length;
 } pigeon_outgoing;
 
-/* Queues copies of several messages, all by the same options, and sends then; advance the time first. The first `count` of the numbers at
- * `answers` become what pigeon_send would answer for each; PIGEON_SOME_REFUSED where not all are PIGEON_OK, and the others are queued all the same.
- * PIGEON_INVALID_SIZE and PIGEON_INVALID_ARGUMENT as of pigeon_send; PIGEON_SHORT_BUFFER: `answered` is less than `count`;
- * PIGEON_INVALID_STREAM: a stream is above 65,535; PIGEON_NO_ROOM: no memory for the copies. After one of these five nothing is queued. */
+/* Queues copies of several messages, all by the same options, so that all have one lifecycle, and sends then; advance the time first. The first
+ * `count` of the numbers at `answers` become what pigeon_send would answer for each; PIGEON_SOME_REFUSED where not all are PIGEON_OK, and the
+ * others are queued all the same. PIGEON_INVALID_SIZE and PIGEON_INVALID_ARGUMENT as of pigeon_send; PIGEON_SHORT_BUFFER: `answered` is less than
+ * `count`; PIGEON_INVALID_STREAM: a stream is above 65,535; PIGEON_NO_ROOM: no memory for the copies. After one of these five nothing is queued. */
 uint32_t pigeon_send_many_sized(pigeon_socket *socket, const pigeon_outgoing *messages, size_t count, const void *options, size_t size,
                                 uint32_t *answers, size_t answered);
 static inline uint32_t pigeon_send_many(pigeon_socket *socket, const pigeon_outgoing *messages, size_t count,
@@ -400,7 +405,7 @@ typedef struct pigeon_message {
 } pigeon_message;
 
 /* Hands out the message that was ready first. PIGEON_SHORT_BUFFER: it stays, and `length` says what it needs. Messages go with their
- * association: once it has ended none is ready, so take them each turn. With PIGEON_AVOID_STALLS the peer may have to be told that there is room
+ * association, which the next packet may end: take them behind each packet. With PIGEON_AVOID_STALLS the peer may have to be told that there is room
  * again: then pigeon_poll_timeout names this moment, so ask behind the last message. */
 uint32_t pigeon_next_message(pigeon_socket *socket, pigeon_message *message, uint8_t *buffer, size_t length);
 
@@ -420,16 +425,16 @@ typedef struct pigeon_given_up {
     uint32_t retransmissions; /* of PIGEON_CAUSE_RETRANSMISSIONS: how often */
 } pigeon_given_up;
 
-/* Takes the record of the message that was given up first. PIGEON_NOTHING: there is none. */
+/* Takes the record of the message that was given up first. Take all of them each turn, since they pile up. PIGEON_NOTHING: there is none. */
 uint32_t pigeon_next_given_up(pigeon_socket *socket, pigeon_given_up *record);
 
 /* ---- Events */
 
 enum {
     PIGEON_SEND_PACKET = 0, /* the buffer has a packet to be sent to the peer */
-    PIGEON_ON_CONNECTED = 1,
+    PIGEON_ON_CONNECTED = 1, /* what came with the peer's COOKIE ECHO is ready by then; on channels it is told before */
     PIGEON_ON_CLOSED = 2,
-    PIGEON_ON_CONNECTION_RESTARTED = 3, /* messages may be lost (RFC 9260 section 5.2) */
+    PIGEON_ON_CONNECTION_RESTARTED = 3, /* the peer began anew: messages may be lost, what waits stays, and PIGEON_ON_CONNECTED follows */
     PIGEON_ON_ABORTED = 4,              /* the socket was closed for `error`; the buffer has its text */
     PIGEON_ON_ERROR = 5,                /* `error` closes nothing; the buffer has its text */
     PIGEON_BUFFERED_AMOUNT_LOW = 6,     /* of `stream` */
@@ -437,16 +442,16 @@ enum {
     PIGEON_STREAMS_RESET_FAILED = 8, /* of these three the buffer has the streams, each a uint16_t of this processor: pigeon_stream_at */
     PIGEON_STREAMS_RESET_PERFORMED = 9,
     PIGEON_INCOMING_STREAM_RESET = 10, /* all, where none is named */
-    PIGEON_LIFECYCLE_FULLY_SENT = 11,  /* of the message with the number `lifecycle` */
-    PIGEON_LIFECYCLE_MAYBE_EXPIRED = 12,
-    PIGEON_LIFECYCLE_EXPIRED = 13,
-    PIGEON_LIFECYCLE_DELIVERED = 14,
-    PIGEON_LIFECYCLE_END = 15,
+    PIGEON_LIFECYCLE_FULLY_SENT = 11,  /* of the message with the number `lifecycle`: its last fragment went out */
+    PIGEON_LIFECYCLE_MAYBE_EXPIRED = 12, /* it was given up after that: the peer may have it */
+    PIGEON_LIFECYCLE_EXPIRED = 13,     /* it was given up, or dropped, before that */
+    PIGEON_LIFECYCLE_DELIVERED = 14,   /* the peer acknowledged it for good */
+    PIGEON_LIFECYCLE_END = 15,         /* nothing more is told of it; of a message that was refused this alone is */
     /* These come from pigeon_channels_borrow_event alone; `stream` is the channel's number. */
-    PIGEON_CHANNEL_OPENED = 16, /* the peer has opened it, or has answered, by a message at least */
+    PIGEON_CHANNEL_OPENED = 16, /* the peer has opened it, or has answered, by a message at least; may come before PIGEON_ON_CONNECTED */
     PIGEON_CHANNEL_TEXT = 17,   /* a message of text; the bytes are it, and may be none. That they are UTF-8 is the peer's word, and isn't tested */
     PIGEON_CHANNEL_BINARY = 18, /* a message of bytes */
-    PIGEON_CHANNEL_CLOSED = 19, /* whoever closed it; its number is free, unless the peer refused the reset */
+    PIGEON_CHANNEL_CLOSED = 19, /* whoever closed it; its number is free, or its reset was refused, and messages may follow */
     PIGEON_CHANNEL_REFUSED = 20 /* something that came was not taken, for `error`, one of PIGEON_REFUSED_.. */
 };
 
@@ -485,7 +490,7 @@ static inline uint16_t pigeon_stream_at(const uint8_t *bytes, size_t place) {
 
 /* Hands out the event that was emitted first. Take all of them each turn: those that wait are kept, however many there are.
  * PIGEON_SHORT_BUFFER: it stays, and `length` says what it needs. PIGEON_NO_ROOM, which events of streams alone answer: it stays.
- * PIGEON_INVALID_SIZE. Packets need at most the options' mtu. */
+ * PIGEON_INVALID_SIZE. Packets need at most the options' mtu, texts more; what stays holds back all behind it. */
 uint32_t pigeon_poll_event_sized(pigeon_socket *socket, void *event, size_t size, uint8_t *buffer, size_t length);
 static inline uint32_t pigeon_poll_event(pigeon_socket *socket, pigeon_event *event, uint8_t *buffer, size_t length) {
     return pigeon_poll_event_sized(socket, event, event->size, buffer, length);
@@ -515,6 +520,9 @@ static inline uint32_t pigeon_borrow_event(pigeon_socket *socket, pigeon_event *
  * says it. Channels end with their association, each with its PIGEON_CHANNEL_CLOSED before PIGEON_ON_CLOSED, PIGEON_ON_ABORTED or
  * PIGEON_ON_CONNECTION_RESTARTED; a record that is handed over has none.
  *
+ * Of each packet messages are told before events. So what comes with a COOKIE ECHO is told before PIGEON_ON_CONNECTED; and where the peer restarts
+ * it is told as of the old channels, then all of these are closed, also one that it opened. What the old ones had queued goes out all the same.
+ *
  * Each of these calls answers PIGEON_NO_CHANNELS where there are none, and PIGEON_INVALID_STREAM for a number above 65,535. PIGEON_MEMORY: channels
  * and socket have failed, and the socket is to be freed.
  */
@@ -526,7 +534,7 @@ enum { PIGEON_ROLE_CLIENT = 0, PIGEON_ROLE_SERVER = 1 };
 typedef struct pigeon_channels_options {
     size_t size; /* sizeof(pigeon_channels_options) */
     uint32_t role;
-    uint32_t max_message_size;      /* own a=max-message-size (RFC 8841): a longer message that comes is refused */
+    uint32_t max_message_size;      /* own a=max-message-size (RFC 8841): longer messages that come are refused; at 0 all but empty ones */
     uint32_t peer_max_message_size; /* the peer's, 65,536 where its description has none: a longer message isn't sent; any is at 0 */
     uint32_t max_buffered_amount;   /* a message by which more than this would wait on its channel isn't taken */
 } pigeon_channels_options;
@@ -564,7 +572,8 @@ static inline uint32_t pigeon_channel_open(pigeon_socket *socket, const pigeon_c
                                      strlen(protocol), channel);
 }
 
-/* A channel that both ends have agreed on beforehand, by any number that is free; it is open at once. PIGEON_INVALID_SIZE, PIGEON_INVALID_ARGUMENT,
+/* A channel that both ends have agreed on beforehand, by any number that is free; it is open at once. Whether the association
+ * has its stream isn't looked at: negotiated_maximum_outgoing_streams of the metrics says it. PIGEON_INVALID_SIZE, PIGEON_INVALID_ARGUMENT,
  * PIGEON_NOT_UTF8, PIGEON_STREAM_IN_USE, PIGEON_NO_ROOM: nothing changes. */
 uint32_t pigeon_channel_negotiate_sized(pigeon_socket *socket, uint32_t channel, const void *options, size_t size, const uint8_t *label,
                                         size_t label_length, const uint8_t *protocol, size_t protocol_length);
@@ -576,11 +585,13 @@ static inline uint32_t pigeon_channel_negotiate(pigeon_socket *socket, uint32_t 
 
 /* Sends a copy of a message; `kind` is PIGEON_CHANNEL_TEXT or PIGEON_CHANNEL_BINARY, and the message may be empty. Advance the time first.
  * PIGEON_INVALID_ARGUMENT (another kind), PIGEON_NO_CHANNEL, PIGEON_CHANNEL_CLOSING, PIGEON_NOT_UTF8, PIGEON_MESSAGE_TOO_LARGE (for the peer),
- * PIGEON_QUEUE_FULL (max_buffered_amount: go on at PIGEON_BUFFERED_AMOUNT_LOW), PIGEON_NOT_TAKEN, PIGEON_NO_ROOM: it isn't sent. */
+ * PIGEON_QUEUE_FULL (max_buffered_amount, which a longer message always exceeds: go on at PIGEON_BUFFERED_AMOUNT_LOW, where more than the threshold
+ * waits), PIGEON_NOT_TAKEN (where the queue of all is full: go on at PIGEON_TOTAL_BUFFERED_AMOUNT_LOW), PIGEON_NO_ROOM: it isn't sent. */
 uint32_t pigeon_channel_send(pigeon_socket *socket, uint32_t channel, uint32_t kind, const uint8_t *payload, size_t length);
 
-/* Closes a channel: what was accepted is sent, then its stream is reset. PIGEON_CHANNEL_CLOSED tells when its number is free. Advance the time first.
- * PIGEON_NO_CHANNEL. */
+/* Closes a channel: what was accepted is sent, then its stream is reset. PIGEON_CHANNEL_CLOSED tells when that is done. Where the reset is
+ * refused (no association yet, a peer without RFC 6525, or one that denies it) its number stays in use until the association ends. Advance the time
+ * first. PIGEON_NO_CHANNEL. */
 uint32_t pigeon_channel_close(pigeon_socket *socket, uint32_t channel);
 
 /* Why something that came was not taken. */
