@@ -1,11 +1,11 @@
 # SPDX-License-Identifier: Apache-2.0
 """SCTP as data channels have it, without system calls: packets and moments go in, events come out.
 
-`Channels` is a socket with data channels, `Socket` one with streams; `shelfpigeon.aio` drives the first by asyncio, and `use_for(aiortc)` has
-aiortc speak by it. include/shelfpigeon.h of the repository says at each call what it does."""
+`Channels` is a socket with data channels, `Socket` one with streams; `aio` drives the first by asyncio, and `use_for(aiortc)` has aiortc speak by
+it. include/shelfpigeon.h of the repository says at each call what it does."""
 from __future__ import annotations
 
-from . import events
+from . import aio, events
 from .channels import Channel, Channels
 from .declarations import Metrics, Statistics, library, text
 from .names import (
@@ -46,5 +46,5 @@ def use_for(aiortc, **settings) -> None:
 __all__ = [
     "Answer", "Cause", "Channel", "Channels", "Checksum", "ErrorKind", "GivenUp", "InvalidArgument", "Kind", "Message", "MessageTooLarge",
     "Metrics", "NoChannel", "NoRoom", "OptionFlags", "Options", "Peer", "PigeonError", "QueueFull", "Readiness", "Refusal", "Role", "Socket",
-    "SocketFailed", "State", "Statistics", "Text", "ZeroChecksum", "describe_packet", "events", "library", "text", "use_for",
+    "SocketFailed", "State", "Statistics", "Text", "ZeroChecksum", "aio", "describe_packet", "events", "library", "text", "use_for",
 ]  # fmt: skip

@@ -1,5 +1,6 @@
 # SPDX-License-Identifier: Apache-2.0
-"""Data channels by asyncio: a `Connection` has the clock and the timer of its socket, and holds back who sends more than the peer takes.
+"""Data channels by asyncio: a `Connection` has the clock and the timer of its socket, and holds back who sends more than the peer takes. It is made,
+and called, in a running loop.
 
     connection = shelfpigeon.aio.open_udp(("127.0.0.1", 5001), ("127.0.0.1", 5002), role=Role.CLIENT)   # an end; UDP alone is for trusted networks
     await connection.connect()
@@ -26,6 +27,19 @@ from .sockets import Options
 
 logger = logging.getLogger(__name__)
 Address = tuple[str, int]
+LARGEST = 262144
+
+
+def options_for(max_message_size: int, /, **fields: int) -> Options:
+    """`Options.for_webrtc` where messages of so many bytes are taken: the window is twice that, and as many may be sent. Neither is less than without,
+    but as the fields say."""
+    largest = max(max_message_size, LARGEST)
+    return Options.for_webrtc(**{"max_message_size": largest, "max_receiver_window_buffer_size": min(2 * largest, 2**32 - 1), **fields})
+
+
+def sent_at_most(options: OptionsStruct, peer_max_message_size: int) -> int:
+    """The most bytes of a message that both the socket and the peer, who takes any at 0, let go."""
+    return min(peer_max_message_size or options.max_message_size, options.max_message_size)
 
 
 class Driver:
@@ -149,7 +163,9 @@ class ChannelClosed(ConnectionError):
 
 
 class Channel:
-    """A data channel: `send` waits while too much is buffered, `receive` and `async for` take what comes, until it is closed."""
+    """A data channel: `send` waits while too much is buffered, `receive` and `async for` take what comes, until it is closed.
+
+    Who has waited goes on once half of `high_water` is buffered, whether the rest was sent or given up."""
 
     def __init__(self, connection: Connection, channel: PlainChannel):
         self._connection = connection
@@ -180,6 +196,7 @@ class Channel:
         self._alive()
         while self._channel.buffered_amount >= self._connection.high_water:
             self._room.clear()
+            self._connection._held_back.add(self)
             await self._room.wait()
             self._alive()
         self._connection._driver.advance()
@@ -227,7 +244,8 @@ class Connection:
     """An association with data channels over a wire. `packet_received` takes what comes by it.
 
     Each channel buffers `high_water` bytes, then `Channel.send` waits. With `read_limit` bytes that came and weren't received the wire is told to
-    pause: what it then drops the peer sends again, and slower."""
+    pause: what it then drops the peer sends again, and slower. Without `options` the window is twice `max_message_size`, which is what the peer may
+    send, and as long a message may be sent, 262,144 bytes at least, where `peer_max_message_size` allows it."""
 
     def __init__(
         self,
@@ -240,18 +258,20 @@ class Connection:
         high_water: int = 1 << 20,
         read_limit: int = 4 << 20,
     ):
+        options = options_for(max_message_size) if options is None else options
         channels = Channels(
             role,
-            Options.for_webrtc() if options is None else options,
+            options,
             max_message_size=max_message_size,
-            peer_max_message_size=peer_max_message_size,
+            peer_max_message_size=sent_at_most(options, peer_max_message_size),
             max_buffered_amount=2**32 - 1,
         )
         self.high_water, self.read_limit = high_water, read_limit
         self.error: Optional[events.Aborted] = None
         self._wire, self._paused, self._unread = wire, False, 0
-        self._driver = Driver(channels, wire.send, self._handle, self._end)
+        self._driver = Driver(channels, wire.send, self._handle, self._end, self._turned)
         self._channels: dict[PlainChannel, Channel] = {}
+        self._held_back: set[Channel] = set()
         self._accepted: deque[Channel] = deque()
         self._news = asyncio.Event()
         self._connected, self._closed = asyncio.Event(), asyncio.Event()
@@ -373,6 +393,13 @@ class Connection:
             case events.Reported() | events.ChannelRefused() | events.Restarted():
                 logger.info("%s", event)
 
+    def _turned(self) -> None:
+        """Where messages were given up no event says that there is room again."""
+        for channel in list(self._held_back):
+            if channel.buffered_amount <= self.high_water // 2:
+                self._held_back.discard(channel)
+                channel._room.set()
+
     def _read(self, message: Union[str, bytes]) -> None:
         self._unread -= len(message)
         if self._paused and self._unread <= self.read_limit // 2:
@@ -381,6 +408,7 @@ class Connection:
 
     def _end(self) -> None:
         self._driver.stop()
+        self._held_back.clear()
         for channel in list(self._channels.values()):
             channel._end()
         for it in (self._connected, self._closed, self._news):

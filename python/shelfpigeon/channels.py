@@ -14,8 +14,8 @@ from .sockets import End
 
 
 class Channel:
-    """A data channel. Its number, `id`, is free for another one once it is closed, unless the peer refused the reset. One that has ended before
-    its owner took the event of its opening has no label."""
+    """A data channel. Its number, `id`, is free for another one once it is closed, unless its reset was refused. One that has ended before its
+    owner took the event of its opening has no label."""
 
     def __init__(self, channels: Channels, id: int):
         self._channels = channels
@@ -85,7 +85,8 @@ class Channels(End):
     """A socket with data channels.
 
     A turn: `advance_time`; `handle_input` for each packet that came, and what is opened, sent and closed; all `events`; `poll_timeout`.
-    `max_message_size` is one's own a=max-message-size, `peer_max_message_size` the peer's, 65,536 where it says none; any is taken at 0."""
+    `max_message_size` is one's own a=max-message-size, `peer_max_message_size` the peer's, 65,536 where it says none: at 0 any is sent. At an own 0
+    only empty messages are taken."""
 
     def __init__(
         self,
@@ -143,7 +144,7 @@ class Channels(End):
         lifetime: Optional[int] = None,
         priority: int = 256,
     ) -> Channel:
-        """A channel that both ends have agreed on; it is open at once."""
+        """A channel that both ends have agreed on; it is open at once. Whether the association has its stream isn't looked at."""
         options = channel_options(ordered, max_retransmissions, lifetime, priority)
         name, spoken = label.encode(), protocol.encode()
         check(
@@ -163,12 +164,14 @@ class Channels(End):
         if kind is None:
             return None
         stream, error = self._event.stream, self._event.error
+        if kind == Kind.BUFFERED_AMOUNT_LOW and stream in self._channels:
+            return ChannelBufferedAmountLow(self._channels[stream])
+        if kind in (Kind.CHANNEL_OPENED, Kind.CHANNEL_TEXT, Kind.CHANNEL_BINARY) and self._is_behind_its_end(kind, stream):
+            return ChannelRefused(stream, Refusal.NO_CHANNEL)
         if kind == Kind.CHANNEL_TEXT:
             return ChannelMessage(self._channels[stream], self._bytes().decode(errors="replace"))
         if kind == Kind.CHANNEL_BINARY:
             return ChannelMessage(self._channels[stream], self._bytes())
-        if kind == Kind.BUFFERED_AMOUNT_LOW and stream in self._channels:
-            return ChannelBufferedAmountLow(self._channels[stream])
         if kind == Kind.CHANNEL_OPENED:
             return ChannelOpened(self._known(stream))
         if kind == Kind.CHANNEL_CLOSED:
@@ -183,6 +186,11 @@ class Channels(End):
         """Takes all events, also those that come meanwhile."""
         while (event := self.next_event()) is not None:
             yield event
+
+    def _is_behind_its_end(self, kind: int, id: int) -> bool:
+        """Whether an event is of a channel that was told as closed: where its reset was refused some may follow. An opening that isn't known is the
+        peer's where the stream is the peer's to open."""
+        return id not in self._channels and (kind != Kind.CHANNEL_OPENED or id % 2 == self.role)
 
     def _known(self, id: int) -> Channel:
         if id not in self._channels:

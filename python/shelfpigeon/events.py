@@ -30,7 +30,7 @@ class Closed:
 
 @dataclass(slots=True)
 class Restarted:
-    """The peer began anew: messages may be lost."""
+    """The peer began anew: messages may be lost, what waits stays, and Connected follows."""
 
 
 @dataclass(slots=True)
@@ -82,7 +82,7 @@ class Lifecycle:
 
 @dataclass(slots=True)
 class ChannelOpened:
-    """The peer has opened the channel, or has answered, by a message at least."""
+    """The peer has opened the channel, or has answered, by a message at least. It may come before Connected."""
 
     channel: Channel
 
@@ -104,7 +104,7 @@ class ChannelBufferedAmountLow:
 
 @dataclass(slots=True)
 class ChannelClosed:
-    """Whoever closed it."""
+    """Whoever closed it. What comes on it afterwards, where its reset was refused, is a ChannelRefused."""
 
     channel: Channel
 

@@ -18,18 +18,18 @@ from aiortc.rtcdatachannel import RTCDataChannel, RTCDataChannelParameters  # ty
 from aiortc.rtcsctptransport import RTCSctpCapabilities, RTCSctpTransport  # type: ignore[import]
 
 from . import events
-from .aio import Driver
+from .aio import Driver, options_for, sent_at_most
 from .channels import Channel, Channels
 from .names import MessageTooLarge, NoChannel, QueueFull, Role
-from .sockets import Options
 
 logger = logging.getLogger(__name__)
 
 
 @dataclass
 class Settings:
-    """`options` are fields of `Options` that are to have another value, `max_message_size` is the a=max-message-size that is announced, and
-    `max_buffered_amount` what a channel buffers before `send` raises OperationError."""
+    """`options` are fields of `Options` that are to have another value, `max_message_size` is the a=max-message-size that is announced, by which the
+    window is twice as wide, and `max_buffered_amount` what a channel buffers before `send` raises OperationError. Messages that are sent have at most
+    `max_message_size` bytes or 262,144, whichever is more, where the peer takes them: at a longer one `send` raises ValueError."""
 
     max_message_size: int = 262144
     max_buffered_amount: int = 16777216
@@ -84,12 +84,12 @@ class SctpTransport(RTCSctpTransport):
             return
         settings = self.settings
         ports = {"local_port": self._local_port, "remote_port": remotePort or 5000}
-        own = {"max_message_size": max(settings.max_message_size, 262144), **ports, **settings.options}
+        options = options_for(settings.max_message_size, **{**ports, **settings.options})
         channels = Channels(
             Role.SERVER if self.is_server else Role.CLIENT,
-            Options.for_webrtc(**own),
+            options,
             max_message_size=settings.max_message_size,
-            peer_max_message_size=remoteCaps.maxMessageSize if remoteCaps else 65536,
+            peer_max_message_size=sent_at_most(options, remoteCaps.maxMessageSize if remoteCaps else 65536),
             max_buffered_amount=settings.max_buffered_amount,
         )
         self._state_name = "connecting"

@@ -142,7 +142,8 @@ class End:
         check(self._library.pigeon_connect(self._at))
 
     def shutdown(self) -> None:
-        """Ends the association once nothing is in flight. Without `OptionFlags.AVOID_STALLS` what waits isn't waited for: see `is_at_rest`."""
+        """Ends the association once nothing is in flight. Without `OptionFlags.AVOID_STALLS` what waits isn't waited for: see `is_at_rest`. To be
+        called once the association is there."""
         check(self._library.pigeon_shutdown(self._at))
 
     def close(self) -> None:
@@ -175,7 +176,8 @@ class End:
         return options
 
     def set_max_message_size(self, size: int) -> None:
-        """Sets the most bytes of a message that is sent."""
+        """Sets the most bytes of a message that is sent; at 0 each is refused. With `OptionFlags.AVOID_STALLS` the peer may fill as much beyond the
+        window."""
         check(self._library.pigeon_set_max_message_size(self._at, size))
 
     def buffered_amount(self, stream: int) -> int:
@@ -186,7 +188,7 @@ class End:
         return self._read(self._library.pigeon_buffered_amount_low_threshold, c_size_t, stream)
 
     def set_buffered_amount_low_threshold(self, stream: int, size: int) -> None:
-        """Sets at which amount an event says that more may be sent."""
+        """Sets at which amount an event says that more may be sent. None says it where messages are given up."""
         check(self._library.pigeon_set_buffered_amount_low_threshold(self._at, stream, size))
 
     @property
@@ -211,7 +213,7 @@ class End:
         check(self._library.pigeon_set_stream_priority(self._at, stream, priority))
 
     def next_given_up(self) -> Optional[GivenUp]:
-        """Takes the record of the message that was given up first."""
+        """Takes the record of the message that was given up first, or None. Those that aren't taken pile up."""
         record = GivenUpStruct()
         answer = self._library.pigeon_next_given_up(self._at, byref(record))
         if answer == Answer.NOTHING:
@@ -258,7 +260,8 @@ PLAIN: dict[int, type[Connected | Closed | Restarted | TotalBufferedAmountLow]] 
 class Socket(End):
     """A socket whose messages its owner sends and takes by streams. `Channels` is one with data channels.
 
-    A turn: `advance_time`; `handle_input` for each packet that came, and what is to be sent; all `events` and `messages`; `poll_timeout`."""
+    A turn: `advance_time`; for each packet that came `handle_input`, then all `messages`, since the next packet may end the association, and what is
+    ready goes with it; what is to be sent; all `events`; `next_given_up` until it answers None; `poll_timeout`. What isn't taken piles up."""
 
     def handle_input(self, packet: bytes) -> None:
         """Takes the bytes of a packet that came."""
@@ -275,7 +278,7 @@ class Socket(End):
             yield event
 
     def poll_event(self, size: int = 65536) -> Optional[SocketEvent]:
-        """As `next_event`, by a buffer of this size."""
+        """As `next_event`, by a buffer of this size. PigeonError: what doesn't fit stays, and holds back all behind it."""
         buffer, event = create_string_buffer(size), self._event
         answer = self._library.pigeon_poll_event_sized(self._at, byref(event), sizeof(event), buffer, size)
         if answer == Answer.NOTHING:
@@ -326,7 +329,7 @@ class Socket(End):
         lifetime: Optional[int] = None,
         lifecycle: int = 0,
     ) -> list[Answer]:
-        """Queues several messages, each a stream, a payload protocol identifier and bytes. Says what became of each."""
+        """Queues several messages, each a stream, a payload protocol identifier and bytes. Says what became of each. All have the one lifecycle."""
         options, count = send_options(unordered, max_retransmissions, lifetime, lifecycle), len(messages)
         given = (OutgoingStruct * max(count, 1))(*[OutgoingStruct(stream, ppid, data, len(data)) for stream, ppid, data in messages])
         answers = (c_uint32 * max(count, 1))()
@@ -349,7 +352,7 @@ class Socket(End):
         return Readiness(self._read(self._library.pigeon_handover_readiness, c_uint32))
 
     def handover(self) -> bytes:
-        """Hands out the record of the socket, which closes."""
+        """Hands out the record of the socket, which closes and is to be freed. What is ready is to be taken before."""
         needed = c_size_t(4096)
         while True:
             buffer = create_string_buffer(max(needed.value, 1))

@@ -111,6 +111,34 @@ async def test_who_sends_is_held_back():
 
 
 @run
+async def test_who_sends_goes_on_where_all_that_waits_is_given_up():
+    a, b = await pair(high_water=20000)
+    channel = a.open("short", lifetime=50)
+    await channel.opened()
+    a._wire.rate = 1.0
+
+    async def send():
+        for _ in range(30):
+            await channel.send(bytes(2000))
+
+    sending = asyncio.ensure_future(send())
+    await asyncio.sleep(0.2)
+    assert not sending.done()
+    a._wire.rate = 0.0
+    await asyncio.wait_for(sending, 20)
+    assert channel.buffered_amount <= 20000
+    await asyncio.gather(a.close(), b.close())
+
+
+def test_the_window_is_twice_the_largest_message():
+    for size, window in ((0, 524288), (262144, 524288), (1 << 20, 1 << 21), (2**32 - 1, 2**32 - 1)):
+        options = aio.options_for(size)
+        assert (options.max_message_size, options.max_receiver_window_buffer_size) == (max(size, 262144), window)
+    assert aio.options_for(1 << 20, max_message_size=9, mtu=1200).max_message_size == 9
+    assert [aio.sent_at_most(aio.options_for(0), it) for it in (0, 1000, 1 << 40)] == [262144, 1000, 262144]
+
+
+@run
 async def test_who_does_not_read_has_the_wire_paused():
     a, b = await pair(read_limit=200000)
     channel = a.open("much")

@@ -257,6 +257,22 @@ def test_channels_that_are_agreed_on(channels):
     assert channels.came(b) == ["by the last number"]
 
 
+def test_what_comes_behind_a_reset_that_was_refused():
+    with Channels(Role.CLIENT) as a, Channels(Role.SERVER) as b:
+        world = World(a, b)
+        mine, theirs = a.negotiate(5), b.negotiate(5)
+        mine.close()  # its reset is refused, as there is no association
+        a.connect()
+        world.settle()
+        assert events.ChannelClosed(mine) in world.told[a] and mine.is_closed
+        theirs.send("late")
+        theirs.send(b"later")
+        world.settle()
+        assert world.told[a].count(events.ChannelRefused(5, Refusal.NO_CHANNEL)) == 2
+        with pytest.raises(InvalidArgument):
+            a.negotiate(5)
+
+
 def test_what_channels_refuse(channels):
     a, b = channels.ends
     chat = a.open("chat")
