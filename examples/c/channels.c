@@ -18,13 +18,16 @@ static const uint8_t *seed_of(uint8_t number) {
     return seed;
 }
 
-/* Says what a channel is that the peer has opened, or has answered. */
+/* Says what a channel is that the peer has opened, or has answered. By now it may be gone: then its end is among the events behind this one. */
 static void show_channel(const char *name, const pigeon_socket *end, uint32_t channel) {
+    static char label[65535]; /* no label is longer */
     pigeon_channel_options options = PIGEON_CHANNEL_OPTIONS;
-    char label[64];
     size_t length;
+    if (pigeon_channel_label(end, channel, &length, label, sizeof label) == PIGEON_NO_CHANNEL) {
+        printf("%s: channel %u was open\n", name, (unsigned)channel);
+        return;
+    }
     must("get_options", pigeon_channel_get_options(end, channel, &options));
-    must("label", pigeon_channel_label(end, channel, &length, label, sizeof label));
     printf("%s: channel %u is open: \"%.*s\", %s\n", name, (unsigned)channel, (int)length, label,
            options.flags & PIGEON_UNORDERED ? "unordered" : "ordered");
 }

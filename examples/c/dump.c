@@ -32,6 +32,15 @@ static void dump(char direction, uint64_t now, const uint8_t *bytes, size_t leng
     printf("\n");
 }
 
+/* What is ready is kept until it is taken, and so are records of messages that were given up. */
+static void let_go(pigeon_socket *end) {
+    const uint8_t *payload;
+    pigeon_message message;
+    pigeon_given_up record;
+    while (pigeon_borrow_message(end, &message, &payload) == PIGEON_OK) {}
+    while (pigeon_next_given_up(end, &record) == PIGEON_OK) {}
+}
+
 static int pass(char direction, pigeon_socket *from, pigeon_socket *to, uint64_t now) {
     const uint8_t *bytes;
     pigeon_event event = PIGEON_EVENT;
@@ -40,6 +49,7 @@ static int pass(char direction, pigeon_socket *from, pigeon_socket *to, uint64_t
         if (event.kind == PIGEON_SEND_PACKET) {
             dump(direction, now, bytes, event.length);
             must("handle_input", pigeon_handle_input(to, bytes, event.length));
+            let_go(to);
             packets++;
         }
     return packets;

@@ -3,6 +3,7 @@
 #include "places.h"
 #include "shelfpigeon.h"
 #include <stdio.h>
+#include <stdlib.h>
 #include <string.h>
 
 static int wrong;
@@ -144,18 +145,31 @@ static void not_made(pigeon_options options) {
     is("none was made", end.at == NULL, 1);
 }
 
+/* Copies the next event into a buffer that grows as it needs: texts are longer than packets, and what doesn't fit holds back all behind it. */
+static uint32_t poll_any(pigeon_socket *end, pigeon_event *event, uint8_t **buffer, size_t *room) {
+    uint32_t answer = pigeon_poll_event(end, event, *buffer, *room);
+    if (answer != PIGEON_SHORT_BUFFER)
+        return answer;
+    free(*buffer);
+    *buffer = malloc(event->length);
+    *room = *buffer ? event->length : 0;
+    return *buffer ? pigeon_poll_event(end, event, *buffer, *room) : PIGEON_NO_ROOM;
+}
+
 /* Hands the packets of one end to the other, four times. */
 static void pass_packets(pigeon_socket *from, pigeon_socket *to) {
-    uint8_t buffer[1500];
+    size_t room = 1;
+    uint8_t *buffer = malloc(room);
     pigeon_event event = PIGEON_EVENT;
-    for (int turn = 0; turn < 4; turn++) {
-        while (pigeon_poll_event(from, &event, buffer, sizeof buffer) == PIGEON_OK)
+    for (int turn = 0; buffer && turn < 4; turn++) {
+        while (poll_any(from, &event, &buffer, &room) == PIGEON_OK)
             if (event.kind == PIGEON_SEND_PACKET)
                 is("input", pigeon_handle_input(to, buffer, event.length), PIGEON_OK);
         pigeon_socket *other = from;
         from = to;
         to = other;
     }
+    free(buffer);
 }
 
 /* Of a batch each message has its answer, and a refused one keeps no other back. */

@@ -27,14 +27,25 @@ static const uint8_t *seed_of(uint8_t number) {
     return seed;
 }
 
-/* Takes all that a socket emits, and hands its packets to the other end. Answers how many there were. */
-static int take_packets(pigeon_socket *from, pigeon_socket *to) {
+/* Takes the messages that are ready, and counts those that are as they were sent; and the records of those that were given up. */
+static void take_messages(pigeon_socket *end, int *taken) {
+    const uint8_t *payload;
+    pigeon_message message;
+    pigeon_given_up record;
+    while (pigeon_borrow_message(end, &message, &payload) == PIGEON_OK)
+        *taken += message.length == 9 && memcmp(payload, "a message", 9) == 0;
+    while (pigeon_next_given_up(end, &record) == PIGEON_OK) {}
+}
+
+/* Takes all that a socket emits, and hands its packets to the other end, whose messages are taken behind each. Answers how many there were. */
+static int take_packets(pigeon_socket *from, pigeon_socket *to, int *taken) {
     const uint8_t *bytes;
     pigeon_event event = PIGEON_EVENT;
     int packets = 0;
     while (pigeon_borrow_event(from, &event, &bytes) == PIGEON_OK)
         if (event.kind == PIGEON_SEND_PACKET) {
             must("handle_input", pigeon_handle_input(to, bytes, event.length));
+            take_messages(to, taken);
             packets++;
         }
     return packets;
@@ -43,16 +54,12 @@ static int take_packets(pigeon_socket *from, pigeon_socket *to) {
 static void *lead(void *given) {
     pair *ends = given;
     pigeon_send_options plainly = PIGEON_SEND_OPTIONS;
-    pigeon_message message;
-    const uint8_t *payload;
     must("connect", pigeon_connect(&ends->a));
     for (uint64_t sent = 0; sent < MESSAGES; sent++) {
         must("advance_time", pigeon_advance_time(&ends->a, sent * 1000000));
         must("advance_time", pigeon_advance_time(&ends->b, sent * 1000000));
         must("send", pigeon_send(&ends->a, 1, 51, (const uint8_t *)"a message", 9, &plainly));
-        while (take_packets(&ends->a, &ends->b) + take_packets(&ends->b, &ends->a) > 0) {}
-        while (pigeon_borrow_message(&ends->b, &message, &payload) == PIGEON_OK)
-            ends->taken += message.length == 9 && memcmp(payload, "a message", 9) == 0;
+        while (take_packets(&ends->a, &ends->b, &ends->taken) + take_packets(&ends->b, &ends->a, &ends->taken) > 0) {}
     }
     return NULL;
 }

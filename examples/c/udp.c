@@ -28,16 +28,18 @@ static struct sockaddr_in loopback(uint16_t port) {
     return address;
 }
 
-/* Sends the packets that wait, and prints the other events and the messages. Answers whether the association goes on. */
+/* Sends the packets that wait, and prints the other events and the messages. It comes behind each packet: messages go with their association,
+ * which the next one may end. Events and messages are lent, and so may be of any length. Answers whether the association goes on. */
 static int take_all(pigeon_socket *end, int wire, const struct sockaddr_in *peer) {
-    uint8_t buffer[65536];
+    const uint8_t *bytes;
     pigeon_event event = PIGEON_EVENT;
     pigeon_message message;
+    pigeon_given_up record;
     int goes_on = 1;
-    while (pigeon_poll_event(end, &event, buffer, sizeof buffer) == PIGEON_OK) {
+    while (pigeon_borrow_event(end, &event, &bytes) == PIGEON_OK) {
         if (event.kind == PIGEON_SEND_PACKET) {
             /* a packet that the network refuses is lost: it is sent again in time */
-            (void)!sendto(wire, buffer, event.length, 0, (const struct sockaddr *)peer, sizeof *peer);
+            (void)!sendto(wire, bytes, event.length, 0, (const struct sockaddr *)peer, sizeof *peer);
         } else if (event.kind == PIGEON_ON_CONNECTED) {
             fprintf(stderr, "connected\n");
         } else if (event.kind == PIGEON_ON_CLOSED || event.kind == PIGEON_ON_ABORTED) {
@@ -45,10 +47,11 @@ static int take_all(pigeon_socket *end, int wire, const struct sockaddr_in *peer
             goes_on = 0;
         }
     }
-    while (pigeon_next_message(end, &message, buffer, sizeof buffer) == PIGEON_OK) {
-        fwrite(buffer, 1, message.length, stdout);
+    while (pigeon_borrow_message(end, &message, &bytes) == PIGEON_OK) {
+        fwrite(bytes, 1, message.length, stdout);
         fflush(stdout);
     }
+    while (pigeon_next_given_up(end, &record) == PIGEON_OK) {} /* they are kept until they are taken */
     return goes_on;
 }
 

@@ -18,6 +18,10 @@ class Message(c.Structure):
     _fields_ = [("stream", c.c_uint32), ("ppid", c.c_uint32), ("length", c.c_size_t)]
 
 
+class GivenUp(c.Structure):
+    _fields_ = [(name, c.c_uint32) for name in ("number", "cause", "retransmissions")]
+
+
 class Event(c.Structure):
     _fields_ = (
         [("size", c.c_size_t)]
@@ -29,7 +33,6 @@ class Event(c.Structure):
 OK, NOTHING, SEND_PACKET = 0, 8, 0
 OPTIONS_SIZE, SEED_SIZE = 176, 32
 sctp = c.CDLL(sys.argv[1])
-buffer = c.create_string_buffer(65536)
 
 
 def call(name, *arguments):
@@ -53,19 +56,29 @@ def advance(ends, start=time.monotonic_ns()):
         call("pigeon_advance_time", c.byref(end), c.c_uint64(time.monotonic_ns() - start))
 
 
+def take_messages(name, end):
+    """Takes what is ready, and the records of messages that were given up: all that waits is kept until it is taken."""
+    message, lent, record = Message(), c.c_void_p(), GivenUp()
+    while call("pigeon_borrow_message", c.byref(end), c.byref(message), c.byref(lent)) == OK:
+        print(name, "stream", message.stream, c.string_at(lent, message.length).decode())
+    while call("pigeon_next_given_up", c.byref(end), c.byref(record)) == OK:
+        print(name, "message", record.number, "was given up")
+
+
 def settle(ends):
-    """Hands each packet to the other end, until none is emitted."""
+    """Hands each packet to the other end, until none is emitted. Messages are taken behind each: the next one may end their association."""
     advance(ends)
     goes_on = True
     while goes_on:
         goes_on = False
         for i, end in enumerate(ends):
-            event = Event()
+            event, lent = Event(), c.c_void_p()
             size = c.c_size_t(c.sizeof(event))
-            while call("pigeon_poll_event_sized", c.byref(end), c.byref(event), size, buffer, c.c_size_t(65536)) == OK:
+            while call("pigeon_borrow_event_sized", c.byref(end), c.byref(event), size, c.byref(lent)) == OK:
                 if event.kind == SEND_PACKET:
-                    packet = buffer.raw[: event.length]
+                    packet = c.string_at(lent, event.length)
                     call("pigeon_handle_input", c.byref(ends[1 - i]), packet, c.c_size_t(len(packet)))
+                    take_messages("ba"[i], ends[1 - i])
                     goes_on = True
                 else:
                     print("ab"[i], "event", event.kind)
@@ -80,8 +93,5 @@ advance(ends)
 options = SendOptions()
 call("pigeon_send_sized", c.byref(a), 1, 51, text, c.c_size_t(len(text)), c.byref(options), c.c_size_t(c.sizeof(options)))
 settle(ends)
-message = Message()
-call("pigeon_next_message", c.byref(b), c.byref(message), buffer, c.c_size_t(65536))
-print("b stream", message.stream, buffer.raw[: message.length].decode())
 for end in ends:
     sctp.pigeon_free(c.byref(end))
