@@ -213,8 +213,8 @@ class MessageTooLarge(InvalidArgument):
 
 
 class QueueFull(PigeonError):
-    """Too much waits to be sent: go on when the buffered amount is low. Of a channel also: the socket shuts down, or its max_message_size is
-    exceeded."""
+    """Too much waits to be sent: go on when the buffered amount is low. Of a channel also: the queue of all streams is full, the socket shuts down, or
+    its max_message_size is exceeded."""
 
 
 class NoChannel(PigeonError):

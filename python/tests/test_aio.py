@@ -126,7 +126,7 @@ async def test_who_sends_goes_on_where_all_that_waits_is_given_up():
     assert not sending.done()
     a._wire.rate = 0.0
     await asyncio.wait_for(sending, 20)
-    assert channel.buffered_amount <= 20000
+    assert channel.buffered_amount < 22000
     await asyncio.gather(a.close(), b.close())
 
 
