@@ -358,7 +358,7 @@ impl SendQueue {
             events.roll_back(mark);
             return Err(AllocError);
         }
-        if self.streams.open(self.alloc, id).is_err() {
+        if self.streams.open(id).is_err() {
             events.roll_back(mark);
             return Err(AllocError);
         }
@@ -378,7 +378,7 @@ impl SendQueue {
         ensures ok { OnOk result (self.new ≡ set_priority id.0 priority self.old) }
         ensures err { OnErr result (self.new ≡ self.old) }
     {
-        self.streams.open(self.alloc, id)?;
+        self.streams.open(id)?;
         self.streams.change(id, StreamChange::Priority(priority));
         Ok(())
     }
@@ -413,10 +413,7 @@ impl SendQueue {
             self.streams.change(id, StreamChange::Discard(message_id));
             return Ok(());
         };
-        let demand = Demand {
-            bytes: self.streams.sendable_without(id, message_id),
-            priority: self.streams.priority_without(id, message_id),
-        };
+        let demand = self.streams.demand_without(id, message_id);
         let lifecycle_id = discarded.lifecycle_id;
         leave_line(&mut self.scheduler, events, id, demand, lifecycle_id)?;
         self.streams.change(id, StreamChange::Discard(message_id));
@@ -467,7 +464,7 @@ impl SendQueue {
     {
         self.streams.emit_waiting(id, events)?;
         let priority = self.streams.priority(id);
-        self.streams.open(self.alloc, id)?;
+        self.streams.open(id)?;
         if bytes == 0 {
             self.scheduler.leave(id);
             return Ok(());
@@ -505,9 +502,8 @@ impl SendQueue {
         Ok(())
     }
 
-    /// A new association begins: the message that is partly sent is whole again, each stream is open, and its numbers
-    /// begin again. Numbers of messages go on. Without memory this is done for some of the first streams alone, or for
-    /// none.
+    /// A new association begins: messages that are partly sent are whole again, each stream sends, and its numbers begin
+    /// again. Numbers of messages go on. Without memory this is done for the first streams alone, or for none.
     pub fn reset(&mut self) -> Result<(), AllocError>
         ensures ok { OnOk result (self.new ≡ reset self.old) }
         ensures numbers { NumbersGoOn self.old self.new }
@@ -534,9 +530,9 @@ impl SendQueue {
         ensures ok { OnOk result (self.new ≡ restarted_one id.0 self.old) }
         ensures err { OnErr result (self.new ≡ self.old) }
     {
-        let bytes = self.streams.sendable_restarted(id);
-        let priority = self.streams.priority_restarted(id);
-        self.scheduler.set_bytes_remaining(id, bytes, priority)?;
+        let demand = self.streams.demand_restarted(id);
+        self.scheduler
+            .set_bytes_remaining(id, demand.bytes, demand.priority)?;
         self.streams.change(id, StreamChange::Restart);
         self.begun = begun_without(id, self.begun);
         Ok(())
@@ -619,9 +615,9 @@ impl SendQueue {
         ensures ok { OnOk result (self.new ≡ apply_reset_step step id.0 self.old) }
         ensures err { OnErr result (self.new ≡ self.old) }
     {
-        let bytes = self.streams.sendable_stepped(id, step);
-        let priority = self.streams.priority_stepped(id, step);
-        self.scheduler.set_bytes_remaining(id, bytes, priority)?;
+        let demand = self.streams.demand_stepped(id, step);
+        self.scheduler
+            .set_bytes_remaining(id, demand.bytes, demand.priority)?;
         self.streams.change(id, StreamChange::Step(step));
         Ok(())
     }

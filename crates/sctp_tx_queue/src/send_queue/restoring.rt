@@ -47,7 +47,7 @@ fn scheduler_from(
     Ok(scheduler)
 }
 
-/// The stream of the message that is partly sent.
+/// The stream of the first message that is partly sent.
 fn partly_sent(messages: &[HandoverStreamMessage]) -> Option<StreamId>
     ensures { option_map (λ id. id.0) result ≡ partly_sent (map stream_message_of messages.now) }
 {
@@ -71,8 +71,8 @@ fn begun_from(is_interleaved: bool, messages: &[HandoverStreamMessage]) -> Optio
 
 impl SendQueue {
     /// Takes up the streams, the messages and the count of accepted messages of a record now, in place of its own, and
-    /// whether messages are interleaved. Streams send, and have the default threshold. The message that is partly sent
-    /// goes on, and the virtual time begins at 0. Without memory nothing changes.
+    /// whether messages are interleaved. Streams send, and have the default threshold. A message that is partly sent goes
+    /// on, and the virtual time begins at 0. Without memory nothing changes.
     pub fn restore_from_state(
         &mut self,
         now: SocketTime,

@@ -1,6 +1,6 @@
 //! What waits on one stream.
 
-ghost use Rattle.std.specs.Prelude.{◌≡◌, ◌+◌, ◌-◌, ◌<◌, ◌≤◌, ◌^◌, ◌==◌, [], ◌++◌, length, sum_by, IsTrue, is_some, IfOk, OnOk, OnErr, option_map, map, if◌then◌else◌};
+ghost use Rattle.std.specs.Prelude.{◌≡◌, ◌+◌, ◌-◌, ◌<◌, ◌≤◌, ◌^◌, [], ◌++◌, sum_by, IsTrue, is_some, IfOk, OnOk, OnErr, option_map, map, if◌then◌else◌};
 ghost use Rattle.sctp_state.specs.Events.{Grown};
 ghost use Rattle.sctp_state.specs.ThresholdWatcher.{crosses};
 ghost use Rattle.sctp_tx_queue.specs.SendQueue.{remaining_bytes, amount_of, watched_amount, blank_stream, sendable, push, is_stopped};
@@ -192,12 +192,6 @@ impl Stream {
         ensures { result ≡ self.now.priority }
     {
         self.priority
-    }
-
-    pub(crate) fn is_empty(&self) -> bool
-        ensures { result ≡ (length self.now.messages == 0) }
-    {
-        self.messages.is_empty()
     }
 
     /// The bytes that are not sent of the message that goes next; 0 where the stream is paused.

@@ -163,7 +163,7 @@ impl Streams {
     }
 
     /// Makes the stream where there is none. Without memory nothing changes.
-    pub(crate) fn open(&mut self, alloc: Global, id: StreamId) -> Result<(), AllocError>
+    pub(crate) fn open(&mut self, id: StreamId) -> Result<(), AllocError>
         ensures ok { OnOk result (self.new ≡ with_stream id.0 self.old) }
         ensures there { OnOk result (IsSome (lookup (is_at (nat_cmp id.0)) self.new.entries)) }
         ensures stream { OnOk result (stream id.0 self.new ≡ stream id.0 self.old) }
@@ -347,20 +347,17 @@ impl Streams {
         }
     }
 
-    /// A stream's priority, which no message changes.
-    pub(crate) fn priority_without(&self, id: StreamId, _message_id: OutgoingMessageId) -> u16
-        ensures { result ≡ (stream id.0 (streams_discarded id.0 _message_id.0 self.now)).priority }
-    {
-        self.priority(id)
-    }
-
-    /// The bytes that a stream has to send without that message.
-    pub(crate) fn sendable_without(&self, id: StreamId, message_id: OutgoingMessageId) -> usize
-        ensures { result ≡ sendable (stream id.0 (streams_discarded id.0 message_id.0 self.now)) }
+    /// What a stream has to send without that message.
+    pub(crate) fn demand_without(&self, id: StreamId, message_id: OutgoingMessageId) -> Demand
+        ensures bytes { result.bytes ≡ sendable (stream id.0 (streams_discarded id.0 message_id.0 self.now)) }
+        ensures priority { result.priority ≡ (stream id.0 (streams_discarded id.0 message_id.0 self.now)).priority }
     {
         match self.streams.get(&id.0) {
-            Some(stream) => stream.sendable_without(message_id),
-            None => 0,
+            Some(stream) => Demand {
+                bytes: stream.sendable_without(message_id),
+                priority: stream.priority(),
+            },
+            None => self.no_demand(),
         }
     }
 
@@ -386,38 +383,43 @@ impl Streams {
         }
     }
 
-    /// The bytes that a stream has to send after a step of its reset.
-    pub(crate) fn sendable_stepped(&self, id: StreamId, step: ResetStep) -> usize
-        ensures { result ≡ sendable (stream id.0 (put_stream id.0 (after_step step (stream id.0 self.now)) self.now)) }
+    /// What a stream has to send after a step of its reset.
+    pub(crate) fn demand_stepped(&self, id: StreamId, step: ResetStep) -> Demand
+        ensures bytes { result.bytes ≡ sendable (stream id.0 (put_stream id.0 (after_step step (stream id.0 self.now)) self.now)) }
+        ensures priority { result.priority ≡ (stream id.0 (put_stream id.0 (after_step step (stream id.0 self.now)) self.now)).priority }
     {
         match self.streams.get(&id.0) {
-            Some(stream) => stream.sendable_stepped(step),
-            None => 0,
+            Some(stream) => Demand {
+                bytes: stream.sendable_stepped(step),
+                priority: stream.priority(),
+            },
+            None => self.no_demand(),
         }
     }
 
-    /// A stream's priority, which no step of its reset changes.
-    pub(crate) fn priority_stepped(&self, id: StreamId, _step: ResetStep) -> u16
-        ensures { result ≡ (stream id.0 (put_stream id.0 (after_step _step (stream id.0 self.now)) self.now)).priority }
-    {
-        self.priority(id)
-    }
-
-    /// The bytes that a stream has to send once a new association begins.
-    pub(crate) fn sendable_restarted(&self, id: StreamId) -> usize
-        ensures { result ≡ sendable (stream id.0 (put_stream id.0 (restart (stream id.0 self.now)) self.now)) }
+    /// What a stream has to send once a new association begins.
+    pub(crate) fn demand_restarted(&self, id: StreamId) -> Demand
+        ensures bytes { result.bytes ≡ sendable (stream id.0 (put_stream id.0 (restart (stream id.0 self.now)) self.now)) }
+        ensures priority { result.priority ≡ (stream id.0 (put_stream id.0 (restart (stream id.0 self.now)) self.now)).priority }
     {
         match self.streams.get(&id.0) {
-            Some(stream) => stream.sendable_restarted(),
-            None => 0,
+            Some(stream) => Demand {
+                bytes: stream.sendable_restarted(),
+                priority: stream.priority(),
+            },
+            None => self.no_demand(),
         }
     }
 
-    /// A stream's priority, which a new association doesn't change.
-    pub(crate) fn priority_restarted(&self, id: StreamId) -> u16
-        ensures { result ≡ (stream id.0 (put_stream id.0 (restart (stream id.0 self.now)) self.now)).priority }
+    /// What a stream has to send that isn't there.
+    fn no_demand(&self) -> Demand
+        ensures bytes { result.bytes ≡ 0 }
+        ensures priority { result.priority ≡ self.now.default_priority }
     {
-        self.priority(id)
+        Demand {
+            bytes: 0,
+            priority: self.default_priority,
+        }
     }
 
     /// Emits of all messages that they are given up, as their association ended.
