@@ -21,7 +21,7 @@ use Rattle.sctp_tx_queue.proofs.UnfinishedLemmas.{order_kept, numbers_kept, rest
 use Rattle.sctp_tx.specs.RetransmissionQueue.{Sender}
 use Rattle.sctp_tx.specs.Resent.{flight, may_send_new, resent}
 use Rattle.sctp_tx.specs.Sending.{Filling, offered_payload, item_of, append, queue_step_if, next_turn, discard_all, without_discards, filled_with}
-use Rattle.sctp_tx.specs.Interrupted.{LostOrKept, NotProduced, NotAppended, after_turns, PartlyFilled, PartlySent}
+use Rattle.sctp_tx.specs.Interrupted.{NotProduced, NotAppended, after_turns, PartlyFilled, PartlySent}
 use Rattle.sctp_tx.specs.Unfinished.{QueueStays, Stays, UnfinishedStays}
 use Rattle.sctp_tx.proofs.FlightLemmas.{some_offered}
 
@@ -159,10 +159,6 @@ module _ (now : ℕ) where
       let z = (next_turn now y).filling in
       on x.sender x.queue x.emitted y.sender y.queue y.emitted z.sender z.queue z.emitted (turns_stay turns x) (turn_stays y)
 
-  lost_or_kept : (p : Produced) (s after : Sender) → LostOrKept now p s after → Keeps s.outstanding.items after.outstanding.items
-  lost_or_kept p s after (inl e) = subst (λ (t : Sender). Keeps s.outstanding.items t.outstanding.items) (sym e) (keeps_all s.outstanding.items)
-  lost_or_kept p s after (inr e) = subst (λ (t : Sender). Keeps s.outstanding.items t.outstanding.items) (sym e) (new_items_keep (item_of now p) s.outstanding.items)
-
   stopped_stays : (x : Filling (List ℕ)) (after : Sender) (rest : Queue) (later : Emitted (List ℕ)) → 0 < offered_payload x.left x.sender
       → NotProduced now x after rest later ⊎ NotAppended now x after rest later → Stays x.sender x.queue x.emitted after rest later
   stopped_stays x after rest later some (inl h) = record {
@@ -170,7 +166,7 @@ module _ (now : ℕ) where
     queue = interrupted_stays now (offered_payload x.left x.sender) some x.queue x.emitted rest later h.queue;
   }
   stopped_stays x after rest later some (inr h) = record {
-    items = lost_or_kept h.fragment x.sender after h.sender;
+    items = subst (λ (t : Sender). Keeps x.sender.outstanding.items t.outstanding.items) (sym h.sender) (keeps_all x.sender.outstanding.items);
     queue = rw (h.queue, h.events) (produce_stays now (offered_payload x.left x.sender) some x.queue x.emitted);
   }
 

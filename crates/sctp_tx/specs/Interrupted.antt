@@ -4,7 +4,7 @@ use Rattle.sctp_chunk.specs.declared.sack.GapAckBlock.{GapAckBlock}
 use Rattle.sctp_state.specs.Events.{Emitted}
 use Rattle.sctp_state.specs.Timer.{expire}
 use Rattle.sctp_tx_outstanding.specs.Interrupted.{Same, SomeNacked, SomeExpired, SackPartlyTaken}
-use Rattle.sctp_tx_outstanding.specs.OutstandingData.{Outstanding, append_item}
+use Rattle.sctp_tx_outstanding.specs.OutstandingData.{Outstanding}
 use Rattle.sctp_tx_outstanding.specs.Resending.{SomeResent, empty_packet}
 use Rattle.sctp_tx_queue.specs.SendQueue.{Queue}
 use Rattle.sctp_tx_queue.specs.Produced.{Produced, produce}
@@ -13,7 +13,7 @@ use Rattle.sctp_tx_queue.specs.Interrupted.{Interrupted}
 use Rattle.sctp_tx.specs.Windows.{is_open, timed_out}
 use Rattle.sctp_tx.specs.RetransmissionQueue.{Sender}
 use Rattle.sctp_tx.specs.Resent.{flight, may_send_new, resent}
-use Rattle.sctp_tx.specs.Sending.{Filling, offered_payload, item_of, next_turn, discard_all, without_discards, filled_with}
+use Rattle.sctp_tx.specs.Sending.{Filling, offered_payload, next_turn, discard_all, without_discards, filled_with}
 
 -- the windows, the timer and the counts are as they were
 abbrev pub ItemsAlone : Sender → Sender → Type 0
@@ -57,24 +57,16 @@ pub record PartlyResent (most : ℕ) (s after : Sender) : Type 0 where
   pub items : SomeResent false (empty_packet (min most (s.windows.cwnd - flight s)) s.windows.rwnd s.outstanding) after.outstanding
   pub alone : ItemsAlone s after
 
--- a fragment has its TSN, and takes nothing of the peer's window
-abbrev pub kept_new : ℕ → Produced → Sender → Sender
-kept_new now p s = record s { outstanding = record s.outstanding { items = append_item (item_of now p) s.outstanding.items } }
-
--- one that left the queue is lost, or kept as if it were sent
-abbrev pub LostOrKept : ℕ → Produced → Sender → Sender → Type 0
-LostOrKept now p s after = (after ≡ s) ⊎ (after ≡ kept_new now p s)
-
 -- the queue gave no fragment
 pub record NotProduced {P : Type 0} (now : ℕ) (x : Filling P) (after : Sender) (rest : Queue) (later : Emitted P) : Type 0 where
   pub sender : after ≡ x.sender
   pub queue : Interrupted now (offered_payload x.left x.sender) x.queue x.emitted rest later
 
--- it gave one, which did not come into the packet
+-- it gave one, which is lost: it has no TSN
 pub record NotAppended {P : Type 0} (now : ℕ) (x : Filling P) (after : Sender) (rest : Queue) (later : Emitted P) : Type 0 where
   pub fragment : Produced
   pub made : (produce now (offered_payload x.left x.sender) x.queue x.emitted).made ≡ Some fragment
-  pub sender : LostOrKept now fragment x.sender after
+  pub sender : after ≡ x.sender
   pub queue : rest ≡ (produce now (offered_payload x.left x.sender) x.queue x.emitted).queue
   pub events : later ≡ (produce now (offered_payload x.left x.sender) x.queue x.emitted).emitted
 

@@ -1,6 +1,6 @@
 //! What is sent again, and when (RFC 9260 sections 6.3 and 7.2).
 
-ghost use Rattle.std.specs.Prelude.{◌≡◌, ◌-◌, ◌==◌, min, ◌^◌, ◌<◌, ◌≤◌, ◌++◌, ◌∷◌, ◌||◌, [], suc, nat_lt, length, map, is_some, true, false, IsTrue, OnOk, OnErr, IfOk, IfSome, Ok};
+ghost use Rattle.std.specs.Prelude.{◌≡◌, ◌-◌, ◌==◌, min, ◌^◌, ◌<◌, ◌≤◌, ◌||◌, [], suc, nat_lt, length, map, is_some, true, false, IsTrue, OnOk, OnErr, IfOk, IfSome, Ok};
 ghost use Rattle.std.specs.Duration.{as_nanos};
 ghost use Rattle.sctp_state.specs.Options.{options_of, IsValid};
 ghost use Rattle.sctp_state.specs.Timer.{is_due, next_expiry, set_duration};
@@ -11,7 +11,7 @@ ghost use Rattle.sctp_control_chunk.specs.ChunkView.{chunk_tree};
 ghost use Rattle.sctp_tx.specs.ForwardPoints.{abandon_expired, forward_chunk};
 ghost use Rattle.sctp_tx_outstanding.specs.Sack.{is_valid, is_open_at, acked_bytes};
 ghost use Rattle.sctp_tx.specs.RetransmissionQueue.{sender, wake, handle_sack, step_of, sender_if, emitted_if, answer_if, answer_of, windows_after, t3_after_sack, kept_running, nothing_in_flight, timed_out_sender};
-ghost use Rattle.sctp_tx.specs.Interrupted.{PartlyAcknowledged, PartlyTimedOut, PartlyExpired, PartlyResentFast, PartlyResent, LostOrKept, TurnStopped, PartlyFilled, SomeDiscarded, PartlySent};
+ghost use Rattle.sctp_tx.specs.Interrupted.{PartlyAcknowledged, PartlyTimedOut, PartlyExpired, PartlyResentFast, PartlyResent, TurnStopped, PartlyFilled, SomeDiscarded, PartlySent};
 ghost use Rattle.sctp_tx.specs.Flight.{StaysWithin, AddsAtMost, FitWithin};
 ghost use Rattle.sctp_tx.specs.Windows.{saturate_u64};
 ghost use Rattle.sctp_tx_queue.specs.Views.{produced_of};
@@ -438,7 +438,7 @@ impl RetransmissionQueue {
     /// What a packet with room for `max_bytes` of chunks takes, as far as the windows let it go: first the items that
     /// wait to be sent again, ascending, then new fragments. Before that, what is left of messages that were given up
     /// leaves the send queue. Without memory none is handed out, and only the first of these steps are done: t3-rtx isn't
-    /// started, and a new fragment at which memory ran out is lost, or has its TSN and takes nothing of the peer's window.
+    /// started, and a new fragment at which memory ran out has left the queue, and has no TSN.
     pub fn get_chunks_to_send(
         &mut self,
         now: SocketTime,
@@ -623,7 +623,8 @@ impl RetransmissionQueue {
         room.saturating_sub(header_size(self.outstanding.is_interleaved()))
     }
 
-    /// The fragment takes the next TSN. The answer is the size of its chunk. Without memory it is lost.
+    /// The fragment takes the next TSN. The answer is the size of its chunk. Without memory it is lost, and nothing changes but
+    /// the packet.
     fn append<P: TakesFragments>(
         &mut self,
         now: SocketTime,
@@ -635,7 +636,7 @@ impl RetransmissionQueue {
         ensures sender { OnOk result (self.new ≡ sent_new now (produced_of fragment) self.old) }
         ensures packet { OnOk result (packet.new ≡ P.taken form (wire_tsn self.old.outstanding (next_number self.old.outstanding.items), fragment_tree fragment.data) packet.old) }
         ensures size { IfOk result (λ size. size ≡ size_of (is_interleaved self.old) (fragment_tree fragment.data)) }
-        ensures err { OnErr result (LostOrKept now (produced_of fragment) self.old self.new) }
+        ensures err { OnErr result (self.new ≡ self.old) }
     {
         let size = chunk_size(&fragment.data, self.outstanding.is_interleaved());
         packet.take(form, self.outstanding.next_tsn(), &fragment.data)?;

@@ -133,7 +133,7 @@ impl Windows {
         self.rwnd = (a_rwnd as usize).saturating_sub(payload);
     }
 
-    /// A chunk of this padded size goes out.
+    /// Chunks of this size in all, with padding, go out.
     pub fn take(&mut self, size: usize)
         ensures { self.new ≡ consume_rwnd size self.old }
     {

@@ -2,7 +2,7 @@ use Rattle.std.proofs.Common.{◌≡◌, ℕ, ◌<◌, true, Some, List, [], rul
 use Rattle.sctp_tx_queue.specs.Views.{produced_of}
 use Rattle.sctp_tx.specs.Resent.{may_send_new}
 use Rattle.sctp_tx.specs.Sending.{Filling, filling, offered_payload}
-use Rattle.sctp_tx.specs.Interrupted.{LostOrKept, NotAppended, TurnStopped}
+use Rattle.sctp_tx.specs.Interrupted.{NotAppended, TurnStopped}
 use Rattle.sctp_tx.specs.RetransmissionQueue.{Sender}
 use Rattle.sctp_tx.proofs.PartlyLemmas.{on_err}
 use Rattle.sctp_tx.proofs.SendingLemmas.{made_fits}
@@ -34,5 +34,5 @@ returns-in_err-size-clause-err g c =
     let may : may_send_new c.args.self.now ≡ true = search rules in
     let some : 0 < offered_payload c.args.opportunity.max_bytes c.args.self.now = omega (arith, c.if-max_payload-eq0.false, c.offered-max_payload.ensures.size) in
     let not_appended : NotAppended c.args.opportunity.now x c.append.new.self c.produce_in.new.self c.produce_in.new.events =
-    record { fragment = produced_of c.in-Some.fragment; made = search rules; sender = subst (λ (s : Sender). LostOrKept c.args.opportunity.now (produced_of c.in-Some.fragment) s c.append.new.self) c.self.view_is c.in_err-size.ensures.err; queue = search rules; events = search rules } in
+    record { fragment = produced_of c.in-Some.fragment; made = search rules; sender = c.in_err-size.ensures.err ∙ c.self.view_is; queue = search rules; events = search rules } in
     on_err _ (TurnStopped c.args.opportunity.now x c.append.new.self c.produce_in.new.self c.produce_in.new.events) (record { may_send = may; room = some; stopped = inr not_appended })
