@@ -1,7 +1,5 @@
 pub mod Socket
 pub mod Kinds
-pub mod Outlines
-pub mod RefusalView
 pub use Rattle.spec_endpoint.specs.ResetRequests
 pub use Rattle.sctp_endpoint.specs.RequestViews
 pub use Rattle.spec_endpoint.specs.Association

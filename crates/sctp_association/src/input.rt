@@ -22,12 +22,12 @@ ghost use Rattle.sctp_endpoint.specs.KeepsReady.{KeepsReady};
 ghost use Rattle.sctp_endpoint.specs.Views.{context_of, endpoint_of, after_chunk_of, opened_of, phase_of, endpoint_state_of, state_of, tcb_of};
 ghost use Rattle.spec_endpoint.specs.Input as table;
 
-use crate::judging::{packet_word, policy};
-use crate::validation::{Outline, has_data, validate_packet};
 use rand_core::Rng;
 use sctp_endpoint::{Context, Phase, State, TransmissionControlBlock};
 use sctp_handshake::cookie_echo::{handle_cookie_ack, handle_cookie_echo};
+use sctp_handshake::judging::{packet_word, policy};
 use sctp_handshake::opening::{handle_init, handle_init_ack};
+use sctp_handshake::validation::{Outline, has_data, validate_packet};
 use sctp_packet::{
     Chunk, DataView, HeartbeatAckChunk, IDataChunk, PacketView, RawChunk, SackChunk,
 };

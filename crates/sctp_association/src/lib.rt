@@ -5,9 +5,7 @@
 #![tactic(auto)]
 
 mod input;
-mod judging;
 mod socket;
-mod validation;
 
 pub use sctp_endpoint::{
     Association, Context, CookieEchoedState, CookieWaitState, Identity, OutgoingPacket, Phase,

@@ -22,8 +22,6 @@ ghost use Rattle.spec_endpoint.specs.StreamReset as resets;
 ghost use Rattle.spec_endpoint.specs.Timers as time;
 
 use crate::input::handle_input;
-use crate::judging::judge;
-use crate::validation::my_verification_tag;
 use rand_core::Rng;
 use sctp_calls::calls::{
     send, send_many, set_buffered_amount_low_threshold, set_max_message_size, set_stream_priority,
@@ -32,7 +30,9 @@ use sctp_calls::calls::{
 use sctp_calls::handover::{get_handover_readiness, hand_over, restore};
 use sctp_calls::metrics::metrics_in;
 use sctp_endpoint::{Association, Context, State};
+use sctp_handshake::judging::judge;
 use sctp_handshake::opening::do_connect;
+use sctp_handshake::validation::my_verification_tag;
 use sctp_serial::{Message, SocketTime, StreamId};
 use sctp_state::{
     BatchFault, BatchSendError, CallError, DcSctpSocket, GivenUp, HandoverError, HandoverReadiness,

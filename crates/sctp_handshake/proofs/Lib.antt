@@ -1,2 +1,4 @@
 pub mod AnnouncedLemmas
 pub mod RenewedLemmas
+pub mod OutlineLemmas
+pub mod JudgeLemmas

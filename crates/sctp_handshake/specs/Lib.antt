@@ -1,2 +1,4 @@
 pub mod Beginning
 pub mod ResolutionView
+pub mod Outlines
+pub mod RefusalView

@@ -3,11 +3,11 @@ use Rattle.std.specs.Prelude.{option_map}
 use Rattle.sctp_packet.specs.Packet.{HeaderTree}
 use Rattle.sctp_packet.specs.View.{viewed_packet}
 use Rattle.spec_endpoint.specs.Input.{packet_refusal}
-use Rattle.sctp_association.specs.RefusalView.{refusal_text}
+use Rattle.sctp_handshake.specs.RefusalView.{refusal_text}
 use Rattle.sctp_endpoint.specs.Views.{state_of}
-use Rattle.sctp_association.proofs.JudgeLemmas.{judged_as, not_judged, some_by}
-use Rattle.sctp_association.proofs.OutlineLemmas.{outline_refuses}
-use Rattle.sctp_association.proofs.judging.judge.Goals as goal
+use Rattle.sctp_handshake.proofs.JudgeLemmas.{judged_as, not_judged, some_by}
+use Rattle.sctp_handshake.proofs.OutlineLemmas.{outline_refuses}
+use Rattle.sctp_handshake.proofs.judging.judge.Goals as goal
 
 pub returns-in-Ok : goal.returns-in-Ok
 returns-in-Ok g c =

@@ -1,8 +1,8 @@
 -- What is emitted of packets that aren't taken.
 use Rattle.std.specs.Prelude.{ℕ, List, codes}
 use Rattle.spec_endpoint.specs.Input.{wrong_tag_text}
-use Rattle.sctp_association.specs.declared.validation.Refusal.{Refusal}
-use Rattle.sctp_association.specs.declared.validation.Refusal.TheVariants as refusals
+use Rattle.sctp_handshake.specs.declared.validation.Refusal.{Refusal}
+use Rattle.sctp_handshake.specs.declared.validation.Refusal.TheVariants as refusals
 
 abbrev pub refusal_text : Refusal → List ℕ
 refusal_text refusals.Abort = codes "ABORT chunk verification tag was wrong"

@@ -1,9 +1,9 @@
 use Rattle.std.proofs.Common.{◌≡◌, List, length}
 use Rattle.sctp_packet.specs.Chunk.{ChunkTree}
 use Rattle.sctp_packet.specs.View.{AreLeft}
-use Rattle.sctp_association.specs.Outlines.{outline_of}
-use Rattle.sctp_association.proofs.OutlineLemmas.{with_left}
-use Rattle.sctp_association.proofs.validation.Outline.of.Given as goal
+use Rattle.sctp_handshake.specs.Outlines.{outline_of}
+use Rattle.sctp_handshake.proofs.OutlineLemmas.{with_left}
+use Rattle.sctp_handshake.proofs.validation.Outline.of.Given as goal
 
 -- what was seen, with what is left behind, is all
 abbrev pub invariant-loop-raw : goal.invariant-loop-raw

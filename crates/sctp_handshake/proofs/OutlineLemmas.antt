@@ -11,8 +11,8 @@ use Rattle.sctp_packet.specs.Written.{is_known_chunk, flag}
 use Rattle.sctp_packet.specs.Grammar.{IsChunk}
 use Rattle.spec_endpoint.specs.Association.{State}
 use Rattle.spec_endpoint.specs.Input.{packet_refusal, packet_refusal_by, abort_flag, complete_flag, has_shutdown_ack, begins_with_cookie, is_single_init}
-use Rattle.sctp_association.specs.declared.validation.Outline.{Outline}
-use Rattle.sctp_association.specs.Outlines.{followed_by, outline_of, outlined_by, outlined_refusal}
+use Rattle.sctp_handshake.specs.declared.validation.Outline.{Outline}
+use Rattle.sctp_handshake.specs.Outlines.{followed_by, outline_of, outlined_by, outlined_refusal}
 
 -- ---- one chunk, as an item
 

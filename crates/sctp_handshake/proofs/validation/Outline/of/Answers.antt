@@ -1,5 +1,5 @@
-use Rattle.sctp_association.proofs.OutlineLemmas.{goes_on}
-use Rattle.sctp_association.proofs.validation.Outline.of.Goals as goal
+use Rattle.sctp_handshake.proofs.OutlineLemmas.{goes_on}
+use Rattle.sctp_handshake.proofs.validation.Outline.of.Goals as goal
 
 pub loop-raw-preserved : goal.loop-raw-preserved
 loop-raw-preserved c =

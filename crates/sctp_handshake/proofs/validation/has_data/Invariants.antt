@@ -2,7 +2,7 @@ use Rattle.std.proofs.Common.{◌≡◌, List, length}
 use Rattle.sctp_packet.specs.Chunk.{ChunkTree}
 use Rattle.sctp_packet.specs.View.{AreLeft}
 use Rattle.spec_endpoint.specs.Input.{has_data_chunk}
-use Rattle.sctp_association.proofs.validation.has_data.Given as goal
+use Rattle.sctp_handshake.proofs.validation.has_data.Given as goal
 
 -- what was seen has none
 abbrev pub invariant-loop-raw : goal.invariant-loop-raw

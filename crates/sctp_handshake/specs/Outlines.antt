@@ -4,7 +4,7 @@ use Rattle.std.specs.Option.{option_or}
 use Rattle.sctp_packet.specs.Chunk.{ChunkTree}
 use Rattle.spec_endpoint.specs.Association.{State}
 use Rattle.spec_endpoint.specs.Input.{my_tag, abort_flag, complete_flag, has_shutdown_ack, begins_with_cookie, is_single_init, packet_refusal_by, plain_refusal}
-use Rattle.sctp_association.specs.declared.validation.Outline.{Outline}
+use Rattle.sctp_handshake.specs.declared.validation.Outline.{Outline}
 
 abbrev pub outline_of : List ChunkTree → Outline
 outline_of chunks = record {
