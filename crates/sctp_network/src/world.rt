@@ -42,10 +42,10 @@ use thiserror::Error;
 pub enum WorldError {
     /// Memory ran out, now or before: the world has failed.
     #[error("out of memory")]
-    Memory,
+    Memory = 1,
     /// The event names a packet that the other end didn't send.
     #[error("no such packet")]
-    NoSuchPacket,
+    NoSuchPacket = 2,
 }
 
 impl From<AllocError> for WorldError {
