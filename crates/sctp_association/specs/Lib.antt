@@ -20,6 +20,7 @@ pub use Rattle.spec_endpoint.specs.Rows
 pub use Rattle.spec_endpoint.specs.Wire
 pub use Rattle.sctp_endpoint.specs.PacketView
 pub use Rattle.sctp_endpoint.specs.Views
+pub use Rattle.sctp_endpoint.specs.Lending
 pub use Rattle.spec_endpoint.specs.Laws
 pub use Rattle.spec_endpoint.specs.ResetLaws
 pub use Rattle.spec_endpoint.specs.Moments

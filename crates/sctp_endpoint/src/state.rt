@@ -1,10 +1,14 @@
 //! The states of an end (RFC 9260 section 4).
 
 ghost use Rattle.std.specs.Prelude.{◌≡◌};
+ghost use Rattle.std.specs.Borrow.{LendsIf, sem};
 ghost use Rattle.std.specs.Option.{option_map};
 ghost use Rattle.spec_endpoint.specs.Association.{block_in};
+ghost use Rattle.sctp_endpoint.specs.Lending.{with_block};
 ghost use Rattle.spec_endpoint.specs.Sending.{is_before_cookie_ack};
 ghost use Rattle.sctp_endpoint.specs.Views.{phase_of, state_of, tcb_of};
+ghost use Rattle.sctp_endpoint.specs.contracts.state.State as states;
+ghost use Rattle.sctp_endpoint.specs.contracts.transmission_control_block.TransmissionControlBlock as blocks;
 
 use crate::transmission_control_block::TransmissionControlBlock;
 use sctp_serial::Tsn;
@@ -71,6 +75,18 @@ impl State {
     /// The control block, in the states that have one.
     pub fn tcb(&self) -> Option<&TransmissionControlBlock>
         ensures { option_map (λ t. tcb_of t.now) result ≡ block_in (state_of self.now) }
+    {
+        match self {
+            State::Closed | State::CookieWait(_) => None,
+            State::Open(_, tcb) => Some(tcb),
+        }
+    }
+
+    /// The control block, to be changed where it stands: for who leads an association by the calls of its layers. The state stays what
+    /// it is, and keeps the rest.
+    pub fn tcb_mut(&mut self) -> Option<&mut TransmissionControlBlock>
+        ensures* writes_back { sem 𝓛 (LendsIf states.the_row blocks.the_row self.entry result (with_block self.old) self.old) }
+        ensures value { option_map (λ t. tcb_of t.now) result ≡ block_in (state_of self.old) }
     {
         match self {
             State::Closed | State::CookieWait(_) => None,
