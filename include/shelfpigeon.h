@@ -554,8 +554,9 @@ typedef struct pigeon_channel_options {
     uint32_t flags;
     uint32_t max_retransmissions; /* with PIGEON_MAX_RETRANSMISSIONS */
     uint32_t lifetime;            /* with PIGEON_LIFETIME, in milliseconds */
-    uint32_t priority;            /* at most 65,535, told to the peer alone (own messages: pigeon_set_stream_priority); 128 below normal, 256 normal,
-                                     512 high, 1,024 extra high (RFC 8831 section 6.4) */
+    uint32_t priority;            /* at most 65,535: 128 below normal, 256 normal, 512 high, 1,024 extra high (RFC 8831 section 6.4); told to the
+                                     peer, and set of the stream (pigeon_set_stream_priority) by the time that events are taken; 0 leaves
+                                     the stream's own */
 } pigeon_channel_options;
 
 /* A channel that is ordered and reliable. */

@@ -123,7 +123,8 @@ class Channels(End):
         lifetime: Optional[int] = None,
         priority: int = 256,
     ) -> Channel:
-        """Opens a channel, by which messages may be sent at once. `lifetime` is in milliseconds. The time is to be advanced first."""
+        """Opens a channel, by which messages may be sent at once. `lifetime` is in milliseconds. `priority`, 128 to 1,024 (RFC 8831 section 6.4), is
+        told to the peer, and its stream has it once all events were taken; 0 leaves the stream's own. The time is to be advanced first."""
         options, number = channel_options(ordered, max_retransmissions, lifetime, priority), c_uint32()
         name, spoken = label.encode(), protocol.encode()
         check(
@@ -144,7 +145,8 @@ class Channels(End):
         lifetime: Optional[int] = None,
         priority: int = 256,
     ) -> Channel:
-        """A channel that both ends have agreed on; it is open at once. Whether the association has its stream isn't looked at."""
+        """A channel that both ends have agreed on; it is open at once. Its stream has `priority` as by `open`; whether the association
+        has it isn't looked at."""
         options = channel_options(ordered, max_retransmissions, lifetime, priority)
         name, spoken = label.encode(), protocol.encode()
         check(

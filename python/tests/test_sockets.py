@@ -226,6 +226,7 @@ def test_channels_of_both_ends(channels):
     (theirs,) = [it.channel for it in channels.told[b] if isinstance(it, events.ChannelOpened) and it.channel is not game]
     assert (theirs.label, theirs.protocol, theirs.id, chat.id, game.id) == ("Zürich 漢字 😀", "proto", 0, 0, 1)
     assert (theirs.ordered, theirs.max_retransmissions, theirs.lifetime, theirs.priority) == (False, 3, None, 512)
+    assert (a.stream_priority(0), b.stream_priority(0)) == (512, 512)
     assert channels.came(b) == ["hello", b"\0\1", "", b""]
     assert events.ChannelOpened(chat) in channels.told[a]
     assert [it.lifetime for it in a if it.id == 1] == [500]

@@ -122,7 +122,7 @@ fn description(alloc: Global, label: &str, unordered: bool) -> Result<DataChanne
     Ok(DataChannelOpen {
         unordered,
         reliability: Reliability::Reliable,
-        priority: 256,
+        priority: 512,
         label: String::from_str(alloc, label)?,
         protocol: String::new(alloc),
     })
@@ -166,6 +166,14 @@ fn open_and_close<S: DcSctpSocket>(rt: &HostRuntime, pair: &mut Pair<S>) -> Resu
     Ok(id)
 }
 
+/// Prints what both sockets weigh the stream by.
+fn show_priorities<S: DcSctpSocket>(rt: &HostRuntime, pair: &Pair<S>, id: StreamId) -> Result<()> {
+    let at_a = pair.a.socket.get_stream_priority(id);
+    let at_b = pair.b.socket.get_stream_priority(id);
+    println!(rt; "{id} has priority {at_a} at a, {at_b} at b")?;
+    Ok(())
+}
+
 /// Answers on which streams the channels of `a` and of `b` are.
 fn open_again<S: DcSctpSocket>(
     rt: &HostRuntime,
@@ -176,6 +184,7 @@ fn open_again<S: DcSctpSocket>(
     let again = open(&mut pair.a, "again", false)?;
     println!(rt; "{before} {again}")?;
     exchange(rt, pair)?;
+    show_priorities(rt, pair, again)?;
     send(&mut pair.b, again, PayloadKind::Text, 2)?;
     let own = open(&mut pair.b, "b", false)?;
     exchange(rt, pair)?;

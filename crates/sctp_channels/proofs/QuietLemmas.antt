@@ -1,5 +1,5 @@
 -- Rows of the table that tell no message, and leave no message in parts.
-use Rattle.std.proofs.Common.{◌≡◌, ℕ, nat_le, cond, Bool, true, false, Option, Some, None, List, [], ◌∷◌, ◌++◌, map, refl, ap, subst, ◌∙◌}
+use Rattle.std.proofs.Common.{◌≡◌, ℕ, ◌==◌, nat_le, cond, Bool, true, false, Option, Some, None, List, [], ◌∷◌, ◌++◌, map, refl, ap, subst, ◌∙◌}
 use Rattle.std.specs.Prelude.{All, IfSome}
 use Rattle.std.specs.BTreeMap.{is_at}
 use Rattle.std.specs.List.{flat_map}
@@ -10,7 +10,7 @@ use Rattle.std.proofs.lemmas.List.{append-nil}
 use Rattle.std.proofs.lemmas.List.Elements.{All-nil}
 use Rattle.std.proofs.lemmas.Map.Views.{All-map-remove_entry, All-values-insert_entry, All-values-set_value, IfSome-lookup_from_All}
 use Rattle.sctp_channels.specs.Channel.{Channel, change_lifecycle, new_channel, reset_incoming, with_lifecycle}
-use Rattle.sctp_channels.specs.Channels.{Channels, Output, acknowledge, change, close, denied, drain, emit, end, is_denied, is_own, is_shown, no_description, on_ack, on_establishment, on_incoming_reset, on_open, on_reset_denied, on_reset_performed, open_from, reopen_if, reset, settle, shown_streams, take_open, tell_closed, tell_end, tell_opened, tell_refused, turn_down, turn_down_from, where_there, with_entries}
+use Rattle.sctp_channels.specs.Channels.{Channels, Output, acknowledge, change, close, denied, drain, emit, end, is_denied, is_own, is_shown, no_description, on_ack, on_establishment, on_incoming_reset, on_open, on_reset_denied, on_reset_performed, open_from, place, prioritize, reopen_if, reset, settle, shown_streams, take_open, tell_closed, tell_end, tell_opened, tell_refused, turn_down, turn_down_from, weigh, where_there, with_entries}
 use Rattle.sctp_channels.specs.Steps.{each}
 use Rattle.sctp_channels.proofs.StandsLemmas.{confirm_from}
 use Rattle.sctp_channels.specs.Entries.{Entries, channel_at, changed_from, forget, put}
@@ -91,11 +91,20 @@ turns_down_from (Some c) id why cs = and_then cs (close id cs) (turn_down_from (
 pub turns_down : (id : ℕ) (why : Refusal) (cs : Channels) → IsQuiet cs (turn_down id why cs)
 turns_down id why cs = turns_down_from (channel_at id cs.entries) id why cs
 
+weighs : (id priority : ℕ) (cs : Channels) → IsQuiet cs (weigh id priority cs)
+weighs id priority cs = either (priority == 0) cs cs (emit (prioritize id priority) cs) (same cs) (emits (prioritize id priority) cs refl)
+
+places : (l : Lifecycle) (description : Open) (id : ℕ) (cs : Channels) → IsQuiet cs (place id l description cs)
+places l description id cs =
+    let there = with_entries (put id (new_channel l description) cs.entries) cs in
+    and_then cs there (place id l description cs) (puts l description id cs) (weighs id description.priority there)
+
 takes_open : (id : ℕ) (description : Open) (l : Lifecycle) (cs : Channels) → IsQuiet cs (take_open id description l cs)
 takes_open id description l cs =
-    let there = with_entries (put id (new_channel l description) cs.entries) cs in
-    and_then cs there (take_open id description l cs) (puts l description id cs)
-    (and_then there (emit (acknowledge id) there) (take_open id description l cs) (emits (acknowledge id) there refl) (emits (tell_opened id) (emit (acknowledge id) there) refl))
+    let answered = emit (acknowledge id) cs in
+    let told = emit (tell_opened id) answered in
+    and_then cs answered (take_open id description l cs) (emits (acknowledge id) cs refl)
+    (and_then answered told (take_open id description l cs) (emits (tell_opened id) answered refl) (places l description id told))
 
 reopens_if : (b : Bool) (id : ℕ) (description : Open) (cs : Channels) → IsQuiet cs (reopen_if b id description cs)
 reopens_if true id description cs =

@@ -9,7 +9,7 @@ use Rattle.std.proofs.lemmas.Option.{slice_get_within, unwrap_or-slice_get}
 use Rattle.sctp_serial.specs.Messages.{Message}
 use Rattle.sctp_state.specs.Events as sockets
 use Rattle.sctp_channels.specs.Channel.{Channel, Received, exceeds, message, on_data, received, take_if, taken_if}
-use Rattle.sctp_channels.specs.Channels.{Channels, OnControl, OnMessage, Output, acknowledge, change, data_from, emit, hand, on_ack, on_incoming_reset, on_reset_denied, on_reset_performed, on_payload, reset, tell_closed, tell_message, tell_opened, tell_refused}
+use Rattle.sctp_channels.specs.Channels.{Channels, OnControl, OnMessage, Output, acknowledge, change, data_from, emit, hand, on_ack, on_incoming_reset, on_reset_denied, on_reset_performed, on_payload, prioritize, reset, tell_closed, tell_message, tell_opened, tell_refused}
 use Rattle.sctp_channels.specs.Steps.{DataChannels, Does, Event, Gets, PassesOn, Step, answers, buffers, carries_out, closes, counts, each, gets, heard, hears, named, passed_on, passes_on, refuses, told_by, with_outputs}
 use Rattle.sctp_channels.specs.Entries.{channel_at}
 use Rattle.sctp_channels.specs.Lifecycle.{takes_data}
@@ -212,6 +212,7 @@ passes_it_on event d e p =
 told_once : (o : Output) → flat_map told_in (told_by o) ≡ message_in o
 told_once (acknowledge id) = refl
 told_once (reset id) = refl
+told_once (prioritize id priority) = refl
 told_once (tell_opened id) = refl
 told_once (tell_message id kind bytes) = refl
 told_once (tell_closed id) = refl

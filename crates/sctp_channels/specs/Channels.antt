@@ -26,6 +26,8 @@ pub data Output : Type 0 where
   acknowledge : (id : ℕ) → Output
   -- the socket resets the stream
   reset : (id : ℕ) → Output
+  -- the socket weighs the stream by this priority
+  prioritize : (id priority : ℕ) → Output
   tell_opened : (id : ℕ) → Output
   tell_message : (id : ℕ) (kind : PayloadKind) (bytes : List ℕ) → Output
   tell_closed : (id : ℕ) → Output
@@ -34,6 +36,7 @@ pub data Output : Type 0 where
 abbrev pub output_of : given.Output → Output
 output_of (outputs.Acknowledge id) = acknowledge id.0
 output_of (outputs.Reset id) = reset id.0
+output_of (outputs.Prioritize id priority) = prioritize id.0 priority
 output_of (outputs.Opened id) = tell_opened id.0
 output_of (outputs.Message id kind bytes) = tell_message id.0 kind bytes.items
 output_of (outputs.Closed id) = tell_closed id.0
@@ -72,15 +75,23 @@ abbrev pub is_own : Bool → ℕ → Bool
 is_own true id = id % 2 == 0
 is_own false id = id % 2 == 1
 
+-- the stream is to have this priority; 0 leaves the one that it has
+abbrev pub weigh : (id priority : ℕ) → Channels → Channels
+weigh id priority cs = cond (priority == 0) cs (emit (prioritize id priority) cs)
+
+-- a channel gets its stream, and the stream the channel's priority
+abbrev pub place : ℕ → Lifecycle → Open → Channels → Channels
+place id l description cs = weigh id description.priority (with_entries (put id (new_channel l description) cs.entries) cs)
+
 -- ---- calls of the owner
 
 -- a channel that this end opens on a stream that is free
 abbrev pub open_own : ℕ → Open → Channels → Channels
-open_own id description cs = with_entries (put id (new_channel life.opened description) cs.entries) cs
+open_own id description cs = place id life.opened description cs
 
 -- a channel that both ends agreed on
 abbrev pub negotiate : ℕ → Open → Channels → Channels
-negotiate id description cs = with_entries (put id (new_channel life.negotiated description) cs.entries) cs
+negotiate id description cs = place id life.negotiated description cs
 
 abbrev pub close : ℕ → Channels → Channels
 close id cs = change (change_lifecycle life.close) id cs
@@ -107,7 +118,7 @@ abbrev pub turn_down : ℕ → Refusal → Channels → Channels
 turn_down id why cs = turn_down_from (channel_at id cs.entries) id why cs
 
 abbrev pub take_open : ℕ → Open → Lifecycle → Channels → Channels
-take_open id description l cs = emit (tell_opened id) (emit (acknowledge id) (with_entries (put id (new_channel l description) cs.entries) cs))
+take_open id description l cs = place id l description (emit (tell_opened id) (emit (acknowledge id) cs))
 
 -- the channel before is closed by the peer's word
 abbrev pub reopen_if : (may_reopen : Bool) → ℕ → Open → Channels → Channels

@@ -5,7 +5,7 @@ use Rattle.std.specs.Map.{keys_of}
 use Rattle.sctp_serial.specs.Messages.{Message}
 use Rattle.sctp_state.specs.Events as sockets
 use Rattle.sctp_channels.specs.Channels as table
-use Rattle.sctp_channels.specs.Channels.{Channels, OnMessage, Output, acknowledge, reset, tell_closed, tell_message, tell_opened, tell_refused}
+use Rattle.sctp_channels.specs.Channels.{Channels, OnMessage, Output, acknowledge, prioritize, reset, tell_closed, tell_message, tell_opened, tell_refused}
 use Rattle.sctp_channels.specs.Payload.{protocol_of}
 use Rattle.sctp_channels.specs.declared.event.ChannelEvent as given
 use Rattle.sctp_channels.specs.declared.event.ChannelEvent.TheVariants as events
@@ -44,6 +44,7 @@ with_channels cs d = record d { channels = cs }
 abbrev pub told_by : Output → List Event
 told_by (acknowledge id) = []
 told_by (reset id) = []
+told_by (prioritize id priority) = []
 told_by o = of_channels o ∷ []
 
 -- an answer is to be sent

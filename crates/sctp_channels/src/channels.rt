@@ -8,7 +8,7 @@ ghost use Rattle.sctp_channels.specs.Payload.{protocol_of};
 ghost use Rattle.sctp_channels.specs.Steps.{each};
 ghost use Rattle.sctp_channels.specs.Views.{open_of};
 ghost use Rattle.sctp_channels.specs.Channel.{count_received, new_channel, received_as, takes_whole, with_lifecycle};
-ghost use Rattle.sctp_channels.specs.Channels.{Emits, OnControl, OnMessage, Output as output, Stands, change, close, deliver, drain, emit, end, hand, is_denied, is_own, is_shown, negotiate, no_channels, on_ack, on_incoming_reset, on_open, on_payload, on_reset_denied, on_reset_performed, open_from, open_own, output_of, sent, shown_streams, take_open, tell_closed, tell_end, turn_down, with_entries};
+ghost use Rattle.sctp_channels.specs.Channels.{Emits, OnControl, OnMessage, Output as output, Stands, change, close, deliver, drain, emit, end, hand, is_denied, is_own, is_shown, negotiate, no_channels, on_ack, on_incoming_reset, on_open, on_payload, on_reset_denied, on_reset_performed, open_from, open_own, output_of, place, sent, shown_streams, take_open, tell_closed, tell_end, turn_down, with_entries};
 ghost use Rattle.sctp_channels.specs.DataChannels.{IsOpenAt};
 ghost use Rattle.sctp_channels.specs.Entries.{channel_at, forget, put};
 
@@ -191,6 +191,27 @@ impl Channels {
         Ok(())
     }
 
+    /// As `put`, and the stream is to have the channel's priority. One of 0 leaves the stream's own.
+    fn place(
+        &mut self,
+        id: StreamId,
+        lifecycle: Lifecycle,
+        description: DataChannelOpen,
+    ) -> Result<(), AllocError>
+        ensures ok { OnOk result (self.new ≡ place id.0 lifecycle (open_of description) self.old) }
+        ensures err { OnErr result (self.new ≡ self.old) }
+    {
+        let priority = description.priority;
+        let channel = Channel::new(self.alloc, lifecycle, description);
+        self.outputs.reserve(1)?;
+        self.entries.insert(id.0, channel)?;
+        if priority != 0 {
+            self.outputs
+                .push_back_reserved(Output::Prioritize(id, priority));
+        }
+        Ok(())
+    }
+
     /// Goes on with this lifecycle on a stream that has a channel.
     fn set_lifecycle(&mut self, id: StreamId, lifecycle: Lifecycle)
         ensures { self.new ≡ change (with_lifecycle lifecycle) id.0 self.old }
@@ -200,16 +221,17 @@ impl Channels {
         }
     }
 
-    /// Opens a channel on a stream that is free, of this end's parity (`free_stream`). DATA_CHANNEL_OPEN is to be sent first of all on it.
+    /// Opens a channel on a stream that is free, of this end's parity (`free_stream`), which is to have the channel's priority, unless that is 0.
+    /// DATA_CHANNEL_OPEN is to be sent first of all on it.
     pub fn open(&mut self, id: StreamId, description: DataChannelOpen) -> Result<(), AllocError>
         ensures ok { OnOk result (self.new ≡ open_own id.0 (open_of description) self.old) }
         ensures err { OnErr result (self.new ≡ self.old) }
     {
         self.first_candidate = id.0.saturating_add(1);
-        self.put(id, Lifecycle::opened(), description)
+        self.place(id, Lifecycle::opened(), description)
     }
 
-    /// A channel that both ends have agreed on, on a stream that is free, of any parity.
+    /// A channel that both ends have agreed on, on a stream that is free, of any parity, and that is to have its priority, unless that is 0.
     pub fn negotiate(
         &mut self,
         id: StreamId,
@@ -218,7 +240,7 @@ impl Channels {
         ensures ok { OnOk result (self.new ≡ negotiate id.0 (open_of description) self.old) }
         ensures err { OnErr result (self.new ≡ self.old) }
     {
-        self.put(id, Lifecycle::negotiated(), description)
+        self.place(id, Lifecycle::negotiated(), description)
     }
 
     /// The owner closes the channel: what was accepted is sent, then its stream is reset (`drain`).
@@ -282,7 +304,7 @@ impl Channels {
     {
         self.emit(Output::Acknowledge(id))?;
         self.emit(Output::Opened(id))?;
-        self.put(id, lifecycle, description)
+        self.place(id, lifecycle, description)
     }
 
     /// Says that a channel is closed whose owner knows it, and forgets it.
@@ -378,7 +400,7 @@ impl Channels {
         Ok(())
     }
 
-    /// The peer opens a channel.
+    /// The peer opens a channel. Where it is taken its stream is to have its priority, unless that is 0.
     pub fn on_open(&mut self, id: StreamId, description: DataChannelOpen) -> Result<(), AllocError>
         ensures ok { OnOk result (self.new ≡ on_open id.0 (open_of description) self.old) }
         ensures err { OnErr result (Emits self.old self.new) }

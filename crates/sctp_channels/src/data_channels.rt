@@ -88,7 +88,8 @@ impl DataChannels {
         self.events.pop_front()
     }
 
-    /// Opens a channel. Messages may be sent on it at once; `Opened` tells when the peer has it.
+    /// Opens a channel. Messages may be sent on it at once; `Opened` tells when the peer has it. Its stream has its priority once the next call
+    /// of `collect`, of `close` or, where nothing waits for the owner, of `poll_event` was made.
     pub fn open<S: DcSctpSocket>(
         &mut self,
         socket: &mut S,
@@ -119,7 +120,7 @@ impl DataChannels {
         Ok(id)
     }
 
-    /// A channel that both ends have agreed on, on a stream that is free. It is open at once.
+    /// A channel that both ends have agreed on, on a stream that is free. It is open at once, and its stream has its priority as by `open`.
     pub fn negotiate(&mut self, id: StreamId, description: DataChannelOpen) -> Result<(), OpenError>
         ensures ok { OnOk result (self.new ≡ with_channels (negotiate id.0 (open_of description) self.old.channels) self.old) }
         ensures free { OnOk result (channel_at id.0 self.old.channels.entries ≡ None) }
@@ -587,20 +588,24 @@ impl DataChannels {
         ensures told { StaysTold self.old self.new }
     {
         let mut resets = Vec::new(self.alloc);
-        self.take_outputs(&mut resets)?;
+        self.take_outputs(socket, &mut resets)?;
         self.answer_all(socket)?;
         self.ask_for_resets(socket, &resets)?;
-        self.take_outputs(&mut resets)?;
+        self.take_outputs(socket, &mut resets)?;
         Ok(())
     }
 
     #[tactic(auto, using(crate::proofs::FollowsLemmas::fewer, crate::proofs::FollowsLemmas::told_same, crate::proofs::FollowsLemmas::carried_all))]
-    fn take_outputs(&mut self, resets: &mut Vec<StreamId>) -> Result<(), AllocError>
+    fn take_outputs<S: DcSctpSocket>(
+        &mut self,
+        socket: &mut S,
+        resets: &mut Vec<StreamId>,
+    ) -> Result<(), CallError>
         ensures row { OnOk result (self.new ≡ with_outputs self.old) }
         ensures told { StaysTold self.old self.new }
     {
         while let Some(output) = self.next_output() {
-            self.take_output(output, resets)?;
+            self.take_output(socket, output, resets)?;
         }
         Ok(())
     }
@@ -612,18 +617,32 @@ impl DataChannels {
         self.channels.next_output()
     }
 
-    fn take_output(&mut self, output: Output, resets: &mut Vec<StreamId>) -> Result<(), AllocError>
+    fn take_output<S: DcSctpSocket>(
+        &mut self,
+        socket: &mut S,
+        output: Output,
+        resets: &mut Vec<StreamId>,
+    ) -> Result<(), CallError>
         ensures row { OnOk result (self.new ≡ record self.old { events = self.old.events ++ told_by (output_of output); unanswered = self.old.unanswered ++ acknowledged_by (output_of output) }) }
         ensures err { OnErr result (self.new ≡ self.old) }
     {
         match output {
-            Output::Acknowledge(id) => self.unanswered.push_back(id)?,
-            Output::Reset(id) => resets.push(id)?,
+            Output::Acknowledge(id) => self.answer_later(id)?,
+            Output::Reset(id) => keep(resets, id)?,
+            Output::Prioritize(id, priority) => socket.set_stream_priority(id, priority)?,
             Output::Opened(id) => self.tell(ChannelEvent::Opened(id))?,
             Output::Message(id, kind, bytes) => self.tell(ChannelEvent::Message(id, kind, bytes))?,
             Output::Closed(id) => self.tell(ChannelEvent::Closed(id))?,
             Output::Refused(id, why) => self.tell(ChannelEvent::Refused(id, why))?,
         }
+        Ok(())
+    }
+
+    fn answer_later(&mut self, id: StreamId) -> Result<(), AllocError>
+        ensures ok { OnOk result (self.new ≡ record self.old { unanswered = self.old.unanswered ++ id.0 ∷ [] }) }
+        ensures err { OnErr result (self.new ≡ self.old) }
+    {
+        self.unanswered.push_back(id)?;
         Ok(())
     }
 
@@ -656,6 +675,11 @@ impl DataChannels {
             Err(_refusal) => Ok(self.channels.on_resets_denied(ids)?),
         }
     }
+}
+
+fn keep(ids: &mut Vec<StreamId>, id: StreamId) -> Result<(), AllocError> {
+    ids.push(id)?;
+    Ok(())
 }
 
 /// What is left of an event for the owner.

@@ -21,7 +21,8 @@ pub struct DataChannelOpen {
     pub unordered: bool,
     /// How often a message is sent again.
     pub reliability: Reliability,
-    /// Its weight, which is told to the peer alone: 128 below normal, 256 normal, 512 high, 1,024 extra high; others are kept.
+    /// Its weight (RFC 8831 section 6.4): 128 below normal, 256 normal, 512 high, 1,024 extra high; others are kept. The peer is told, and the
+    /// socket gives it to the channel's stream (`DcSctpSocket::set_stream_priority`), unless it is 0, which leaves the stream's own.
     pub priority: u16,
     /// Its name, which may be empty, and may be that of other channels too.
     pub label: String,

@@ -29,6 +29,8 @@ pub enum Output {
     Acknowledge(StreamId),
     /// The outgoing stream is to be reset.
     Reset(StreamId),
+    /// The outgoing stream is to have this priority, that of its channel, which is never 0.
+    Prioritize(StreamId, u16),
     /// The channel is open: the peer has opened it, or has answered.
     Opened(StreamId),
     /// A message came.

@@ -5,7 +5,7 @@ use Rattle.sctp_channels.proofs.FollowsLemmas.{one_less, told_of_outputs, told_t
 use Rattle.sctp_channels.proofs.data_channels.DataChannels.take_outputs.Goals as goal
 
 pub loop-output-preserved : goal.loop-output-preserved
-loop-output-preserved c =
+loop-output-preserved g c =
     let o = output_of c.in-Some.output in
     let taken = c.in-Some.ensures.taken in
     let row = c.in_ok-take_output.ensures.row in
