@@ -4,7 +4,8 @@ use Rattle.rand_core.specs.Steps.{stream_of, steps_u32}
 use Rattle.rand_core.specs.Stream.{Stream}
 use Rattle.rand_chacha.specs.ChaCha.{ChaCha, next_word}
 use Rattle.sctp_association.specs.Socket.{SocketValue, Ends, endpoint}
-use Rattle.sctp_c_calls.specs.Answers.{IsAmong, OnAnswer, ending_at}
+use Rattle.sctp_c_calls.specs.Answers.{ending_at}
+use Rattle.sctp_c_records.specs.Answers.{IsAmong, OnAnswer}
 use Rattle.sctp_c_calls.specs.Handover.{record_of, record_or}
 use Rattle.sctp_c_records.specs.Checksum.{word_by}
 use Rattle.sctp_c_records.specs.declared.checksum.PacketChecksum.{PacketChecksum}

@@ -2,7 +2,8 @@
 use Rattle.std.specs.Prelude.{◌≡◌, ℕ}
 use Rattle.sctp_channels.specs.Channel.{Channel}
 use Rattle.sctp_channels.specs.DataChannels.{DataChannels}
-use Rattle.sctp_c_channels.specs.Answers.{OfChannelAt, OnAnswer, OnChannels, OnOthers}
+use Rattle.sctp_c_channels.specs.Answers.{OfChannelAt, OnChannels}
+use Rattle.sctp_c_records.specs.Answers.{OnAnswer, OnOthers}
 use Rattle.sctp_c_channels.specs.Records.{IsStarted}
 use Rattle.sctp_c_channels.specs.declared.starting.StartRecord.{StartRecord}
 use Rattle.sctp_c.specs.declared.endpoint.Endpoint.{Endpoint}

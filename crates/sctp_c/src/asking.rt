@@ -2,7 +2,8 @@
 
 ghost use Rattle.std.specs.Prelude.{◌≡◌, ◌==◌, ◌↔◌, true, ◌-◌, ◌^◌, ◌<◌, ◌≤◌, [], ◌∷◌, length, None, min, option_map};
 ghost use Rattle.sctp_c.specs.Calls.{Answers, OnSocket, Tells, end_of};
-ghost use Rattle.sctp_c_calls.specs.Answers.{IsAmong, OnAnswer, state_number};
+ghost use Rattle.sctp_c_calls.specs.Answers.{state_number};
+ghost use Rattle.sctp_c_records.specs.Answers.{IsAmong, OnAnswer};
 ghost use Rattle.sctp_c_calls.specs.Asking.{ShowsMetrics, ShowsOptions, shown_metrics};
 ghost use Rattle.sctp_calls.specs.Metrics.{metrics_in};
 ghost use Rattle.sctp_tx_queue.specs.SendQueue as queue;

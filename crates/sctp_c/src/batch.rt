@@ -3,7 +3,8 @@
 ghost use Rattle.std.specs.Prelude.{◌≡◌, ◌<◌, ◌≤◌, true, false, [], ◌∷◌, length, map, replicate, take};
 ghost use Rattle.sctp_c.specs.Batch.{refusals};
 ghost use Rattle.sctp_c.specs.Calls.{Answers, OnSocket, end_of};
-ghost use Rattle.sctp_c_calls.specs.Answers.{Ended, IsAmong, OnSettled, batch_number, mark_refused};
+ghost use Rattle.sctp_c_calls.specs.Answers.{Ended, OnSettled, batch_number, mark_refused};
+ghost use Rattle.sctp_c_records.specs.Answers.{IsAmong};
 ghost use Rattle.sctp_c_calls.specs.Batch.{given_message, have_streams};
 ghost use Rattle.sctp_c_records.specs.Records.{IsKnown, given_send_options, send_in};
 ghost use Rattle.spec_endpoint.specs.Calls as table;

@@ -4,7 +4,8 @@ ghost use Rattle.std.specs.Prelude.{◌≡◌, ◌<◌, ◌≤◌, [], ◌∷◌
 ghost use Rattle.sctp_c.specs.Calls.{Answers};
 ghost use Rattle.sctp_c.specs.Channels.{AsksChannel, OnChannelsOf, StartsOf};
 ghost use Rattle.sctp_c.specs.Lent.{PointsAt};
-ghost use Rattle.sctp_c_channels.specs.Answers.{IsAmong, Negotiated, OnAnswer, OnOthers, Opened, Sent};
+ghost use Rattle.sctp_c_channels.specs.Answers.{Negotiated, Opened, Sent};
+ghost use Rattle.sctp_c_records.specs.Answers.{IsAmong, OnAnswer, OnOthers};
 ghost use Rattle.sctp_c_channels.specs.Events.{Shows, kind_at};
 ghost use Rattle.sctp_c_channels.specs.Records.{CopiesText, IsKnown, channel_bytes, channel_in, given_open, shown_channel, start_in, statistics_bytes};
 ghost use Rattle.sctp_channels.specs.Entries.{channel_at};

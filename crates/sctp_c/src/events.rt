@@ -3,7 +3,7 @@
 ghost use Rattle.std.specs.Prelude.{◌≡◌, ◌<◌, ◌≤◌, [], ◌∷◌, length, drop};
 ghost use Rattle.sctp_c.specs.Calls.{Answers};
 ghost use Rattle.sctp_c.specs.Lent.{PointsAt};
-ghost use Rattle.sctp_c_calls.specs.Answers.{IsAmong, OnAnswer, OnOthers};
+ghost use Rattle.sctp_c_records.specs.Answers.{IsAmong, OnAnswer, OnOthers};
 ghost use Rattle.sctp_c_calls.specs.Events.{Needs, Shows, ShowsAll, waiting, with_events};
 
 use crate::handle::Handle;

@@ -3,7 +3,8 @@
 ghost use Rattle.std.specs.Prelude.{◌≡◌, ◌<◌, [], ◌∷◌, None, Some, length};
 ghost use Rattle.sctp_association.specs.Socket.{Ends};
 ghost use Rattle.sctp_c.specs.Calls.{Answers, OnSocket, end_of, record_at, stream};
-ghost use Rattle.sctp_c_calls.specs.Answers.{IsAmong, OnAnswer, OnOthers, ending_at};
+ghost use Rattle.sctp_c_calls.specs.Answers.{ending_at};
+ghost use Rattle.sctp_c_records.specs.Answers.{IsAmong, OnAnswer, OnOthers};
 ghost use Rattle.sctp_c_calls.specs.Handover.{Holds, IsNone, IsRecord, IsTaken, Refuses, Restores, in_the_way, left_by, record_of};
 ghost use Rattle.sctp_c_records.specs.Checksum.{word_by};
 ghost use Rattle.sctp_handover.specs.Bounds.{RecordFits};

@@ -3,7 +3,7 @@
 ghost use Rattle.std.specs.Prelude.{◌≡◌, ◌<◌, ◌≤◌, [], ◌∷◌, length, None, is_some, true, false, IfOk};
 ghost use Rattle.rand_chacha.specs.ChaCha.{of_seed};
 ghost use Rattle.sctp_c.specs.Making.{IsFresh, Made, NamesKnown};
-ghost use Rattle.sctp_c_calls.specs.Answers.{IsAmong, OnAnswer, OnOthers};
+ghost use Rattle.sctp_c_records.specs.Answers.{IsAmong, OnAnswer, OnOthers};
 ghost use Rattle.sctp_c_records.specs.OptionsStruct.{default_record, invalid_place, options_bytes, options_in, webrtc_options, webrtc_record};
 ghost use Rattle.sctp_c_records.specs.Records.{given_checksum, given_options};
 ghost use Rattle.sctp_c_records.specs.declared.checksum.PacketChecksum.TheVariants.{Crc32c};

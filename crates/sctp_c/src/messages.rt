@@ -3,7 +3,8 @@
 ghost use Rattle.std.specs.Prelude.{◌≡◌, [], ◌∷◌, length, ◌<◌, ◌≤◌, None, Some, drop, option_map};
 ghost use Rattle.sctp_c.specs.Calls.{Answers, OnSocket, end_of};
 ghost use Rattle.sctp_c.specs.Lent.{PointsAt};
-ghost use Rattle.sctp_c_calls.specs.Answers.{Ended, IsAmong, OnAnswer, OnOthers, OnSettled, refusal_number};
+ghost use Rattle.sctp_c_calls.specs.Answers.{Ended, OnSettled, refusal_number};
+ghost use Rattle.sctp_c_records.specs.Answers.{IsAmong, OnAnswer, OnOthers};
 ghost use Rattle.sctp_c_calls.specs.Events.{HasAll, HasMessage, NeedsMore, with_given_up};
 ghost use Rattle.sctp_c_records.specs.Records.{IsKnown, given_send_options, send_in};
 ghost use Rattle.sctp_c_records.specs.GivenUp.{given_up_record};

@@ -3,7 +3,8 @@
 ghost use Rattle.std.specs.Prelude.{◌≡◌, ◌∷◌, [], ◌<◌, ◌≤◌};
 ghost use Rattle.sctp_association.specs.Socket.{Ends};
 ghost use Rattle.sctp_c.specs.Calls.{Answers, Makes, OnSocket, end_of};
-ghost use Rattle.sctp_c_calls.specs.Answers.{Ended, IsAmong, OnSettled, ending_at, reset_number};
+ghost use Rattle.sctp_c_calls.specs.Answers.{Ended, OnSettled, ending_at, reset_number};
+ghost use Rattle.sctp_c_records.specs.Answers.{IsAmong};
 ghost use Rattle.spec_endpoint.specs.Association.{in_context};
 ghost use Rattle.spec_endpoint.specs.Calls as table;
 ghost use Rattle.spec_endpoint.specs.Input.{in_endpoint_state};

@@ -1,14 +1,10 @@
 -- What holds of a call's answer holds of its number.
-use Rattle.std.proofs.Common.{Ok, Err, Result, ◌∷◌, [], refl, OnOk}
+use Rattle.std.proofs.Common.{Ok, Err, Result, OnOk}
 use Rattle.sctp_state.specs.declared.api.errors.CallError.{CallError}
 use Rattle.sctp_state.specs.declared.api.errors.CallError.TheVariants as calls
 use Rattle.sctp_association.specs.Socket.{Ends, SocketValue, ending_of}
-use Rattle.sctp_c_calls.specs.Answers.{IsAmong, OnAnswer, call_number, ending_at}
-
-pub among : (r : Result (Unit {0}) CallError) → IsAmong (0 ∷ 1 ∷ 2 ∷ []) (call_number r)
-among (Ok done) = refl
-among (Err calls.Memory) = refl
-among (Err calls.Failed) = refl
+use Rattle.sctp_c_calls.specs.Answers.{ending_at}
+use Rattle.sctp_c_records.specs.Answers.{OnAnswer, call_number}
 
 pub ends : {R C : Type 0} (r : Result (Unit {0}) CallError) (s t : SocketValue R C) → Ends (ending_of r) s t → Ends (ending_at (call_number r)) s t
 ends (Ok done) s t e = e

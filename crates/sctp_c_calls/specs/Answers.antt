@@ -1,7 +1,5 @@
 -- What a call did, by the number that it answers.
-use Rattle.std.specs.Prelude.{◌≡◌, ℕ, zero, suc, ◌==◌, ◌||◌, ◌&&◌, not, nat_le, Bool, true, false, Option, Some, None, Result, Ok, Err, List, [], ◌∷◌, set}
-use Rattle.sctp_state.specs.declared.api.errors.CallError.{CallError}
-use Rattle.sctp_state.specs.declared.api.errors.CallError.TheVariants as calls
+use Rattle.std.specs.Prelude.{◌≡◌, ℕ, zero, suc, ◌==◌, ◌||◌, ◌&&◌, not, nat_le, Option, Some, None, List, [], ◌∷◌, set}
 use Rattle.sctp_state.specs.declared.api.errors.SendError.{SendError}
 use Rattle.sctp_state.specs.declared.api.errors.SendError.TheVariants.{EmptyPayload, MessageTooLarge, ShuttingDown, ResourceExhaustion, Memory, Failed}
 use Rattle.sctp_state.specs.declared.api.errors.ResetStreamsError.{ResetStreamsError}
@@ -10,6 +8,7 @@ use Rattle.sctp_state.specs.declared.api.errors.RestoreError.{RestoreError}
 use Rattle.sctp_state.specs.declared.api.errors.RestoreError.TheVariants as restores
 use Rattle.sctp_state.specs.declared.api.SocketState.{SocketState}
 use Rattle.sctp_state.specs.declared.api.SocketState.TheVariants as shown
+use Rattle.sctp_c_records.specs.Answers.{by_test}
 use Rattle.sctp_association.specs.Socket.{Ending, Worked, RanOut, HadFailed, SocketValue, Ends}
 
 -- 1 is want of memory, for good, 2 that an earlier call found too little; a refusal leaves the socket working
@@ -18,32 +17,6 @@ ending_at zero = Worked
 ending_at (suc zero) = RanOut
 ending_at (suc (suc zero)) = HadFailed
 ending_at (suc (suc (suc n))) = Worked
-
--- what a call answers that says nothing else
-abbrev pub call_number : Result (Unit {0}) CallError → ℕ
-call_number (Ok done) = 0
-call_number (Err calls.Memory) = 1
-call_number (Err calls.Failed) = 2
-
-abbrev pub by_test : Bool → Type 0 → Type 0 → Type 0
-by_test true P Q = P
-by_test false P Q = Q
-
--- the answer is one of these
-abbrev pub is_among : List ℕ → ℕ → Bool
-is_among [] answer = false
-is_among (n ∷ ns) answer = answer == n || is_among ns answer
-
-abbrev pub IsAmong : List ℕ → ℕ → Type 0
-IsAmong ns answer = is_among ns answer ≡ true
-
--- P, where the answer is this one
-abbrev pub OnAnswer : (expected answer : ℕ) → Type 0 → Type 0
-OnAnswer expected answer P = by_test (answer == expected) P (Unit {0})
-
--- P, where the answer is another
-abbrev pub OnOthers : (expected answer : ℕ) → Type 0 → Type 0
-OnOthers expected answer P = by_test (answer == expected) (Unit {0}) P
 
 -- 17 is want of memory before the call, which changes nothing
 abbrev pub Ended : {R C : Type 0} → ℕ → (before after : SocketValue R C) → Type 0

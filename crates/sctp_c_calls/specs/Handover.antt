@@ -2,7 +2,8 @@
 use Rattle.std.specs.Prelude.{◌≡◌, ◌==◌, ℕ, Option, Some, None, List, [], ◌∷◌, length, option_map, take}
 use Rattle.rand_core.specs.Stream.{Stream}
 use Rattle.sctp_association.specs.Socket.{Ends, SocketValue, endpoint}
-use Rattle.sctp_c_calls.specs.Answers.{IsAmong, OnAnswer, OnSettled, by_test, ending_at, restore_number}
+use Rattle.sctp_c_calls.specs.Answers.{OnSettled, ending_at, restore_number}
+use Rattle.sctp_c_records.specs.Answers.{IsAmong, OnAnswer, by_test}
 use Rattle.sctp_handover.specs.Bounds.{RecordFits}
 use Rattle.sctp_handover.specs.Bytes.{record_bytes}
 use Rattle.sctp_state.specs.Handover.{HandoverState, handover_state_of}

@@ -2,7 +2,8 @@
 
 ghost use Rattle.std.specs.Prelude.{◌≡◌, ◌==◌, ◌-◌, ◌^◌, ◌<◌, ◌≤◌, ◌↔◌, true, [], ◌∷◌, length, None, min, option_map};
 ghost use Rattle.sctp_association.specs.Socket.{endpoint};
-ghost use Rattle.sctp_c_calls.specs.Answers.{IsAmong, OnAnswer, state_number};
+ghost use Rattle.sctp_c_calls.specs.Answers.{state_number};
+ghost use Rattle.sctp_c_records.specs.Answers.{IsAmong, OnAnswer};
 ghost use Rattle.sctp_c_calls.specs.Asking.{ShowsMetrics, ShowsOptions, shown_metrics};
 ghost use Rattle.sctp_c_records.specs.Metrics.{one_if};
 ghost use Rattle.sctp_calls.specs.Metrics.{metrics_in};
@@ -16,7 +17,7 @@ ghost use Rattle.spec_endpoint.specs.Timers as time;
 use rand_core::Rng;
 use sctp_association::{Checksum, DcSctpSocket, Socket, SocketState, StreamId};
 use sctp_c_records::answers::{FAILED, NOTHING, OK};
-use sctp_c_records::{MetricsRecord, OptionsRecord, PacketChecksum};
+use sctp_c_records::{MetricsRecord, OptionsRecord, PacketChecksum, one_if};
 
 /// The moment by which the time is to be advanced next, in nanoseconds; the greatest number where none so early is.
 pub fn nanos_until<R: Rng, C: Checksum>(socket: &Socket<R, C>) -> u64
@@ -130,13 +131,7 @@ pub fn write_options<R: Rng>(socket: &Socket<R, PacketChecksum>, bytes: &mut [u8
 pub fn rest_number<R: Rng, C: Checksum>(socket: &Socket<R, C>) -> u32
     ensures { result ≡ one_if (is_at_rest socket.now.state socket.now.context.queue) }
 {
-    if socket.is_at_rest() { 1 } else { 0 }
-}
-
-fn one_if(holds: bool) -> u32
-    ensures { (result == 1) ≡ holds }
-{
-    if holds { 1 } else { 0 }
+    one_if(socket.is_at_rest()) as u32
 }
 
 /// Whether bytes would be refused, 1 or 0.
@@ -147,7 +142,7 @@ pub fn refuses<R: Rng, C: Checksum>(socket: &Socket<R, C>, bytes: &[u8], refused
 {
     match socket.refuses(bytes) {
         Ok(is_refused) => {
-            *refused = one_if(is_refused);
+            *refused = one_if(is_refused) as u32;
             OK
         }
         Err(_) => FAILED,

@@ -2,7 +2,8 @@
 
 ghost use Rattle.std.specs.Prelude.{◌≡◌, ◌<◌, ◌≤◌, ◌^◌, true, [], ◌∷◌, length, map, replicate, take, IfOk};
 ghost use Rattle.sctp_association.specs.Socket.{endpoint};
-ghost use Rattle.sctp_c_calls.specs.Answers.{Ended, IsAmong, OnSettled, batch_number, mark_refused};
+ghost use Rattle.sctp_c_calls.specs.Answers.{Ended, OnSettled, batch_number, mark_refused};
+ghost use Rattle.sctp_c_records.specs.Answers.{IsAmong};
 ghost use Rattle.sctp_c_calls.specs.Batch.{given_message, has_stream, have_streams};
 ghost use Rattle.sctp_c_records.specs.Records.{given_send_options};
 ghost use Rattle.sctp_serial.specs.Messages.{message_of};

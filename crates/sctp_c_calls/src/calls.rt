@@ -2,16 +2,17 @@
 
 ghost use Rattle.std.specs.Prelude.{◌≡◌, [], ◌∷◌};
 ghost use Rattle.sctp_association.specs.Socket.{Ends, endpoint};
-ghost use Rattle.sctp_c_calls.specs.Answers.{IsAmong, OnAnswer, ending_at};
+ghost use Rattle.sctp_c_calls.specs.Answers.{ending_at};
+ghost use Rattle.sctp_c_records.specs.Answers.{IsAmong, OnAnswer};
 ghost use Rattle.spec_endpoint.specs.Shutdown as closing;
 ghost use Rattle.spec_endpoint.specs.Receiving.{Receives};
 ghost use Rattle.spec_endpoint.specs.Input.{in_endpoint_state};
 ghost use Rattle.spec_endpoint.specs.Opening as opening;
 ghost use Rattle.spec_endpoint.specs.Timers as time;
 
-use crate::outcome::call_number;
 use rand_core::Rng;
 use sctp_association::{Checksum, DcSctpSocket, Socket, SocketTime};
+use sctp_c_records::answers::call_number;
 use std::time::Duration;
 
 /// Opens an association, where the socket is closed.

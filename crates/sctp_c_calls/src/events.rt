@@ -1,7 +1,7 @@
 //! What a socket emitted, handed out or lent. What doesn't fit stays.
 
 ghost use Rattle.std.specs.Prelude.{◌≡◌, Some, None, [], ◌∷◌, length, drop, option_map};
-ghost use Rattle.sctp_c_calls.specs.Answers.{IsAmong, OnAnswer, OnOthers};
+ghost use Rattle.sctp_c_records.specs.Answers.{IsAmong, OnAnswer, OnOthers};
 ghost use Rattle.sctp_c_calls.specs.Events.{Needs, Shows, ShowsAll, waiting, with_events};
 ghost use Rattle.sctp_state.specs.Events.{SendPacket, event_of, first_of};
 

@@ -2,7 +2,8 @@
 
 ghost use Rattle.std.specs.Prelude.{◌≡◌, ◌<◌, [], ◌∷◌, None, Some, Err, length, IfErr, IfOk, OnOk};
 ghost use Rattle.sctp_association.specs.Socket.{Ends, endpoint, handover_ending};
-ghost use Rattle.sctp_c_calls.specs.Answers.{IsAmong, OnAnswer, OnOthers, ending_at};
+ghost use Rattle.sctp_c_calls.specs.Answers.{ending_at};
+ghost use Rattle.sctp_c_records.specs.Answers.{IsAmong, OnAnswer, OnOthers};
 ghost use Rattle.sctp_c_calls.specs.Handover.{Holds, IsNone, IsRecord, IsTaken, OnNotReady, Refuses, Restores, in_the_way, left_by, record_of, record_or};
 ghost use Rattle.sctp_c_records.specs.Event.{Copied};
 ghost use Rattle.sctp_handover.specs.Bounds.{RecordFits};

@@ -7,7 +7,6 @@ mod calls;
 mod events;
 mod handover;
 mod messages;
-mod outcome;
 mod settings;
 
 pub use asking::{

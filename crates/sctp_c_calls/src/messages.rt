@@ -2,7 +2,8 @@
 
 ghost use Rattle.std.specs.Prelude.{◌≡◌, ◌<◌, ◌^◌, [], ◌∷◌, length, None, Some, drop, option_map};
 ghost use Rattle.sctp_association.specs.Socket.{endpoint};
-ghost use Rattle.sctp_c_calls.specs.Answers.{Ended, IsAmong, OnAnswer, OnOthers, OnSettled, refusal_number};
+ghost use Rattle.sctp_c_calls.specs.Answers.{Ended, OnSettled, refusal_number};
+ghost use Rattle.sctp_c_records.specs.Answers.{IsAmong, OnAnswer, OnOthers};
 ghost use Rattle.sctp_c_calls.specs.Events.{HasAll, HasMessage, NeedsMore, message_record, with_given_up};
 ghost use Rattle.sctp_c_records.specs.Event.{Copied};
 ghost use Rattle.sctp_c_records.specs.GivenUp.{given_up_record};

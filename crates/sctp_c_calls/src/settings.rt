@@ -2,17 +2,19 @@
 
 ghost use Rattle.std.specs.Prelude.{◌≡◌, [], ◌∷◌, IfOk};
 ghost use Rattle.sctp_association.specs.Socket.{Ends, endpoint};
-ghost use Rattle.sctp_c_calls.specs.Answers.{Ended, IsAmong, OnAnswer, OnSettled, ending_at, reset_number};
+ghost use Rattle.sctp_c_calls.specs.Answers.{Ended, OnSettled, ending_at, reset_number};
+ghost use Rattle.sctp_c_records.specs.Answers.{IsAmong, OnAnswer};
 ghost use Rattle.sctp_state.specs.Events.{numbers_of};
 ghost use Rattle.spec_endpoint.specs.Association.{in_context};
 ghost use Rattle.spec_endpoint.specs.Calls as calls;
 ghost use Rattle.spec_endpoint.specs.Input.{in_endpoint_state};
 ghost use Rattle.spec_endpoint.specs.StreamReset as resets;
 
-use crate::outcome::call_number;
 use rand_core::Rng;
 use sctp_association::{Checksum, DcSctpSocket, ResetStreamsError, Socket, StreamId};
-use sctp_c_records::answers::{FAILED, MEMORY, NO_ASSOCIATION, NO_ROOM, NOT_SUPPORTED, OK};
+use sctp_c_records::answers::{
+    FAILED, MEMORY, NO_ASSOCIATION, NO_ROOM, NOT_SUPPORTED, OK, call_number,
+};
 use std::alloc::{AllocError, Global};
 
 /// Sets the priority of a stream.

@@ -3,7 +3,7 @@ use Rattle.std.proofs.Common.{◌≡◌, ℕ, List, sym, ap, subst, ◌∙◌}
 use Rattle.sctp_c_records.specs.Event.{event_bytes}
 use Rattle.sctp_c_records.specs.declared.event.EventRecord.{EventRecord}
 use Rattle.sctp_channels.specs.declared.event.ChannelEvent.{ChannelEvent}
-use Rattle.sctp_c_channels.specs.Answers.{OnAnswer}
+use Rattle.sctp_c_records.specs.Answers.{OnAnswer}
 use Rattle.sctp_c_channels.specs.Events.{Shows, content_of, head_of}
 
 pub shows : (event : ChannelEvent) (head : EventRecord) (answer : ℕ) (old new bytes : List ℕ) → answer ≡ 0 → new ≡ event_bytes head old → head ≡ head_of event

@@ -1,30 +1,10 @@
 -- What a call did to the channels of a socket, by the number that it answers.
-use Rattle.std.specs.Prelude.{◌≡◌, ℕ, ◌==◌, ◌||◌, ◌<◌, Bool, true, false, Option, Some, None, List, [], ◌∷◌}
+use Rattle.std.specs.Prelude.{◌≡◌, ℕ, ◌<◌, true, Option, Some, None}
 use Rattle.sctp_channels.specs.Channel.{Channel}
 use Rattle.sctp_channels.specs.Views.{Open}
 use Rattle.sctp_channels.specs.DataChannels.{DataChannels, IsOpenAt, IsShortEnough, with_channels}
 use Rattle.sctp_channels.specs.Channels.{is_own, negotiate, open_own, sent}
 use Rattle.sctp_channels.specs.Entries.{channel_at}
-
-abbrev pub by_test : Bool → Type 0 → Type 0 → Type 0
-by_test true P Q = P
-by_test false P Q = Q
-
--- the answer is one of these
-abbrev pub is_among : List ℕ → ℕ → Bool
-is_among [] answer = false
-is_among (n ∷ ns) answer = answer == n || is_among ns answer
-
-abbrev pub IsAmong : List ℕ → ℕ → Type 0
-IsAmong ns answer = is_among ns answer ≡ true
-
--- P, where the answer is this one
-abbrev pub OnAnswer : (expected answer : ℕ) → Type 0 → Type 0
-OnAnswer expected answer P = by_test (answer == expected) P (Unit {0})
-
--- P, where the answer is another
-abbrev pub OnOthers : (expected answer : ℕ) → Type 0 → Type 0
-OnOthers expected answer P = by_test (answer == expected) (Unit {0}) P
 
 -- Where there are channels the call is made on them. Where there are none it answers 23, and there are none then.
 abbrev pub OnChannels : (call : DataChannels → ℕ → DataChannels → Type 0) → (old : Option DataChannels) → ℕ → (new : Option DataChannels) → Type 0

@@ -1,6 +1,7 @@
 -- The records of C about channels, as the values of channels.
-use Rattle.std.specs.Prelude.{◌≡◌, ◌⊎◌, Option, Some, None, ℕ, ◌+◌, ◌<◌, ◌/◌, ◌%◌, ◌^◌, ◌==◌, Bool, true, false, cond, List, [], ◌∷◌, length, take}
+use Rattle.std.specs.Prelude.{◌≡◌, ◌⊎◌, Option, Some, None, ℕ, ◌+◌, ◌<◌, ◌/◌, ◌%◌, ◌^◌, ◌==◌, cond, List, [], ◌∷◌, length, take}
 use Rattle.sctp_c_records.specs.Layout.{in_turn, put_u32, put_u64, u32_or}
+use Rattle.sctp_c_records.specs.Metrics.{one_if}
 use Rattle.sctp_channels.specs.declared.channel.Statistics.{Statistics}
 use Rattle.sctp_channels.specs.Views.{Open}
 use Rattle.sctp_channels.specs.declared.reliability.Reliability.{Reliability}
@@ -46,10 +47,6 @@ abbrev pub lifetime_in : Reliability → ℕ
 lifetime_in Reliable = 0
 lifetime_in (MaxLifetime milliseconds) = milliseconds
 lifetime_in (MaxRetransmissions count) = 0
-
-abbrev pub one_if : Bool → ℕ
-one_if true = 1
-one_if false = 0
 
 -- what C sees of a channel beside its texts
 abbrev pub shown_channel : Open → ChannelRecord

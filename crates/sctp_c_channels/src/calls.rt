@@ -2,7 +2,8 @@
 
 ghost use Rattle.std.specs.Prelude.{◌≡◌, ◌<◌, ◌^◌, [], ◌∷◌};
 ghost use Rattle.sctp_channels.specs.Views.{open_of};
-ghost use Rattle.sctp_c_channels.specs.Answers.{IsAmong, Negotiated, OfChannelAt, OnAnswer, OnChannels, OnOthers, Opened};
+ghost use Rattle.sctp_c_channels.specs.Answers.{Negotiated, OfChannelAt, OnChannels, Opened};
+ghost use Rattle.sctp_c_records.specs.Answers.{IsAmong, OnAnswer, OnOthers};
 ghost use Rattle.sctp_c_channels.specs.Records.{channel_bytes, given_open, shown_channel};
 
 use crate::records::{ChannelRecord, DescriptionFault, GivenChannel};

@@ -2,10 +2,11 @@
 
 ghost use Rattle.std.specs.Prelude.{◌≡◌, [], ◌∷◌};
 ghost use Rattle.sctp_c_records.specs.Event.{event_bytes, shown};
-ghost use Rattle.sctp_c_channels.specs.Answers.{IsAmong, OnAnswer, OnChannels};
+ghost use Rattle.sctp_c_channels.specs.Answers.{OnChannels};
+ghost use Rattle.sctp_c_records.specs.Answers.{IsAmong, OnAnswer};
 ghost use Rattle.sctp_c_channels.specs.Events.{Shows, kind_number, refusal_number};
 
-use sctp_c_records::answers::{FAILED, MEMORY, NO_CHANNELS, NO_ROOM, NOTHING, OK};
+use sctp_c_records::answers::{FAILED, MEMORY, NO_CHANNELS, NO_ROOM, NOTHING, OK, call_number};
 use sctp_c_records::{EventParts, EventRecord, parts_of};
 use sctp_channels::{ChannelEvent, DataChannels, PayloadKind, Refusal};
 use sctp_serial::StreamId;
@@ -45,16 +46,6 @@ fn head_of(kind: u32, error: u32, id: StreamId, length: usize) -> EventRecord
         cause: 0,
         lifecycle: 0,
         length,
-    }
-}
-
-fn call_number(outcome: Result<(), CallError>) -> u32
-    ensures { IsAmong (0 ∷ 1 ∷ 2 ∷ []) result }
-{
-    match outcome {
-        Ok(()) => OK,
-        Err(CallError::Memory) => MEMORY,
-        Err(CallError::Failed) => FAILED,
     }
 }
 

@@ -2,7 +2,8 @@
 
 ghost use Rattle.std.specs.Prelude.{◌≡◌, [], ◌∷◌, length, None};
 ghost use Rattle.sctp_channels.specs.Entries.{channel_at};
-ghost use Rattle.sctp_c_channels.specs.Answers.{IsAmong, OnAnswer, OnChannels, OnOthers, Sent, by_test};
+ghost use Rattle.sctp_c_channels.specs.Answers.{OnChannels, Sent};
+ghost use Rattle.sctp_c_records.specs.Answers.{IsAmong, OnAnswer, OnOthers, by_test};
 ghost use Rattle.sctp_c_channels.specs.Events.{IsSendable, kind_at};
 
 use sctp_c_records::answers::{

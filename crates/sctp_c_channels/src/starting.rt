@@ -1,7 +1,7 @@
 //! Channels are switched on.
 
 ghost use Rattle.std.specs.Prelude.{◌≡◌, ◌<◌, ◌↔◌, [], ◌∷◌, None, Some, IsTrue, is_some, true};
-ghost use Rattle.sctp_c_channels.specs.Answers.{IsAmong, OnAnswer, OnOthers};
+ghost use Rattle.sctp_c_records.specs.Answers.{IsAmong, OnAnswer, OnOthers};
 ghost use Rattle.sctp_c_channels.specs.Records.{IsStarted, start_in};
 
 use sctp_c_records::answers::{HAS_CHANNELS, OK};

@@ -37,10 +37,9 @@ cause_of kind text = 0
 abbrev pub shown : (kind error stream lifecycle length : ℕ) → EventRecord
 shown kind error stream lifecycle length = record { kind = kind; error = error; stream = stream; cause = 0; lifecycle = lifecycle; length = length }
 
--- an event of an error with a text
-abbrev pub faulty : (kind : ℕ) → ErrorKind → (text : List ℕ) → (length : ℕ) → EventRecord
-faulty kind error text length =
-    record { kind = kind; error = error_number error; stream = 0; cause = cause_of error text; lifecycle = 0; length = length }
+-- an event of an error, but for the length of its text
+abbrev pub faulty : (kind : ℕ) → ErrorKind → (text : List ℕ) → EventRecord
+faulty kind error text = record { kind = kind; error = error_number error; stream = 0; cause = cause_of error text; lifecycle = 0; length = 0 }
 
 abbrev pub low_first : ℕ → List ℕ
 low_first n = n % 256 ∷ n / 256 ∷ []
@@ -64,27 +63,30 @@ bytes_of (OnLifecycleMessageExpired id) = []
 bytes_of (OnLifecycleMessageDelivered id) = []
 bytes_of (OnLifecycleEnd id) = []
 
-abbrev pub with_length : Event (List ℕ) → ℕ → EventRecord
-with_length (SendPacket bytes) = shown 0 0 0 0
-with_length OnConnected = shown 1 0 0 0
-with_length OnClosed = shown 2 0 0 0
-with_length OnConnectionRestarted = shown 3 0 0 0
-with_length (OnAborted kind text) = faulty 4 kind text
-with_length (OnError kind text) = faulty 5 kind text
-with_length (OnBufferedAmountLow stream) = shown 6 0 stream 0
-with_length OnTotalBufferedAmountLow = shown 7 0 0 0
-with_length (OnStreamsResetFailed streams) = shown 8 0 0 0
-with_length (OnStreamsResetPerformed streams) = shown 9 0 0 0
-with_length (OnIncomingStreamReset streams) = shown 10 0 0 0
-with_length (OnLifecycleMessageFullySent id) = shown 11 0 0 id
-with_length (OnLifecycleMessageMaybeExpired id) = shown 12 0 0 id
-with_length (OnLifecycleMessageExpired id) = shown 13 0 0 id
-with_length (OnLifecycleMessageDelivered id) = shown 14 0 0 id
-with_length (OnLifecycleEnd id) = shown 15 0 0 id
+-- the record of an event, but for the length of its bytes
+abbrev pub head_of : Event (List ℕ) → EventRecord
+head_of (SendPacket bytes) = shown 0 0 0 0 0
+head_of OnConnected = shown 1 0 0 0 0
+head_of OnClosed = shown 2 0 0 0 0
+head_of OnConnectionRestarted = shown 3 0 0 0 0
+head_of (OnAborted kind text) = faulty 4 kind text
+head_of (OnError kind text) = faulty 5 kind text
+head_of (OnBufferedAmountLow stream) = shown 6 0 stream 0 0
+head_of OnTotalBufferedAmountLow = shown 7 0 0 0 0
+head_of (OnStreamsResetFailed streams) = shown 8 0 0 0 0
+head_of (OnStreamsResetPerformed streams) = shown 9 0 0 0 0
+head_of (OnIncomingStreamReset streams) = shown 10 0 0 0 0
+head_of (OnLifecycleMessageFullySent id) = shown 11 0 0 id 0
+head_of (OnLifecycleMessageMaybeExpired id) = shown 12 0 0 id 0
+head_of (OnLifecycleMessageExpired id) = shown 13 0 0 id 0
+head_of (OnLifecycleMessageDelivered id) = shown 14 0 0 id 0
+head_of (OnLifecycleEnd id) = shown 15 0 0 id 0
 
--- the record of an event
+abbrev pub with_length : ℕ → EventRecord → EventRecord
+with_length n r = record r { length = n }
+
 abbrev pub record_of : Event (List ℕ) → EventRecord
-record_of e = with_length e (length (bytes_of e))
+record_of e = with_length (length (bytes_of e)) (head_of e)
 
 -- bytes were copied into a buffer, or are too many for it
 abbrev pub Copied : (fits : Bool) → (bytes old new : List ℕ) → Type 0

@@ -1,3 +1,4 @@
+pub mod Answers
 pub mod Checksum
 pub mod Layout
 pub mod Metrics

@@ -1,5 +1,10 @@
 //! The numbers that calls answer.
 
+ghost use Rattle.std.specs.Prelude.{◌≡◌, [], ◌∷◌};
+ghost use Rattle.sctp_c_records.specs.Answers.{IsAmong, call_number};
+
+use sctp_state::CallError;
+
 /// The call was done.
 pub const OK: u32 = 0;
 /// Too little memory: the socket has failed for good.
@@ -64,3 +69,15 @@ pub const TEXT_TOO_LONG: u32 = 29;
 pub const NOT_UTF8: u32 = 30;
 /// The socket takes no message: its queue is full, it is shutting down, or the message is larger than it may be.
 pub const NOT_TAKEN: u32 = 31;
+
+/// The number of a call that says nothing else.
+pub fn call_number(outcome: Result<(), CallError>) -> u32
+    ensures number { result ≡ call_number outcome }
+    ensures among { IsAmong (0 ∷ 1 ∷ 2 ∷ []) result }
+{
+    match outcome {
+        Ok(()) => OK,
+        Err(CallError::Memory) => MEMORY,
+        Err(CallError::Failed) => FAILED,
+    }
+}

@@ -3,7 +3,7 @@
 ghost use Rattle.std.specs.Prelude.{◌≡◌, ◌≤◌, length, IfOk};
 ghost use Rattle.std.specs.List.{flat_map};
 ghost use Rattle.sctp_state.specs.Events.{event_of, numbers_of};
-ghost use Rattle.sctp_c_records.specs.Event.{Copied, bytes_of, cause_in, cause_of, error_number, event_bytes, faulty, low_first, record_of, shown, with_length};
+ghost use Rattle.sctp_c_records.specs.Event.{Copied, bytes_of, cause_in, cause_of, error_number, event_bytes, faulty, head_of, low_first, record_of, shown, with_length};
 
 use crate::layout::{put_u32, put_u64, set_u32, set_u64};
 use crate::streams::spelled;
@@ -25,7 +25,7 @@ pub struct EventRecord {
     pub length: usize,
 }
 
-pub(crate) fn error_number(kind: ErrorKind) -> u32
+fn error_number(kind: ErrorKind) -> u32
     ensures { result ≡ error_number kind }
 {
     match kind {
@@ -63,7 +63,7 @@ fn cause_in(text: &[u8]) -> u32
 }
 
 /// The code of the first cause that the peer named (RFC 9260 section 3.3.10).
-pub(crate) fn cause_of(kind: ErrorKind, text: &[u8]) -> u32
+fn cause_of(kind: ErrorKind, text: &[u8]) -> u32
     ensures { result ≡ cause_of kind text.now }
 {
     match kind {
@@ -73,36 +73,33 @@ pub(crate) fn cause_of(kind: ErrorKind, text: &[u8]) -> u32
 }
 
 impl EventRecord {
-    pub(crate) fn of(
-        kind: u32,
-        error: u32,
-        stream: u32,
-        lifecycle: u64,
-        length: usize,
-    ) -> EventRecord
-        ensures { result ≡ shown kind error stream lifecycle length }
+    fn of(kind: u32, stream: u32, lifecycle: u64) -> EventRecord
+        ensures { result ≡ shown kind 0 stream lifecycle 0 }
     {
         EventRecord {
             kind,
-            error,
+            error: 0,
             stream,
             cause: 0,
             lifecycle,
-            length,
+            length: 0,
         }
     }
 
-    pub(crate) fn of_fault(kind: u32, error: ErrorKind, text: &[u8], length: usize) -> EventRecord
-        ensures { result ≡ faulty kind error text.now length }
+    fn of_fault(kind: u32, error: ErrorKind, text: &[u8]) -> EventRecord
+        ensures { result ≡ faulty kind error text.now }
     {
         EventRecord {
-            kind,
             error: error_number(error),
-            stream: 0,
             cause: cause_of(error, text),
-            lifecycle: 0,
-            length,
+            ..EventRecord::of(kind, 0, 0)
         }
+    }
+
+    pub(crate) fn with_length(self, length: usize) -> EventRecord
+        ensures { result ≡ with_length length self }
+    {
+        EventRecord { length, ..self }
     }
 
     /// Writes the struct of C, as far as there is a place behind its size.
@@ -147,43 +144,31 @@ impl EventRecord {
     pub fn of_packet(length: usize) -> EventRecord
         ensures { result ≡ shown 0 0 0 0 length }
     {
-        EventRecord::of(0, 0, 0, 0, length)
+        EventRecord::of(0, 0, 0).with_length(length)
     }
 }
 
-/// The record of an event with so many bytes.
-fn record_of(event: &SocketEvent, length: usize) -> EventRecord
-    ensures { result ≡ with_length (event_of event.now) length }
+/// The record of an event, but for the length of its bytes.
+pub(crate) fn head_of(event: &SocketEvent) -> EventRecord
+    ensures { result ≡ head_of (event_of event.now) }
 {
     match event {
-        SocketEvent::SendPacket(_) => EventRecord::of(0, 0, 0, 0, length),
-        SocketEvent::OnConnected() => EventRecord::of(1, 0, 0, 0, length),
-        SocketEvent::OnClosed() => EventRecord::of(2, 0, 0, 0, length),
-        SocketEvent::OnConnectionRestarted() => EventRecord::of(3, 0, 0, 0, length),
-        SocketEvent::OnAborted(kind, text) => {
-            EventRecord::of_fault(4, *kind, text.as_bytes(), length)
-        }
-        SocketEvent::OnError(kind, text) => {
-            EventRecord::of_fault(5, *kind, text.as_bytes(), length)
-        }
-        SocketEvent::OnBufferedAmountLow(id) => EventRecord::of(6, 0, id.0 as u32, 0, length),
-        SocketEvent::OnTotalBufferedAmountLow() => EventRecord::of(7, 0, 0, 0, length),
-        SocketEvent::OnStreamsResetFailed(_) => EventRecord::of(8, 0, 0, 0, length),
-        SocketEvent::OnStreamsResetPerformed(_) => EventRecord::of(9, 0, 0, 0, length),
-        SocketEvent::OnIncomingStreamReset(_) => EventRecord::of(10, 0, 0, 0, length),
-        SocketEvent::OnLifecycleMessageFullySent(id) => {
-            EventRecord::of(11, 0, 0, id.value(), length)
-        }
-        SocketEvent::OnLifecycleMessageMaybeExpired(id) => {
-            EventRecord::of(12, 0, 0, id.value(), length)
-        }
-        SocketEvent::OnLifecycleMessageExpired(id) => {
-            EventRecord::of(13, 0, 0, id.value(), length)
-        }
-        SocketEvent::OnLifecycleMessageDelivered(id) => {
-            EventRecord::of(14, 0, 0, id.value(), length)
-        }
-        SocketEvent::OnLifecycleEnd(id) => EventRecord::of(15, 0, 0, id.value(), length),
+        SocketEvent::SendPacket(_) => EventRecord::of(0, 0, 0),
+        SocketEvent::OnConnected() => EventRecord::of(1, 0, 0),
+        SocketEvent::OnClosed() => EventRecord::of(2, 0, 0),
+        SocketEvent::OnConnectionRestarted() => EventRecord::of(3, 0, 0),
+        SocketEvent::OnAborted(kind, text) => EventRecord::of_fault(4, *kind, text.as_bytes()),
+        SocketEvent::OnError(kind, text) => EventRecord::of_fault(5, *kind, text.as_bytes()),
+        SocketEvent::OnBufferedAmountLow(id) => EventRecord::of(6, id.0 as u32, 0),
+        SocketEvent::OnTotalBufferedAmountLow() => EventRecord::of(7, 0, 0),
+        SocketEvent::OnStreamsResetFailed(_) => EventRecord::of(8, 0, 0),
+        SocketEvent::OnStreamsResetPerformed(_) => EventRecord::of(9, 0, 0),
+        SocketEvent::OnIncomingStreamReset(_) => EventRecord::of(10, 0, 0),
+        SocketEvent::OnLifecycleMessageFullySent(id) => EventRecord::of(11, 0, id.value()),
+        SocketEvent::OnLifecycleMessageMaybeExpired(id) => EventRecord::of(12, 0, id.value()),
+        SocketEvent::OnLifecycleMessageExpired(id) => EventRecord::of(13, 0, id.value()),
+        SocketEvent::OnLifecycleMessageDelivered(id) => EventRecord::of(14, 0, id.value()),
+        SocketEvent::OnLifecycleEnd(id) => EventRecord::of(15, 0, id.value()),
     }
 }
 
@@ -205,7 +190,7 @@ fn put(event: &SocketEvent, bytes: &[u8], head: &mut [u8], buffer: &mut [u8]) ->
     ensures head { head.new ≡ event_bytes (record_of (event_of event.now)) head.old }
     ensures bytes { Copied result (bytes_of (event_of event.now)) buffer.old buffer.new }
 {
-    record_of(event, bytes.len()).write(head);
+    head_of(event).with_length(bytes.len()).write(head);
     put_bytes(bytes, buffer)
 }
 

@@ -22,7 +22,7 @@ pub use event::{EVENT_SIZE, EventRecord, hand_out, put_bytes};
 pub use given_up::GivenUpRecord;
 pub use layout::{put_u32, put_u64, u32_or, u64_or};
 pub use message::{MessageRecord, OutgoingRecord, SEND_SIZE, SendRecord};
-pub use metrics::{METRICS_SIZE, MetricsRecord};
+pub use metrics::{METRICS_SIZE, MetricsRecord, one_if};
 pub use options::OptionsRecord;
 pub use options_struct::OPTIONS_SIZE;
 pub use parts::{EventParts, parts_of};

@@ -1,6 +1,6 @@
 //! What a socket counts, as C has it.
 
-ghost use Rattle.std.specs.Prelude.{◌≡◌, ◌-◌, ◌^◌, min};
+ghost use Rattle.std.specs.Prelude.{◌≡◌, ◌==◌, ◌-◌, ◌^◌, min};
 ghost use Rattle.std.specs.Duration.{as_nanos};
 ghost use Rattle.sctp_c_records.specs.Metrics.{implementation_number, metrics_bytes, metrics_record, one_if};
 
@@ -50,8 +50,10 @@ fn implementation_number(peer: SctpImplementation) -> u32
     }
 }
 
-fn one_if(holds: bool) -> u8
-    ensures { result ≡ one_if holds }
+/// A test as a number: 1 where it holds, or 0.
+pub fn one_if(holds: bool) -> u8
+    ensures number { result ≡ one_if holds }
+    ensures is_one { (result == 1) ≡ holds }
 {
     if holds { 1 } else { 0 }
 }

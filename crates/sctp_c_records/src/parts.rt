@@ -1,12 +1,12 @@
 //! An event taken apart, for who lends its bytes.
 
-ghost use Rattle.std.specs.Prelude.{◌≡◌, [], length, IfErr, IfOk};
+ghost use Rattle.std.specs.Prelude.{◌≡◌, IfErr, IfOk};
 ghost use Rattle.sctp_state.specs.Events.{event_of};
-ghost use Rattle.sctp_c_records.specs.Event.{bytes_of, faulty, record_of, shown};
+ghost use Rattle.sctp_c_records.specs.Event.{bytes_of, record_of};
 
-use crate::event::EventRecord;
+use crate::event::{EventRecord, head_of};
 use crate::streams::spelled;
-use sctp_state::{ErrorKind, SocketEvent};
+use sctp_state::SocketEvent;
 use std::alloc::Global;
 
 /// What an event is, and its bytes.
@@ -15,35 +15,37 @@ pub struct EventParts {
     pub bytes: Vec<u8>,
 }
 
-impl EventParts {
-    fn with_bytes(kind: u32, bytes: Vec<u8>) -> EventParts
-        ensures head { result.head ≡ shown kind 0 0 0 (length bytes.items) }
-        ensures bytes { result.bytes ≡ bytes }
-    {
-        EventParts {
-            head: EventRecord::of(kind, 0, 0, 0, bytes.len()),
-            bytes,
-        }
-    }
-
-    fn of_fault(kind: u32, error: ErrorKind, bytes: Vec<u8>) -> EventParts
-        ensures head { result.head ≡ faulty kind error bytes.items (length bytes.items) }
-        ensures bytes { result.bytes ≡ bytes }
-    {
-        EventParts {
-            head: EventRecord::of_fault(kind, error, &bytes, bytes.len()),
-            bytes,
-        }
-    }
-
-    fn alone(alloc: Global, kind: u32, stream: u32, lifecycle: u64) -> EventParts
-        ensures head { result.head ≡ shown kind 0 stream lifecycle 0 }
-        ensures bytes { result.bytes.items ≡ [] }
-    {
-        EventParts {
-            head: EventRecord::of(kind, 0, stream, lifecycle, 0),
-            bytes: Vec::new(alloc),
-        }
+/// The bytes of an event. Where there is no memory for those of streams, it comes back.
+fn bytes_of(alloc: Global, event: SocketEvent) -> Result<Vec<u8>, SocketEvent>
+    ensures bytes { IfOk result (λ bytes. bytes.items ≡ bytes_of (event_of event)) }
+    ensures same { IfErr result (λ back. back ≡ event) }
+{
+    match event {
+        SocketEvent::SendPacket(bytes) => Ok(bytes),
+        SocketEvent::OnAborted(_kind, text) => Ok(text.into_bytes()),
+        SocketEvent::OnError(_kind, text) => Ok(text.into_bytes()),
+        SocketEvent::OnStreamsResetFailed(ids) => match spelled(alloc, &ids) {
+            Ok(bytes) => Ok(bytes),
+            Err(_error) => Err(SocketEvent::OnStreamsResetFailed(ids)),
+        },
+        SocketEvent::OnStreamsResetPerformed(ids) => match spelled(alloc, &ids) {
+            Ok(bytes) => Ok(bytes),
+            Err(_error) => Err(SocketEvent::OnStreamsResetPerformed(ids)),
+        },
+        SocketEvent::OnIncomingStreamReset(ids) => match spelled(alloc, &ids) {
+            Ok(bytes) => Ok(bytes),
+            Err(_error) => Err(SocketEvent::OnIncomingStreamReset(ids)),
+        },
+        SocketEvent::OnConnected()
+        | SocketEvent::OnClosed()
+        | SocketEvent::OnConnectionRestarted()
+        | SocketEvent::OnBufferedAmountLow(_)
+        | SocketEvent::OnTotalBufferedAmountLow()
+        | SocketEvent::OnLifecycleMessageFullySent(_)
+        | SocketEvent::OnLifecycleMessageMaybeExpired(_)
+        | SocketEvent::OnLifecycleMessageExpired(_)
+        | SocketEvent::OnLifecycleMessageDelivered(_)
+        | SocketEvent::OnLifecycleEnd(_) => Ok(Vec::new(alloc)),
     }
 }
 
@@ -53,34 +55,12 @@ pub fn parts_of(alloc: Global, event: SocketEvent) -> Result<EventParts, SocketE
     ensures bytes { IfOk result (λ parts. parts.bytes.items ≡ bytes_of (event_of event)) }
     ensures same { IfErr result (λ back. back ≡ event) }
 {
-    let parts = match event {
-        SocketEvent::SendPacket(bytes) => EventParts::with_bytes(0, bytes),
-        SocketEvent::OnConnected() => EventParts::alone(alloc, 1, 0, 0),
-        SocketEvent::OnClosed() => EventParts::alone(alloc, 2, 0, 0),
-        SocketEvent::OnConnectionRestarted() => EventParts::alone(alloc, 3, 0, 0),
-        SocketEvent::OnAborted(kind, text) => { EventParts::of_fault(4, kind, text.into_bytes()) }
-        SocketEvent::OnError(kind, text) => { EventParts::of_fault(5, kind, text.into_bytes()) }
-        SocketEvent::OnBufferedAmountLow(id) => EventParts::alone(alloc, 6, id.0 as u32, 0),
-        SocketEvent::OnTotalBufferedAmountLow() => EventParts::alone(alloc, 7, 0, 0),
-        SocketEvent::OnStreamsResetFailed(ids) => match spelled(alloc, &ids) {
-            Ok(bytes) => EventParts::with_bytes(8, bytes),
-            Err(_error) => return Err(SocketEvent::OnStreamsResetFailed(ids)),
-        },
-        SocketEvent::OnStreamsResetPerformed(ids) => match spelled(alloc, &ids) {
-            Ok(bytes) => EventParts::with_bytes(9, bytes),
-            Err(_error) => return Err(SocketEvent::OnStreamsResetPerformed(ids)),
-        },
-        SocketEvent::OnIncomingStreamReset(ids) => match spelled(alloc, &ids) {
-            Ok(bytes) => EventParts::with_bytes(10, bytes),
-            Err(_error) => return Err(SocketEvent::OnIncomingStreamReset(ids)),
-        },
-        SocketEvent::OnLifecycleMessageFullySent(id) => EventParts::alone(alloc, 11, 0, id.value()),
-        SocketEvent::OnLifecycleMessageMaybeExpired(id) => {
-            EventParts::alone(alloc, 12, 0, id.value())
-        }
-        SocketEvent::OnLifecycleMessageExpired(id) => EventParts::alone(alloc, 13, 0, id.value()),
-        SocketEvent::OnLifecycleMessageDelivered(id) => EventParts::alone(alloc, 14, 0, id.value()),
-        SocketEvent::OnLifecycleEnd(id) => EventParts::alone(alloc, 15, 0, id.value()),
-    };
-    Ok(parts)
+    let head = head_of(&event);
+    match bytes_of(alloc, event) {
+        Ok(bytes) => Ok(EventParts {
+            head: head.with_length(bytes.len()),
+            bytes,
+        }),
+        Err(event) => Err(event),
+    }
 }

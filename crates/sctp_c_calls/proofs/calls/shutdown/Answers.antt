@@ -2,14 +2,11 @@ use Rattle.std.proofs.Common.{◌≡◌}
 use Rattle.sctp_association.specs.Socket.{endpoint}
 use Rattle.spec_endpoint.specs.Shutdown as closing
 use Rattle.spec_endpoint.specs.Input.{in_endpoint_state}
-use Rattle.sctp_c_calls.proofs.OutcomeLemmas.{among, ends, done}
+use Rattle.sctp_c_calls.proofs.OutcomeLemmas.{ends, done}
 use Rattle.sctp_c_calls.proofs.calls.shutdown.Goals as goal
 
-pub returns-clause-answers : goal.returns-clause-answers
-returns-clause-answers g c = rw c.call_number.ensures (among c.shutdown.result)
-
 pub returns-clause-ends : goal.returns-clause-ends
-returns-clause-ends g c = rw c.call_number.ensures (ends c.shutdown.result c.args.socket.now c.shutdown.new.self c.shutdown.ensures.ends)
+returns-clause-ends g c = rw c.call_number.ensures.number (ends c.shutdown.result c.args.socket.now c.shutdown.new.self c.shutdown.ensures.ends)
 
 pub returns-clause-ok : goal.returns-clause-ok
-returns-clause-ok g c = rw c.call_number.ensures (done (endpoint g.R.Rng.stream g.C.Checksum.word_of c.shutdown.new.self ≡ in_endpoint_state closing.shutdown (endpoint g.R.Rng.stream g.C.Checksum.word_of c.args.socket.now)) c.shutdown.result c.shutdown.ensures.ok)
+returns-clause-ok g c = rw c.call_number.ensures.number (done (endpoint g.R.Rng.stream g.C.Checksum.word_of c.shutdown.new.self ≡ in_endpoint_state closing.shutdown (endpoint g.R.Rng.stream g.C.Checksum.word_of c.args.socket.now)) c.shutdown.result c.shutdown.ensures.ok)
