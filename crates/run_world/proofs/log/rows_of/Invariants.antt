@@ -1,7 +1,7 @@
 use Rattle.std.proofs.Common.{◌≡◌, ◌++◌, map, take, drop}
 use Rattle.sctp_network_side.specs.SideView.{entry_tree}
-use Rattle.run_trace.specs.Log.{row_shows, row_time, entry_shows, times_from, times_of}
-use Rattle.run_trace.proofs.log.rows_of.Given as goal
+use Rattle.run_world.specs.Log.{row_shows, row_time, entry_shows, times_from, times_of}
+use Rattle.run_world.proofs.log.rows_of.Given as goal
 
 abbrev pub invariant-loop-entry : goal.invariant-loop-entry
 invariant-loop-entry g l = record {

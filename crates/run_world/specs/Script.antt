@@ -5,9 +5,9 @@ use Rattle.sctp_trace.specs.declared.rows.Row.{Row}
 use Rattle.sctp_trace.specs.Pcapng.{capture_bytes}
 use Rattle.sctp_trace.specs.Svg.{IsChart}
 use Rattle.sctp_trace.specs.Text.{ladder_text}
-use Rattle.run_trace.specs.declared.script.Format.{Format}
-use Rattle.run_trace.specs.declared.script.Format.TheVariants as formats
-use Rattle.run_trace.specs.Log.{row_shows, row_time, entry_shows, times_of}
+use Rattle.run_world.specs.declared.script.Format.{Format}
+use Rattle.run_world.specs.declared.script.Format.TheVariants as formats
+use Rattle.run_world.specs.Log.{row_shows, row_time, entry_shows, times_of}
 
 abbrev pub IsDrawing : Format → List Row → List ℕ → Type 0
 IsDrawing formats.Text rows bytes = bytes ≡ ladder_text rows

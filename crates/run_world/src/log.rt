@@ -3,7 +3,7 @@
 ghost use Rattle.std.specs.Prelude.{◌≡◌, ℕ, List, map, slice_get, IfOk};
 ghost use Rattle.spec_world.specs.Observations.{End as LoggedEnd, Entry as LoggedEntry};
 ghost use Rattle.sctp_network_side.specs.SideView.{end_tree, entry_tree};
-ghost use Rattle.run_trace.specs.Log.{Packet, Giving, Other, lifeline, bytes_in, row_shows, row_time, entry_shows, entry_end, stamp, clock_of, with_clock, clocks_after, times_of};
+ghost use Rattle.run_world.specs.Log.{Packet, Giving, Other, lifeline, bytes_in, row_shows, row_time, entry_shows, entry_end, stamp, clock_of, with_clock, clocks_after, times_of};
 
 use crate::note::note_of;
 use sctp_serial::SocketTime;

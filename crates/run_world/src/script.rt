@@ -1,7 +1,7 @@
 //! The script: commands, a line each, and what becomes of them.
 
 ghost use Rattle.std.specs.Prelude.{IfOk};
-ghost use Rattle.run_trace.specs.Script.{IsDrawing, Draws};
+ghost use Rattle.run_world.specs.Script.{IsDrawing, Draws};
 
 use crate::log::{Watched, rows_of};
 use sctp_state::CallError;
@@ -13,7 +13,7 @@ use std::io::{self, Read, Write};
 
 /// Why the program ends before its time.
 pub enum Fault {
-    /// Words say so: a line is no command, or no format was named.
+    /// Words say so: a line is no command, or the arguments name no format.
     Printed,
     /// Memory ran out, or a read or a write failed.
     Silent,
@@ -53,15 +53,14 @@ pub enum Format {
 }
 
 impl Format {
-    /// The format that the one argument names.
-    pub fn asked(rt: &HostRuntime) -> Result<Format, Fault> {
+    /// The format that the one argument names, `None` where there is no argument.
+    pub fn asked(rt: &HostRuntime) -> Result<Option<Format>, Fault> {
         let mut words = env::args(rt)?.skip(1);
-        let found = match words.next() {
-            Some(word) => format_of(&word),
-            None => None,
+        let Some(word) = words.next() else {
+            return Ok(None);
         };
-        match (found, words.next()) {
-            (Some(format), None) => Ok(format),
+        match (format_of(&word), words.next()) {
+            (Some(format), None) => Ok(Some(format)),
             _ => {
                 eprintln!(rt; "sctp-trace: one of text, chart and pcap is needed")?;
                 Err(Fault::Printed)

@@ -6,7 +6,7 @@ use Rattle.sctp_trace.specs.declared.rows.End.TheVariants as ends
 use Rattle.sctp_trace.specs.declared.rows.What.{What}
 use Rattle.sctp_trace.specs.declared.rows.What.TheVariants as kinds
 use Rattle.sctp_trace.specs.declared.rows.Row.{Row}
-use Rattle.run_trace.specs.declared.log.Clocks.{Clocks}
+use Rattle.run_world.specs.declared.log.Clocks.{Clocks}
 
 -- A packet that an end sent, by its number and its bytes; one that was given to it; or something else of it.
 pub data Shown : Type 0 where
