@@ -17,8 +17,11 @@ use output::Output;
 use std::io;
 use words::cut;
 
-/// Runs a row of the layer.
+/// Runs a row of the layer, where there is one.
 fn run_row(layer: &str, row: &str, output: &mut Output) {
+    if row.is_empty() {
+        return;
+    }
     let (title, script) = cut(row, '\n');
     output.push_str("#");
     output.put_line(&title);
@@ -32,22 +35,22 @@ fn run_row(layer: &str, row: &str, output: &mut Output) {
     }
 }
 
-fn run_layer(layer: &str, rows: &str, output: &mut Output) {
+/// Runs the rows behind the name of a layer, where there is one.
+fn run_layer(part: &str, output: &mut Output) {
+    if part.is_empty() {
+        return;
+    }
+    let (layer, rows) = cut(part, '\n');
     output.push_str("@");
     output.put_line(&layer);
     for row in rows.split('#') {
-        if !row.is_empty() {
-            run_row(layer, row, output);
-        }
+        run_row(layer, row, output);
     }
 }
 
 fn run_layers(layers: &str, output: &mut Output) {
     for part in layers.split('@') {
-        if !part.is_empty() {
-            let (layer, rows) = cut(part, '\n');
-            run_layer(layer, rows, output);
-        }
+        run_layer(part, output);
     }
 }
 

@@ -21,11 +21,6 @@ impl Output {
         }
     }
 
-    /// How many bytes were written.
-    pub fn len(&self) -> usize {
-        self.text.len()
-    }
-
     /// Notes what fails for want of memory: nothing is written behind it.
     pub fn note<E: Drop>(&mut self, outcome: Result<(), E>) {
         if outcome.is_err() {

@@ -27,6 +27,16 @@ pub fn run(script: &str, output: &mut Output) {
     match line.name {
         "scheduler" => scheduler::run(&line, commands, output),
         "events" => events::run(commands, output),
+        "timeout" => timers::run_timeout(commands, output),
+        "capabilities" => capabilities::run(commands, output),
+        "cookie" => cookie::run(commands, output),
+        "handover" => handover::run(&line, commands, output),
+        _ => run_value(&line, commands, output),
+    }
+}
+
+fn run_value(line: &Line<'_>, commands: &str, output: &mut Output) {
+    match line.name {
         "watcher" => run_commands(
             commands,
             output,
@@ -37,12 +47,8 @@ pub fn run(script: &str, output: &mut Output) {
             output,
             &mut TxErrorCounter::new(u32::try_from(line.first.long).ok()),
         ),
-        "timer" => run_commands(commands, output, &mut timers::timer(&line)),
-        "timeout" => timers::run_timeout(commands, output),
-        "capabilities" => capabilities::run(commands, output),
-        "cookie" => cookie::run(commands, output),
+        "timer" => run_commands(commands, output, &mut timers::timer(line)),
         "errors" => run_commands(commands, output, &mut Errors),
-        "handover" => handover::run(&line, commands, output),
         "options" => run_commands(commands, output, &mut Options::default()),
         "readiness" => run_commands(commands, output, &mut HandoverReadiness::READY),
         _ => output.push_str("?\n"),

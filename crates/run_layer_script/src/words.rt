@@ -87,22 +87,13 @@ impl<'a> Line<'a> {
         }
     }
 
-    /// The words from the place on.
-    pub fn rest(&self, place: u8) -> SplitWhitespace<'a> {
-        rest_of(self.text, place)
-    }
-
-    /// The word at the place, an empty one where there is none.
-    pub fn word(&self, place: u8) -> &'a str {
-        word_at(self.text, place)
-    }
-
     pub fn number(&self, place: u8) -> Number {
         Number::of(word_at(self.text, place))
     }
 }
 
-fn rest_of(text: &str, place: u8) -> SplitWhitespace<'_> {
+/// The words from the place on.
+pub fn rest_of(text: &str, place: u8) -> SplitWhitespace<'_> {
     let mut words = text.split_whitespace();
     for _ in 0..place {
         words.next();
@@ -110,7 +101,8 @@ fn rest_of(text: &str, place: u8) -> SplitWhitespace<'_> {
     words
 }
 
-fn word_at(text: &str, place: u8) -> &str {
+/// The word at the place, an empty one where there is none.
+pub fn word_at(text: &str, place: u8) -> &str {
     rest_of(text, place).next().unwrap_or("")
 }
 

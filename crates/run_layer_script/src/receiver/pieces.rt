@@ -1,7 +1,7 @@
 //! Fragments and messages, as words say them.
 
 use crate::output::Output;
-use crate::words::{Line, Number, bytes_of};
+use crate::words::{Line, Number, bytes_of, rest_of, word_at};
 use sctp_packet::{Data, SkippedStream};
 use sctp_serial::{Fsn, Message, Mid, PpId, Ssn, StreamId, StreamKey};
 
@@ -27,7 +27,7 @@ pub fn entry(word: &str) -> SkippedStream {
 /// The entries behind the first two words.
 pub fn entries(line: &Line<'_>, output: &mut Output) -> Vec<SkippedStream> {
     let mut entries = Vec::new(output.alloc);
-    for word in line.rest(2) {
+    for word in rest_of(line.text, 2) {
         output.note(entries.push(entry(word)));
     }
     entries
@@ -36,7 +36,7 @@ pub fn entries(line: &Line<'_>, output: &mut Output) -> Vec<SkippedStream> {
 /// The streams from the place on.
 pub fn stream_ids(line: &Line<'_>, place: u8, output: &mut Output) -> Vec<StreamId> {
     let mut ids = Vec::new(output.alloc);
-    for word in line.rest(place) {
+    for word in rest_of(line.text, place) {
         output.note(ids.push(StreamId(Number::of(word).half)));
     }
     ids
@@ -65,13 +65,13 @@ pub fn fragment(key: StreamKey, number: u16, fsn: u32, ends: &str, payload: Vec<
 
 /// The fragment of a command `NAME TSN STREAM NUMBER FSN ENDS HEX`.
 pub fn fragment_of(line: &Line<'_>, output: &mut Output) -> Data {
-    let key = stream_key(line.word(2));
-    let payload = payload_of(line.word(6), output);
+    let key = stream_key(word_at(line.text, 2));
+    let payload = payload_of(word_at(line.text, 6), output);
     fragment(
         key,
         line.third.half,
         line.fourth.word,
-        line.word(5),
+        word_at(line.text, 5),
         payload,
     )
 }
@@ -79,8 +79,8 @@ pub fn fragment_of(line: &Line<'_>, output: &mut Output) -> Data {
 /// The fragment of a command `NAME NUMBER INDEX ENDS HEX`.
 pub fn piece(line: &Line<'_>, output: &mut Output) -> Data {
     let key = StreamKey::Unordered(StreamId(1));
-    let payload = payload_of(line.word(4), output);
-    fragment(key, 0, 0, line.word(3), payload)
+    let payload = payload_of(word_at(line.text, 4), output);
+    fragment(key, 0, 0, word_at(line.text, 3), payload)
 }
 
 /// A message as `STREAM/PROTOCOL:HEX`.

@@ -12,9 +12,9 @@ pub trait Player {
 /// Takes each line of a script, and lets the player go. An answer is a line; there is none where the output is as long as it was.
 pub fn play_each<P: Player + Drop>(mut player: P, script: &str, output: &mut Output) {
     for line in script.lines() {
-        let length = output.len();
+        let length = output.text.len();
         player.play(&Line::new(line), output);
-        if output.len() != length {
+        if output.text.len() != length {
             output.push_str("\n");
         }
     }

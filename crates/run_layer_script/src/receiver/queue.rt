@@ -8,7 +8,7 @@ use crate::output::Output;
 use crate::receiver::pieces::stream_ids;
 use crate::receiver::player::{Player, play_each};
 use crate::receiver::receiver::{Receiver, show_sums, take};
-use crate::words::{Line, yes_or_no};
+use crate::words::{Line, word_at, yes_or_no};
 use sctp_packet::{Data, SkippedStream};
 use sctp_rx::ReassemblyQueue;
 use sctp_serial::{Message, Ssn, StreamId, Tsn};
@@ -47,7 +47,7 @@ pub fn run(line: &Line<'_>, script: &str, output: &mut Output) {
 
 /// The number that the third word says, and without a word no bound.
 fn most_fragments(line: &Line<'_>) -> usize {
-    if line.word(3).is_empty() {
+    if word_at(line.text, 3).is_empty() {
         return usize::MAX;
     }
     line.third.word as usize

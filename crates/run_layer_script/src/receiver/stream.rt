@@ -8,7 +8,7 @@ use crate::receiver::list::Key;
 use crate::receiver::pieces::piece;
 use crate::receiver::player::{Player, play_each};
 use crate::receiver::receiver::show_next;
-use crate::words::{Line, Number};
+use crate::words::{Line, Number, word_at};
 use sctp_packet::Data;
 use sctp_rx::{
     InterleavedKey, OrderedStream, ReadyMessages, ReassemblyKey, ReassemblyStream, TraditionalKey,
@@ -70,7 +70,7 @@ struct Alone<S> {
 
 /// Takes the commands of a script on an ordered stream.
 pub fn run_ordered(line: &Line<'_>, script: &str, output: &mut Output) {
-    let begin = line.word(2);
+    let begin = word_at(line.text, 2);
     let next = if begin.is_empty() {
         FIRST
     } else {

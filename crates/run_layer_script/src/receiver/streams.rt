@@ -5,7 +5,7 @@ use crate::receiver::pieces::{entry, fragment, payload_of, stream_key};
 use crate::receiver::player::{Player, play_each};
 use crate::receiver::receiver::{Receiver, show_next, show_sums, take};
 use crate::receiver::stream::have_room;
-use crate::words::{Line, Number};
+use crate::words::{Line, Number, rest_of, word_at};
 use sctp_packet::{Data, SkippedStream};
 use sctp_rx::{ReadyMessages, ReassemblyStreams};
 use sctp_serial::{Message, PpId, StreamId, StreamKey};
@@ -111,7 +111,7 @@ impl Streams {
     }
 
     fn push(&mut self, line: &Line<'_>, output: &mut Output) {
-        let payload = payload_of(line.word(2), output);
+        let payload = payload_of(word_at(line.text, 2), output);
         if !have_room(self.streams.queued_bytes(), &self.ready, payload.len()) {
             drop(payload);
             output.push_str("refused");
@@ -124,7 +124,7 @@ impl Streams {
 
     /// Fragments come: prints, for each, which messages become ready, and how many bytes are held then.
     fn come(&mut self, line: &Line<'_>, output: &mut Output) {
-        for word in line.rest(1) {
+        for word in rest_of(line.text, 1) {
             self.take_one(Number::of(word).long, output);
             show_each(&mut self.ready, output);
             output.fill(" #", &[self.streams.queued_bytes() as u128]);

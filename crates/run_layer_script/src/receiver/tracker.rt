@@ -2,7 +2,7 @@
 
 use crate::output::Output;
 use crate::receiver::player::{Player, play_each};
-use crate::words::{Line, Number, yes_or_no};
+use crate::words::{Line, Number, rest_of, yes_or_no};
 use sctp_packet::{GapAckBlock, SackChunk};
 use sctp_rx::DataTracker;
 use sctp_serial::{SocketTime, Tsn};
@@ -35,9 +35,7 @@ impl Player for Tracker {
     /// tests and changes. A TSN `+N` is the first one and N.
     fn play(&mut self, line: &Line<'_>, output: &mut Output) {
         match line.name {
-            "come" => self.come(line, 1, false, output),
-            "twice" => self.come(line, 2, false, output),
-            "urgent" => self.come(line, 1, true, output),
+            "come" | "twice" | "urgent" => self.come(line, output),
             "sack" => show_sack(self.tracker.create_selective_ack(line.first.word), output),
             "write" => self.write(output),
             "restore" => self.restore(Tsn(line.first.word), output),
@@ -47,12 +45,14 @@ impl Player for Tracker {
 }
 
 impl Tracker {
-    /// TSNs come, each so many times.
-    fn come(&mut self, line: &Line<'_>, times: u8, is_immediate: bool, output: &mut Output) {
-        for word in line.rest(1) {
-            for _ in 0..times {
-                let tsn = tsn_of(self.first, word);
-                come_once(&mut self.tracker, self.now, tsn, is_immediate, output);
+    /// TSNs come: each twice, or so that it is acknowledged at once.
+    fn come(&mut self, line: &Line<'_>, output: &mut Output) {
+        let (is_twice, is_urgent) = (line.name == "twice", line.name == "urgent");
+        for word in rest_of(line.text, 1) {
+            let tsn = tsn_of(self.first, word);
+            come_once(&mut self.tracker, self.now, tsn, is_urgent, output);
+            if is_twice {
+                come_once(&mut self.tracker, self.now, tsn, is_urgent, output);
             }
         }
     }

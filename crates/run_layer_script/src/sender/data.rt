@@ -88,7 +88,8 @@ fn handle(
                 &[info.bytes_acked as u128],
             );
             output.put(&info.has_packet_loss);
-            output.text(" }", &[])
+            output.push_str(" }");
+            Answer::Text
         }
         Err(_) => Answer::NoMemory,
     }
@@ -126,12 +127,12 @@ fn push_discarded(output: &mut Output, message: Discarded) {
 
 fn push_rests(output: &mut Output, rests: &VecDeque<Discarded>) {
     output.push_str("[");
+    let mut between = "";
     for place in 0..rests.len() {
-        if place > 0 {
-            output.push_str(", ");
-        }
         if let Some(message) = rests.get(place) {
+            output.push_str(between);
             push_discarded(output, *message);
+            between = ", ";
         }
     }
     output.push_str("]")
@@ -151,10 +152,11 @@ fn rest(data: &mut OutstandingData, output: &mut Output) -> Answer {
         Some(message) => {
             output.push_str("Some(");
             push_discarded(output, message);
-            output.text(")", &[])
+            output.push_str(")");
         }
-        None => output.text("None", &[]),
+        None => output.push_str("None"),
     }
+    Answer::Text
 }
 
 fn write(

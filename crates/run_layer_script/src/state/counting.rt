@@ -16,28 +16,22 @@ impl Subject for ThresholdWatcher {
             "low" => Answer::Number(self.low_threshold() as u128),
             "threshold" => Answer::Flag(self.set_low_threshold(bytes)),
             "crossed-at" => Answer::Flag(self.is_crossed_at(bytes)),
-            "increase" => increase(self, bytes),
-            name => decrease(self, name, bytes),
+            name => change(self, name, bytes),
         }
     }
 }
 
-fn increase(watcher: &mut ThresholdWatcher, bytes: usize) -> Answer {
-    if usize::MAX - watcher.amount() < bytes {
-        return Answer::Refused;
-    }
-    watcher.increase(bytes);
-    Answer::Done
-}
-
-fn decrease(watcher: &mut ThresholdWatcher, name: &str, bytes: usize) -> Answer {
+fn change(watcher: &mut ThresholdWatcher, name: &str, bytes: usize) -> Answer {
+    let has_room = bytes <= usize::MAX - watcher.amount();
     let has_them = bytes <= watcher.amount();
     match name {
-        "decrease" if has_them => Answer::Flag(watcher.decrease(bytes)),
-        "crossed-by" if has_them => Answer::Flag(watcher.is_crossed_by(bytes)),
-        "decrease" | "crossed-by" => Answer::Refused,
-        _ => Answer::Unknown,
+        "increase" if has_room => watcher.increase(bytes),
+        "decrease" if has_them => return Answer::Flag(watcher.decrease(bytes)),
+        "crossed-by" if has_them => return Answer::Flag(watcher.is_crossed_by(bytes)),
+        "increase" | "decrease" | "crossed-by" => return Answer::Refused,
+        _ => return Answer::Unknown,
     }
+    Answer::Done
 }
 
 impl Subject for TxErrorCounter {

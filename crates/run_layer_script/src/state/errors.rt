@@ -48,26 +48,22 @@ fn send(name: &str, output: &mut Output) -> Answer {
 }
 
 fn batch(name: &str, output: &mut Output) -> Answer {
-    match name {
+    let fault = match name {
         "refused" => refused_batch(output),
-        "memory" => show_batch(&BatchFault::Memory, output),
-        "failed" => show_batch(&BatchFault::Failed, output),
-        _ => Answer::Unknown,
-    }
-}
-
-fn show_batch(fault: &BatchFault, output: &mut Output) -> Answer {
-    output.show_error(fault, fault.number())
+        "memory" => BatchFault::Memory,
+        "failed" => BatchFault::Failed,
+        _ => return Answer::Unknown,
+    };
+    let answer = output.show_error(&fault, fault.number());
+    drop(fault);
+    answer
 }
 
 /// The second message of a batch is empty.
-fn refused_batch(output: &mut Output) -> Answer {
+fn refused_batch(output: &mut Output) -> BatchFault {
     let mut errors = Vec::new(output.alloc);
     output.note(errors.push((1, SendError::EmptyPayload)));
-    let fault = BatchFault::Refused(BatchSendError(errors));
-    show_batch(&fault, output);
-    drop(fault);
-    Answer::Done
+    BatchFault::Refused(BatchSendError(errors))
 }
 
 fn call(name: &str, output: &mut Output) -> Answer {

@@ -30,12 +30,7 @@ impl Subject for Marked {
             "waiting" => return waiting(self.events.mark(), output),
             "next" => return next(&mut self.events, output),
             "next-given-up" => return next_given_up(&mut self.events, output),
-            "given-up" | "sent-again" | "dropped-by-reset" => give_up(
-                &mut self.events,
-                line,
-                output,
-            ),
-            _ => return happen(&mut self.events, line, output),
+            _ => return give_up(&mut self.events, line, output),
         }
         Answer::Done
     }
@@ -64,15 +59,16 @@ fn waiting(mark: EventMark, output: &mut Output) -> Answer {
     output.show_numbers("events # given-up #", &counts)
 }
 
-/// `given-up MESSAGE`: its lifetime passed; `sent-again MESSAGE COUNT`; `dropped-by-reset MESSAGE`.
-fn give_up(events: &mut Events, line: &Line<'_>, output: &mut Output) {
+/// `given-up MESSAGE`: its lifetime passed; `sent-again MESSAGE COUNT`; `dropped-by-reset MESSAGE`; or an event.
+fn give_up(events: &mut Events, line: &Line<'_>, output: &mut Output) -> Answer {
     let number = OutgoingMessageId(line.first.word);
     let cause = match line.name {
         "given-up" => GivenUpCause::Lifetime,
         "sent-again" => GivenUpCause::Retransmissions(line.second.word),
-        _ => GivenUpCause::Reset,
+        "dropped-by-reset" => GivenUpCause::Reset,
+        _ => return happen(events, line, output),
     };
-    output.note(events.add_given_up(GivenUp { number, cause }));
+    output.done(events.add_given_up(GivenUp { number, cause }))
 }
 
 /// Emits the event, as one that knows nothing but the trait.

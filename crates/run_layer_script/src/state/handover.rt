@@ -39,7 +39,12 @@ impl Subject for SocketHandoverState {
             "read" => return read(self, line.last, output),
             "peer-tag" => self.peer_verification_tag = line.first.word,
             "interleaving" => self.capabilities.message_interleaving = line.first.long == 1,
-            "ordered" => output.note(self.rx.ordered_streams.push(ordered(line))),
+            "ordered" => output.note(
+                self.rx.ordered_streams.push(HandoverOrderedStream {
+                    id: line.first.half,
+                    next_ssn: line.second.word,
+                }),
+            ),
             "ordered-count" => return Answer::Number(self.rx.ordered_streams.len() as u128),
             _ => return send(&mut self.tx, line, output),
         }
@@ -58,13 +63,6 @@ fn read(state: &mut SocketHandoverState, digits: &str, output: &mut Output) -> A
         }
         Err(RecordFault::Memory) => output.done(Err(AllocError)),
         Err(fault) => output.show(&fault),
-    }
-}
-
-fn ordered(line: &Line<'_>) -> HandoverOrderedStream {
-    HandoverOrderedStream {
-        id: line.first.half,
-        next_ssn: line.second.word,
     }
 }
 

@@ -14,10 +14,14 @@ impl Subject for Options {
             "valid" => Answer::Flag(self.is_valid()),
             "copy" => copy(self, output),
             "send" => send_options(line.first.long, output),
-            "timeouts" | "intervals" | "stalls" => times(self, line.name, output),
-            "sizes" | "limits" | "windows" | "switches" | "fragments" => {
-                show(self, line.name, output)
-            }
+            "sizes" => sizes(self, output),
+            "limits" => limits(self, output),
+            "windows" => windows(self, output),
+            "switches" => switches(self, output),
+            "fragments" => output.show_debug(": ", &self.max_held_fragments),
+            "timeouts" => timeouts(self, output),
+            "intervals" => intervals(self, output),
+            "stalls" => stalls(self, output),
             _ => set_option(self, line),
         }
     }
@@ -30,16 +34,6 @@ fn copy(options: &mut Options, output: &mut Output) -> Answer {
             Answer::Done
         }
         Err(fault) => output.done(Err(fault)),
-    }
-}
-
-fn show(o: &Options, name: &str, output: &mut Output) -> Answer {
-    match name {
-        "sizes" => sizes(o, output),
-        "limits" => limits(o, output),
-        "windows" => windows(o, output),
-        "switches" => switches(o, output),
-        _ => output.show_debug(": ", &o.max_held_fragments),
     }
 }
 
@@ -100,15 +94,7 @@ fn switches(o: &Options, output: &mut Output) -> Answer {
     )
 }
 
-/// In milliseconds; `stalls`: whether they are avoided, and how long timers wait at most.
-fn times(o: &Options, name: &str, output: &mut Output) -> Answer {
-    match name {
-        "timeouts" => timeouts(o, output),
-        "intervals" => intervals(o, output),
-        _ => stalls(o, output),
-    }
-}
-
+/// In milliseconds.
 fn timeouts(o: &Options, output: &mut Output) -> Answer {
     output.show_numbers(
         "rtt-most # rto-initial # rto-least # rto-most # t1-init # t1-cookie # t2-shutdown #",
@@ -124,6 +110,7 @@ fn timeouts(o: &Options, output: &mut Output) -> Answer {
     )
 }
 
+/// In milliseconds.
 fn intervals(o: &Options, output: &mut Output) -> Answer {
     output.show_numbers(
         "backoff-is-bounded # heartbeat # delayed-ack # variance #",
@@ -136,6 +123,7 @@ fn intervals(o: &Options, output: &mut Output) -> Answer {
     )
 }
 
+/// Whether they are avoided, and how many milliseconds timers wait at most.
 fn stalls(o: &Options, output: &mut Output) -> Answer {
     output.push_str(": avoided ");
     output.put(&o.avoid_stalls);

@@ -7,14 +7,13 @@ use crate::words::bytes_of;
 
 /// What the first bytes of the packet are read as, for each number of them.
 pub fn cut(output: &mut Output, packet: &[u8]) {
-    for look in [Look::AnyChecksum, Look::ItsChecksum] {
-        output.push_str("cut, ");
-        output.push_str(look.name());
-        show_cuts(output, packet, look);
-    }
+    show_cuts(output, packet, Look::AnyChecksum);
+    show_cuts(output, packet, Look::ItsChecksum);
 }
 
 fn show_cuts(output: &mut Output, packet: &[u8], look: Look) {
+    output.push_str("cut, ");
+    output.push_str(look.name());
     let mut run = Run::new(output.alloc);
     for size in 0..packet.len() {
         run.read(output, size, &packet[..size], look);
@@ -34,7 +33,8 @@ pub fn answer(output: &mut Output, name: &str, rest: &str) -> bool {
 fn answer_lengths(output: &mut Output, digits: &str, words: &str) -> bool {
     match (bytes_of(digits, output), numbers_of(output, words)) {
         (Some(packet), Some(numbers)) => {
-            lengths(output, &packet, &numbers);
+            lengths(output, &packet, &numbers, Look::AnyChecksum);
+            lengths(output, &packet, &numbers, Look::ItsChecksum);
             true
         }
         _ => false,
@@ -42,19 +42,13 @@ fn answer_lengths(output: &mut Output, digits: &str, words: &str) -> bool {
 }
 
 /// What the packet is read as with each of the numbers behind the first in the two bytes at the first.
-fn lengths(output: &mut Output, packet: &[u8], numbers: &[u32]) {
+fn lengths(output: &mut Output, packet: &[u8], numbers: &[u32], look: Look) {
     let place = number(numbers, 0);
-    for look in [Look::AnyChecksum, Look::ItsChecksum] {
-        output.fill("length at #, ", &[place as u128]);
-        output.push_str(look.name());
-        show_lengths(output, packet, place as usize, numbers, look);
-    }
-}
-
-fn show_lengths(output: &mut Output, packet: &[u8], place: usize, numbers: &[u32], look: Look) {
+    output.fill("length at #, ", &[place as u128]);
+    output.push_str(look.name());
     let mut run = Run::new(output.alloc);
     for value in numbers.iter().skip(1) {
-        let changed = with_length(output, packet, place, half(*value));
+        let changed = with_length(output, packet, place as usize, half(*value));
         run.read(output, *value as usize, &changed, look);
     }
     run.end(output);

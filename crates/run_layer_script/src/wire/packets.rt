@@ -2,7 +2,7 @@
 
 use crate::output::Output;
 use sctp_crc32c::crc32c_of;
-use sctp_packet::{Chunk, PacketView, SctpPacket, SctpPacketBuilder, chunk_fits};
+use sctp_packet::{Chunk, PacketView, RawChunk, SctpPacket, SctpPacketBuilder, chunk_fits};
 use sctp_wire::Policy;
 
 /// The greatest packet.
@@ -48,13 +48,17 @@ pub fn look(output: &mut Output, bytes: &[u8], word: u32, policy: &Policy) {
 
 fn walk(output: &mut Output, mut view: PacketView<'_>) {
     for _ in 0..MOST_CHUNKS {
-        let Some(chunk) = view.next_chunk() else {
-            return;
-        };
-        match chunk.data_view() {
-            Some(fragment) => output.debug_line(&fragment),
-            None => output.debug_line(&chunk),
+        match view.next_chunk() {
+            Some(chunk) => show_chunk(output, chunk),
+            None => return,
         }
+    }
+}
+
+fn show_chunk(output: &mut Output, chunk: RawChunk<'_>) {
+    match chunk.data_view() {
+        Some(fragment) => output.debug_line(&fragment),
+        None => output.debug_line(&chunk),
     }
 }
 

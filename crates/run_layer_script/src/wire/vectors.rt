@@ -32,18 +32,22 @@ fn compare(output: &mut Output, packet: &SctpPacket, bytes: &[u8]) {
 fn is_alike(alloc: Global, chunks: &[Chunk], bytes: &[u8]) -> Result<bool, PacketParseError> {
     let mut view = PacketView::new(bytes, 0, &packets::unchecked())?;
     for chunk in chunks {
-        let Some(raw) = view.next_chunk() else {
-            return Ok(false);
-        };
-        if !is_same(alloc, chunk, raw)? {
+        if !is_same(alloc, chunk, view.next_chunk())? {
             return Ok(false);
         }
     }
     Ok(view.next_chunk().is_none())
 }
 
-/// Whether the chunk in place is this one, as it is shown, with this payload.
-fn is_same(alloc: Global, chunk: &Chunk, raw: RawChunk<'_>) -> Result<bool, ChunkParseError> {
+/// Whether there is a chunk in place, and it is this one, as it is shown, with this payload.
+fn is_same(
+    alloc: Global,
+    chunk: &Chunk,
+    raw: Option<RawChunk<'_>>,
+) -> Result<bool, ChunkParseError> {
+    let Some(raw) = raw else {
+        return Ok(false);
+    };
     let again = Chunk::try_from(alloc, raw)?;
     let text = format!(in alloc; "{again}");
     drop(again);
