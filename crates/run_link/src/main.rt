@@ -101,23 +101,29 @@ impl<S: Owned> End<S> {
     }
 }
 
-/// One turn: the time is advanced, since all calls go by it, what came is handed in, and all that the socket emits and has ready is
-/// taken. Answers by which moment the time is to be advanced again.
+/// Takes the messages that are ready.
+fn take_messages<S: DcSctpSocket>(socket: &mut S, messages: &mut Vec<Message>) -> Result<()> {
+    for _ in 0..socket.messages_ready_count() {
+        match socket.get_next_message() {
+            Some(message) => messages.push(message)?,
+            None => break,
+        }
+    }
+    Ok(())
+}
+
+/// One turn: the time is advanced, since all calls go by it, what came is handed in, and what that made ready is taken behind each
+/// packet, since the next may end the association; then all that the socket emits. Answers by which moment the time is to be advanced again.
 fn turn<S: DcSctpSocket>(end: &mut End<S>, now: SocketTime) -> Result<SocketTime> {
     end.socket.advance_time(now)?;
     for bytes in end.came.drain(..) {
         end.socket.handle_input(&bytes)?;
+        take_messages(&mut end.socket, &mut end.messages)?;
     }
     for _ in 0..MANY {
         match end.socket.poll_event() {
             Some(SocketEvent::SendPacket(bytes)) => end.sent.push(bytes)?,
             Some(event) => end.events.push(event)?,
-            None => break,
-        }
-    }
-    for _ in 0..MANY {
-        match end.socket.get_next_message() {
-            Some(message) => end.messages.push(message)?,
             None => break,
         }
     }
