@@ -16,7 +16,9 @@ use crate::{
     Outgoing, Output, PayloadKind, PayloadProtocol, SendRefusal, data_message,
 };
 use sctp_serial::{Message, StreamId};
-use sctp_state::{CallError, DcSctpSocket, ResetStreamsError, SendError, SendOptions, SocketEvent};
+use sctp_state::{
+    CallError, DcSctpSocket, ResetStreamsError, SendError, SendOptions, SocketEvent, SocketState,
+};
 use std::alloc::{AllocError, Global};
 use std::collections::{BTreeSet, VecDeque};
 use std::marker::Model;
@@ -25,12 +27,15 @@ use std::marker::Model;
 const MANY: u32 = 1_000_000;
 
 /// The channels of an association.
+///
+/// A message of a channel that is not reliable leaves a record in the socket where it is given up. The calls of `DcSctpSocket` don't reach these
+/// records: the owner takes them each turn, by `next_given_up` of `Socket`, or they pile up. Channels have no use for them.
 #[derive(Drop)]
 pub struct DataChannels {
     alloc: Global,
     channels: Channels,
     events: VecDeque<ChannelEvent>,
-    // streams whose answer the socket had no room for
+    // streams whose answer the socket hasn't taken; it is offered again with each packet that goes out
     unanswered: VecDeque<StreamId>,
     // streams that are to be reset once what was accepted is sent
     closing: BTreeSet<u16>,
@@ -393,7 +398,7 @@ impl DataChannels {
     {
         match event {
             SocketEvent::SendPacket(bytes) => {
-                self.carry_out(socket)?;
+                self.carry_out_again(socket)?;
                 self.tell(ChannelEvent::Socket(SocketEvent::SendPacket(bytes)))?;
                 Ok(())
             }
@@ -567,11 +572,27 @@ impl DataChannels {
         Ok(ids)
     }
 
+    /// Carries out what is to be done. Where nothing is, nothing changes: what the socket refused is not tried again for an event, since each
+    /// refusal emits one.
     #[inline(always)]
     #[tactic(auto, using(crate::proofs::FollowsLemmas::follows_then, crate::proofs::FollowsLemmas::follows_same, crate::proofs::FollowsLemmas::follows_carried, crate::proofs::FollowsLemmas::told_then, crate::proofs::FollowsLemmas::told_same, crate::proofs::FollowsLemmas::no_outputs, crate::proofs::FollowsLemmas::all_carried))]
     fn carry_out<S: DcSctpSocket>(&mut self, socket: &mut S) -> Result<(), CallError>
         ensures steps { OnOk result (Follows self.old self.new) }
         ensures done { OnOk result (self.new.channels.outputs ≡ []) }
+        ensures told { StaysTold self.old self.new }
+        ensures idle { self.old.channels.outputs ≡ [] → self.new ≡ self.old }
+    {
+        if self.channels.output_count() == 0 {
+            return Ok(());
+        }
+        self.carry_out_all(socket)
+    }
+
+    /// The same where a packet goes out, and by that the socket may have room for an answer that it refused.
+    #[inline(always)]
+    #[tactic(auto, using(crate::proofs::FollowsLemmas::follows_same, crate::proofs::FollowsLemmas::told_same))]
+    fn carry_out_again<S: DcSctpSocket>(&mut self, socket: &mut S) -> Result<(), CallError>
+        ensures steps { OnOk result (Follows self.old self.new) }
         ensures told { StaysTold self.old self.new }
     {
         if self.channels.output_count() == 0 && self.unanswered.is_empty() {
@@ -647,11 +668,14 @@ impl DataChannels {
     }
 
     /// Answers the openings of the peer, as far as the socket takes messages.
-    #[tactic(auto, using(crate::proofs::FollowsLemmas::follows_answers))]
+    #[tactic(auto, using(crate::proofs::FollowsLemmas::follows_answers, crate::proofs::FollowsLemmas::follows_same))]
     fn answer_all<S: DcSctpSocket>(&mut self, socket: &mut S) -> Result<(), CallError>
         ensures steps { OnOk result (Follows self.old self.new) }
         ensures told { self.new.events ≡ self.old.events }
     {
+        if !takes_answers(socket) {
+            return Ok(());
+        }
         answer_each(self.alloc, socket, &mut self.unanswered)
     }
 
@@ -692,6 +716,15 @@ fn passed_on(event: SocketEvent) -> Option<ChannelEvent>
         SocketEvent::OnStreamsResetFailed(_ids) => None,
         SocketEvent::OnBufferedAmountLow(id) => Some(ChannelEvent::BufferedAmountLow(id)),
         event => Some(ChannelEvent::Socket(event)),
+    }
+}
+
+/// Whether the association may still take an answer. Where it is shutting down it takes none any more, and its end closes the channels; a closed
+/// socket would keep it for the next association.
+fn takes_answers<S: DcSctpSocket>(socket: &S) -> bool {
+    match socket.state() {
+        SocketState::Connecting | SocketState::Connected => socket.options().max_message_size != 0,
+        SocketState::Closed | SocketState::ShuttingDown => false,
     }
 }
 

@@ -1,0 +1,245 @@
+//! A socket that may refuse what channels send, and what their owner is told then.
+
+use crate::output::Output;
+use crate::words::cut;
+use sctp_channels::{CONTROL_PPID, DataChannels};
+use sctp_serial::{Message, SocketTime, StreamId};
+use sctp_state::{
+    BatchFault, CallError, DcSctpSocket, ErrorKind, HandoverError, HandoverReadiness, Metrics,
+    Options, ResetStreamsError, RestoreError, SendError, SendOptions, SocketEvent,
+    SocketHandoverState, SocketState,
+};
+use std::alloc::{AllocError, Global};
+use std::collections::VecDeque;
+
+/// More events are not looked for.
+const MANY: u32 = 1000;
+
+/// DATA_CHANNEL_OPEN of an ordered, reliable channel without a label.
+const OPEN: [u8; 12] = [3, 0, 0, 0, 0, 0, 0, 0, 0, 0, 0, 0];
+
+/// A socket without a peer: it has room for so many messages, and emits an error for each one that it refuses.
+#[derive(Drop)]
+struct Refusing {
+    alloc: Global,
+    state: SocketState,
+    options: Options,
+    room: u32,
+    offered: u32,
+    events: VecDeque<SocketEvent>,
+    messages: VecDeque<Message>,
+}
+
+impl Refusing {
+    fn refusal(&self) -> Option<SendError> {
+        if self.options.max_message_size == 0 {
+            return Some(SendError::MessageTooLarge { len: 1, limit: 0 });
+        }
+        if self.state == SocketState::ShuttingDown {
+            return Some(SendError::ShuttingDown);
+        }
+        if self.room == 0 {
+            return Some(SendError::ResourceExhaustion);
+        }
+        None
+    }
+
+    /// A packet goes out.
+    fn emit_packet(&mut self) -> Result<(), AllocError> {
+        let packet = SocketEvent::SendPacket(Vec::new(self.alloc));
+        self.events.push_back(packet)?;
+        Ok(())
+    }
+
+    fn emit_error(&mut self) -> Result<(), AllocError> {
+        let error = SocketEvent::OnError(ErrorKind::NoError, String::new(self.alloc));
+        self.events.push_back(error)?;
+        Ok(())
+    }
+
+    fn take_open(&mut self, id: StreamId) -> Result<(), AllocError> {
+        let mut bytes = Vec::new(self.alloc);
+        bytes.extend_from_slice(&OPEN)?;
+        self.messages
+            .push_back(Message::new(id, CONTROL_PPID, bytes))?;
+        Ok(())
+    }
+}
+
+impl DcSctpSocket for Refusing {
+    fn poll_event(&mut self) -> Option<SocketEvent> {
+        self.events.pop_front()
+    }
+
+    fn get_next_message(&mut self) -> Option<Message> {
+        self.messages.pop_front()
+    }
+
+    fn handle_input(&mut self, _bytes: &[u8]) -> Result<(), CallError> {
+        Ok(())
+    }
+
+    fn advance_time(&mut self, _now: SocketTime) -> Result<(), CallError> {
+        Ok(())
+    }
+
+    fn poll_timeout(&self) -> SocketTime {
+        SocketTime::zero()
+    }
+
+    fn connect(&mut self) -> Result<(), CallError> {
+        Ok(())
+    }
+
+    fn close(&mut self) -> Result<(), CallError> {
+        Ok(())
+    }
+
+    fn shutdown(&mut self) -> Result<(), CallError> {
+        Ok(())
+    }
+
+    fn send(&mut self, _message: Message, _options: &SendOptions) -> Result<(), SendError> {
+        self.offered = self.offered.saturating_add(1);
+        if let Some(refusal) = self.refusal() {
+            self.emit_error()?;
+            return Err(refusal);
+        }
+        self.room = self.room.saturating_sub(1);
+        self.emit_packet()?;
+        Ok(())
+    }
+
+    fn send_many(
+        &mut self,
+        _messages: Vec<Message>,
+        _options: &SendOptions,
+    ) -> Result<(), BatchFault> {
+        Err(BatchFault::Failed)
+    }
+
+    fn reset_streams(&mut self, _streams: &[StreamId]) -> Result<(), ResetStreamsError> {
+        Err(ResetStreamsError::NotConnected)
+    }
+
+    fn set_stream_priority(&mut self, _id: StreamId, _priority: u16) -> Result<(), CallError> {
+        Ok(())
+    }
+
+    fn get_stream_priority(&self, _id: StreamId) -> u16 {
+        256
+    }
+
+    fn set_buffered_amount_low_threshold(
+        &mut self,
+        _id: StreamId,
+        _bytes: usize,
+    ) -> Result<(), CallError> {
+        Ok(())
+    }
+
+    fn buffered_amount_low_threshold(&self, _id: StreamId) -> usize {
+        0
+    }
+
+    fn buffered_amount(&self, _id: StreamId) -> usize {
+        0
+    }
+
+    fn set_max_message_size(&mut self, bytes: usize) {
+        self.options.max_message_size = bytes;
+    }
+
+    fn options(&self) -> Options {
+        self.options
+    }
+
+    fn state(&self) -> SocketState {
+        self.state
+    }
+
+    fn get_metrics(&self) -> Option<Metrics> {
+        None
+    }
+
+    fn messages_ready_count(&self) -> usize {
+        self.messages.len()
+    }
+
+    fn get_handover_readiness(&self) -> HandoverReadiness {
+        HandoverReadiness(0)
+    }
+
+    fn get_handover_state_and_close(&mut self) -> Result<SocketHandoverState, HandoverError> {
+        Err(HandoverError::Failed)
+    }
+
+    fn restore_from_state(&mut self, _state: &SocketHandoverState) -> Result<(), RestoreError> {
+        Ok(())
+    }
+}
+
+fn state_of(word: &str) -> Option<SocketState> {
+    match word {
+        "closed" => Some(SocketState::Closed),
+        "connecting" => Some(SocketState::Connecting),
+        "connected" => Some(SocketState::Connected),
+        "shutting-down" => Some(SocketState::ShuttingDown),
+        _ => None,
+    }
+}
+
+/// Prints what the owner is told, until nothing more is.
+fn tell<S: DcSctpSocket>(output: &mut Output, channels: &mut DataChannels, socket: &mut S) {
+    for _ in 0..MANY {
+        match channels.poll_event(socket) {
+            Ok(Some(event)) => {
+                output.debug_line(&event);
+                drop(event);
+            }
+            Ok(None) => break,
+            Err(fault) => output.note(Err(fault)),
+        }
+    }
+}
+
+fn meet(output: &mut Output, state: SocketState, room: u32, size: usize) {
+    let alloc = output.alloc;
+    let mut channels = DataChannels::new(alloc, true, 8, 100, 100, 100);
+    let mut socket = Refusing {
+        alloc,
+        state,
+        options: Options {
+            max_message_size: size,
+            ..Options::default()
+        },
+        room,
+        offered: 0,
+        events: VecDeque::new(alloc),
+        messages: VecDeque::new(alloc),
+    };
+    output.note(socket.take_open(StreamId(1)));
+    tell(output, &mut channels, &mut socket);
+    output.push_str("room\n");
+    socket.room = room.saturating_add(1);
+    output.note(socket.emit_packet());
+    tell(output, &mut channels, &mut socket);
+    output.fill("offered #\n", &[socket.offered as u128]);
+    drop(socket);
+    drop(channels);
+}
+
+/// Whether the words are a state, how many messages there is room for, and of how many bytes at most.
+pub fn answer(output: &mut Output, words: &str) -> bool {
+    let (word, sizes) = cut(words, ' ');
+    let (room, size) = cut(sizes, ' ');
+    match (
+        state_of(word),
+        super::calls::parsed(room),
+        super::calls::parsed(size),
+    ) {
+        (Some(state), Some(room), Some(size)) => meet(output, state, room, size as usize),
+        _ => return false,
+    }
+    true
+}
