@@ -511,6 +511,7 @@ static inline uint32_t pigeon_borrow_event(pigeon_socket *socket, pigeon_event *
  *     pigeon_advance_time(&socket, now);
  *     pigeon_channels_handle_input(&socket, packet, length);  for each packet that came, and what the owner opens, sends and closes
  *     while (pigeon_channels_borrow_event(&socket, &event, &bytes) == PIGEON_OK) ..      packets to send, messages, channels
+ *     while (pigeon_next_given_up(&socket, &record) == PIGEON_OK) {}                     else records of messages given up pile up
  *     pigeon_poll_timeout(&socket, &next);
  *
  * pigeon_channels_handle_input takes the place of pigeon_handle_input, by which channels would see what two packets brought in another order, and

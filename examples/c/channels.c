@@ -50,6 +50,7 @@ static void show_event(const char *name, const pigeon_socket *end, const pigeon_
 static int take_events(const char *name, pigeon_socket *from, pigeon_socket *to) {
     const uint8_t *bytes;
     pigeon_event event = PIGEON_EVENT;
+    pigeon_given_up record;
     int packets = 0;
     while (pigeon_channels_borrow_event(from, &event, &bytes) == PIGEON_OK)
         if (event.kind == PIGEON_SEND_PACKET) {
@@ -57,6 +58,7 @@ static int take_events(const char *name, pigeon_socket *from, pigeon_socket *to)
             packets++;
         } else
             show_event(name, from, &event, bytes);
+    while (pigeon_next_given_up(from, &record) == PIGEON_OK) {} /* of a channel that isn't reliable: kept until it is taken */
     return packets;
 }
 

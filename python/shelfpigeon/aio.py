@@ -99,6 +99,8 @@ class Driver:
                     self._send(event.data)
                 else:
                     self._tell(event)
+            while not self._stopped and self.channels.next_given_up() is not None:
+                pass  # records are kept until they are taken, and no message of a channel is known by its number
             self._set_timer()
         except SocketFailed:
             self._fail()

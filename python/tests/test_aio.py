@@ -211,3 +211,27 @@ async def test_nobody_is_there():
     a = aio.open_udp(("127.0.0.1", 45803), ("127.0.0.1", 45804), role=Role.CLIENT, options=options)
     with pytest.raises(ConnectionError):
         await a.connect()
+
+
+class Records:
+    """Channels that emit nothing, with records of messages given up."""
+
+    def __init__(self):
+        self.left = 3
+
+    def next_event(self) -> None:
+        return None
+
+    def next_given_up(self) -> int | None:
+        self.left -= self.left > 0
+        return self.left or None
+
+    def poll_timeout(self) -> None:
+        return None
+
+
+@run
+async def test_records_are_taken_each_turn():
+    channels = Records()
+    aio.Driver(channels, print, print, print).turn()
+    assert channels.left == 0
