@@ -1,6 +1,6 @@
 //! The socket.
 
-ghost use Rattle.std.specs.Prelude.{◌≡◌, ◌<◌, ◌^◌, ◌↔◌, ◌||◌, false, true, Err, None, is_err, length, map, option_map, drop, slice_get, IfOk, IfErr, OnErr, OnOk};
+ghost use Rattle.std.specs.Prelude.{◌≡◌, ◌<◌, ◌^◌, ◌↔◌, ◌||◌, false, true, Err, None, is_err, is_some, length, map, option_map, drop, slice_get, IfOk, IfErr, OnErr, OnOk};
 ghost use Rattle.sctp_serial.specs.Messages.{message_of};
 ghost use Rattle.sctp_tx_queue.specs.SendQueue.{amount_of, stream, total_of};
 ghost use Rattle.sctp_state.specs.Events.{Grown, event_of, first_of, given_up_of, numbers_of};
@@ -282,6 +282,8 @@ impl<R: Rng, C: Checksum> DcSctpSocket for Socket<R, C> {
         ensures answer { sending_ending result ≡ Worked → refusal_in result ≡ calls.send_refusal_of (message_of message) (endpoint R.stream C.word_of self.old).endpoint_state }
         ensures sent { sending_ending result ≡ Worked
             → endpoint R.stream C.word_of self.new ≡ in_endpoint_state (calls.send (message_of message) (send_options_of options.now)) (endpoint R.stream C.word_of self.old) }
+        ensures unsent { sending_ending result ≡ RanOut → is_some (calls.send_refusal_of (message_of message) (endpoint R.stream C.word_of self.old).endpoint_state) ≡ true
+            → self.new.context.queue ≡ self.old.context.queue }
         ensures stands { Grown self.old.context.emitted self.new.context.emitted }
         ensures at_memory { OnErr result (LeavesAtMemory self.old self.new) }
     {

@@ -1,6 +1,6 @@
 //! The calls that send and that set something.
 
-ghost use Rattle.std.specs.Prelude.{◌≡◌, ◌<◌, ◌^◌, ◌⊎◌, false, None, length, map, IfOk, OnErr, OnOk};
+ghost use Rattle.std.specs.Prelude.{◌≡◌, ◌<◌, ◌^◌, ◌⊎◌, false, true, None, is_some, length, map, IfOk, OnErr, OnOk};
 ghost use Rattle.sctp_serial.specs.Messages.{message_of};
 ghost use Rattle.sctp_tx_queue.specs.SendQueue.{total_of};
 ghost use Rattle.sctp_state.specs.Events.{emit_events};
@@ -219,6 +219,8 @@ pub fn send<C: Checksum>(
     ensures grown { GrownQuietly context.old.emitted context.new.emitted }
     ensures counted { let c = context_of C.word_of context.old in
         OnErr result ((context.new.counts.tx_messages ≡ c.counts.tx_messages) ⊎ (context.new.counts.tx_messages ≡ (table.offer (message_of message) (send_options_of options.now) (table.shown_state (state_of state.old)) c).counts.tx_messages)) }
+    ensures unsent { OnErr result (is_some (table.send_refusal_of (message_of message) (endpoint_state_of C.word_of state.old context.old)) ≡ true
+        → context.new.queue ≡ context.old.queue) }
     ensures ready { ready_in (state_of state.new) ≡ ready_in (state_of state.old) }
     ensures association { association_in (state_of state.new) ≡ association_in (state_of state.old) }
 {
