@@ -26,6 +26,9 @@ use std::marker::Model;
 /// More events are not looked for in one `collect`.
 const MANY: u32 = 1_000_000;
 
+/// So many closing streams are looked at in a row, from where the last look ended and from the first on.
+const IN_TURN: usize = 64;
+
 /// The channels of an association.
 ///
 /// A message of a channel that is not reliable leaves a record in the socket where it is given up. The calls of `DcSctpSocket` don't reach these
@@ -39,6 +42,8 @@ pub struct DataChannels {
     unanswered: VecDeque<StreamId>,
     // streams that are to be reset once what was accepted is sent
     closing: BTreeSet<u16>,
+    // the first of them to be looked at
+    next_closing: u16,
     peer_max_message_size: usize,
     max_buffered_amount: usize,
 }
@@ -73,6 +78,7 @@ impl DataChannels {
             events: VecDeque::new(alloc),
             unanswered: VecDeque::new(alloc),
             closing: BTreeSet::new(alloc),
+            next_closing: 0,
             peer_max_message_size,
             max_buffered_amount,
         }
@@ -545,10 +551,36 @@ impl DataChannels {
         ensures done { OnOk result (self.new.channels.outputs ≡ []) }
         ensures told { StaysTold self.old self.new }
     {
-        for id in &self.closing_streams()? {
+        self.settle_in_turn(socket)?;
+        self.carry_out(socket)
+    }
+
+    /// Asks for the resets that are due, up to where of the streams that are next in turn none is. So what a call costs is bounded by what it asks
+    /// for, however many streams wait for a peer that takes nothing.
+    #[tactic(auto, using(crate::proofs::FollowsLemmas::follows_then, crate::proofs::FollowsLemmas::follows_same, crate::proofs::FollowsLemmas::told_then, crate::proofs::FollowsLemmas::told_same))]
+    fn settle_in_turn<S: DcSctpSocket>(&mut self, socket: &S) -> Result<(), AllocError>
+        ensures steps { OnOk result (Follows self.old self.new) }
+        ensures told { StaysTold self.old self.new }
+    {
+        for _ in 0..MANY {
+            if !self.settle_some(socket)? {
+                return Ok(());
+            }
+        }
+        Ok(())
+    }
+
+    /// Asks for the resets that are due of the closing streams that are next in turn. Says whether one was.
+    #[tactic(auto, using(crate::proofs::FollowsLemmas::follows_then, crate::proofs::FollowsLemmas::follows_same, crate::proofs::FollowsLemmas::follows_drains, crate::proofs::FollowsLemmas::told_then, crate::proofs::FollowsLemmas::told_same))]
+    fn settle_some<S: DcSctpSocket>(&mut self, socket: &S) -> Result<bool, AllocError>
+        ensures steps { OnOk result (Follows self.old self.new) }
+        ensures told { StaysTold self.old self.new }
+    {
+        let before = self.closing.len();
+        for id in &self.next_closing()? {
             self.drain(*id, socket.buffered_amount(*id))?;
         }
-        self.carry_out(socket)
+        Ok(self.closing.len() < before)
     }
 
     /// A stream whose reset was asked for isn't looked at again.
@@ -563,11 +595,21 @@ impl DataChannels {
         Ok(())
     }
 
-    /// The streams that are to be reset, ascending.
-    fn closing_streams(&self) -> Result<Vec<StreamId>, AllocError> {
+    /// The closing streams that are next in turn: all where they are few, ascending.
+    fn next_closing(&mut self) -> Result<Vec<StreamId>, AllocError>
+        ensures { self.new ≡ self.old }
+    {
+        let is_many = self.closing.len() > IN_TURN;
+        let from = if is_many { self.next_closing } else { 0 };
         let mut ids = Vec::new(self.alloc);
-        for id in &self.closing {
+        for id in self.closing.range(from..).take(IN_TURN) {
             ids.push(StreamId(*id))?;
+        }
+        for id in self.closing.range(..from).take(IN_TURN) {
+            ids.push(StreamId(*id))?;
+        }
+        if let Some(last) = ids.last() {
+            self.next_closing = last.0.wrapping_add(1);
         }
         Ok(ids)
     }

@@ -1,5 +1,5 @@
 use Rattle.sctp_channels.specs.Steps.{Follows, StaysTold}
-use Rattle.sctp_channels.proofs.data_channels.DataChannels.settle_all.Given as goal
+use Rattle.sctp_channels.proofs.data_channels.DataChannels.settle_some.Given as goal
 
 abbrev pub invariant-loop-id : goal.invariant-loop-id
 invariant-loop-id g l = record {
