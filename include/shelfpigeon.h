@@ -538,9 +538,11 @@ typedef struct pigeon_channels_options {
     uint32_t max_message_size;      /* own a=max-message-size (RFC 8841): longer messages that come are refused; at 0 all but empty ones */
     uint32_t peer_max_message_size; /* the peer's, 65,536 where its description has none: a longer message isn't sent; any is at 0 */
     uint32_t max_buffered_amount;   /* a message by which more than this would wait on its channel isn't taken */
+    uint32_t max_kept_bytes;        /* of labels, protocols and unfinished messages that all channels keep: an opening by the peer beyond it
+                                       is refused, and a part of a message beyond it drops that; what this end opens counts and is taken */
 } pigeon_channels_options;
 
-#define PIGEON_CHANNELS_OPTIONS {sizeof(pigeon_channels_options), PIGEON_ROLE_CLIENT, 262144, 65536, 16777216}
+#define PIGEON_CHANNELS_OPTIONS {sizeof(pigeon_channels_options), PIGEON_ROLE_CLIENT, 262144, 65536, 16777216, 16777216}
 
 /* Switches channels on: after pigeon_new, before the socket connects and before a packet comes. The socket's own max_message_size bounds what is
  * sent beside peer_max_message_size. PIGEON_INVALID_SIZE, PIGEON_INVALID_ARGUMENT (a role that there isn't), PIGEON_HAS_CHANNELS: nothing changes. */
@@ -604,7 +606,8 @@ enum {
     PIGEON_REFUSED_IN_USE = 4,       /* an opening on a stream that has a channel, which is closed */
     PIGEON_REFUSED_NO_CHANNEL = 5,   /* data on a stream without a channel */
     PIGEON_REFUSED_PAYLOAD = 6,      /* a payload protocol identifier that is none of those of channels */
-    PIGEON_REFUSED_TOO_LONG = 7      /* a message longer than max_message_size */
+    PIGEON_REFUSED_TOO_LONG = 7,     /* a message longer than max_message_size, or of parts beyond max_kept_bytes */
+    PIGEON_REFUSED_NO_ROOM = 8       /* an opening whose label and protocol go beyond max_kept_bytes; the stream is reset */
 };
 
 /* Takes the bytes of a packet that came, as pigeon_handle_input does, and what it brings to the channels. */

@@ -97,7 +97,8 @@ AT(pigeon_channels_options, role, 8);
 AT(pigeon_channels_options, max_message_size, 12);
 AT(pigeon_channels_options, peer_max_message_size, 16);
 AT(pigeon_channels_options, max_buffered_amount, 20);
-HAS(pigeon_channels_options, 24);
+AT(pigeon_channels_options, max_kept_bytes, 24);
+HAS(pigeon_channels_options, 32);
 
 AT(pigeon_channel_options, size, 0);
 AT(pigeon_channel_options, flags, 8);

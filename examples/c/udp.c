@@ -101,9 +101,11 @@ int main(int count, char **words) {
     while (goes_on) {
         uint8_t bytes[65536];
         uint64_t due = UINT64_MAX;
+        size_t room = 0; /* for a line that is read only where it will be taken */
         goes_on = take_all(&end, wire, &peer);
         pigeon_poll_timeout(&end, &due);
-        struct pollfd ready[2] = {{wire, POLLIN, 0}, {reads ? STDIN_FILENO : -1, POLLIN, 0}};
+        pigeon_send_queue_room(&end, &room);
+        struct pollfd ready[2] = {{wire, POLLIN, 0}, {reads && room >= sizeof bytes ? STDIN_FILENO : -1, POLLIN, 0}};
         int count_ready = goes_on ? poll(ready, 2, milliseconds_until(due, nanos() - start)) : 0;
         if (pigeon_advance_time(&end, nanos() - start) != PIGEON_OK) /* first: the calls below go by it */
             break;

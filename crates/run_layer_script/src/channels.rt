@@ -9,6 +9,7 @@
 //! | `ppid NUMBER` | what a payload under this PPID is |
 //! | `text HEX`, `binary HEX` | the PPID and the payload of a message of this kind |
 //! | `client COUNT LIMIT`, `server COUNT LIMIT` | an end without channels that has so many streams, and takes messages of so many bytes |
+//! | `narrow LIMIT KEPT` | a client of eight streams that takes messages of LIMIT bytes, and keeps at most KEPT of labels, protocols and parts |
 //! | `streams COUNT` | it has so many from now on |
 //! | `open`, `negotiate ID`, `close ID` | calls of its owner; the stream that was opened |
 //! | `got ID PPID HEX`, `reset ID`, `performed ID`, `denied ID`, `buffered ID SIZE`, `end` | what the socket hands out: a message, a reset of the incoming stream, what became of one of the outgoing stream; the bytes that wait in it; the end of the association |
@@ -117,7 +118,7 @@ fn answer_number(output: &mut Output, name: &str, word: &str) -> bool {
 
 /// Answers each line, at an end that begins without channels.
 pub fn run(script: &str, output: &mut Output) {
-    let mut channels: Channels = begin(output.alloc, true, 65535, 65536);
+    let mut channels: Channels = begin(output.alloc, true, 65535, 65536, 65536);
     for line in script.lines() {
         let (name, words) = cut(line, ' ');
         let is_known = calls::answer(output, &mut channels, name, words)

@@ -28,9 +28,9 @@ pub extern "C" fn pigeon_channels_start_sized(
     socket: &mut Handle,
     options: &[u8],
 ) -> u32
-    ensures size { 24 < length options.now → (result ≡ 21) × (socket.new.held ≡ socket.old.held) }
-    ensures role { length options.now ≤ 24 → 2 ≤ (start_in options.now).role → (result ≡ 7) × (socket.new.held ≡ socket.old.held) }
-    ensures call { length options.now ≤ 24 → (start_in options.now).role < 2 → Answers (StartsOf (start_in options.now)) socket.old.held result socket.new.held }
+    ensures size { 32 < length options.now → (result ≡ 21) × (socket.new.held ≡ socket.old.held) }
+    ensures role { length options.now ≤ 32 → 2 ≤ (start_in options.now).role → (result ≡ 7) × (socket.new.held ≡ socket.old.held) }
+    ensures call { length options.now ≤ 32 → (start_in options.now).role < 2 → Answers (StartsOf (start_in options.now)) socket.old.held result socket.new.held }
 {
     if START_SIZE < options.len() {
         return INVALID_SIZE;

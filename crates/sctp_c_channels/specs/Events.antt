@@ -30,6 +30,7 @@ refusal_number refusals.StreamInUse = 4
 refusal_number refusals.NoChannel = 5
 refusal_number refusals.UnknownPayloadProtocol = 6
 refusal_number refusals.TooLong = 7
+refusal_number refusals.NoRoom = 8
 
 -- an event of the socket as without channels; the others have kinds of their own, and a stream
 abbrev pub head_of : ChannelEvent → EventRecord

@@ -64,11 +64,17 @@ channel_bytes r = in_turn (put_u32 8 r.flags ∷ put_u32 12 r.max_retransmission
 -- ---- how channels are switched on
 
 abbrev pub start_in : List ℕ → StartRecord
-start_in bytes = record { role = u32_or 8 0 bytes; max_message_size = u32_or 12 262_144 bytes; peer_max_message_size = u32_or 16 65_536 bytes; max_buffered_amount = u32_or 20 16_777_216 bytes }
+start_in bytes = record {
+  role = u32_or 8 0 bytes;
+  max_message_size = u32_or 12 262_144 bytes;
+  peer_max_message_size = u32_or 16 65_536 bytes;
+  max_buffered_amount = u32_or 20 16_777_216 bytes;
+  max_kept_bytes = u32_or 24 16_777_216 bytes;
+}
 
 abbrev pub started : StartRecord → (stream_count : ℕ) → DataChannels
 started r stream_count =
-    record { channels = no_channels (r.role == 0) stream_count r.max_message_size; peer_limit = r.peer_max_message_size; buffer_limit = r.max_buffered_amount; events = []; unanswered = [] }
+    record { channels = no_channels (r.role == 0) stream_count r.max_message_size r.max_kept_bytes; peer_limit = r.peer_max_message_size; buffer_limit = r.max_buffered_amount; events = []; unanswered = [] }
 
 -- no channels yet, on some number of streams
 abbrev pub IsStarted : StartRecord → Option DataChannels → Type 0

@@ -33,6 +33,7 @@ fn refusal_number(why: Refusal) -> u32
         Refusal::NoChannel => 5,
         Refusal::UnknownPayloadProtocol => 6,
         Refusal::TooLong => 7,
+        Refusal::NoRoom => 8,
     }
 }
 

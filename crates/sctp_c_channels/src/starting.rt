@@ -11,7 +11,7 @@ use sctp_state::DcSctpSocket;
 use std::alloc::Global;
 
 /// The bytes of `pigeon_channels_options`.
-pub const START_SIZE: usize = 24;
+pub const START_SIZE: usize = 32;
 
 /// With what channels are switched on; in C `pigeon_channels_options`. Sizes in bytes.
 #[derive(Clone, Copy)]
@@ -20,6 +20,7 @@ pub struct StartRecord {
     pub max_message_size: u32,
     pub peer_max_message_size: u32,
     pub max_buffered_amount: u32,
+    pub max_kept_bytes: u32,
 }
 
 impl StartRecord {
@@ -32,6 +33,7 @@ impl StartRecord {
             max_message_size: u32_or(bytes, 12, 262_144),
             peer_max_message_size: u32_or(bytes, 16, 65_536),
             max_buffered_amount: u32_or(bytes, 20, 16_777_216),
+            max_kept_bytes: u32_or(bytes, 24, 16_777_216),
         }
     }
 
@@ -58,6 +60,7 @@ fn none_yet<S: DcSctpSocket>(alloc: Global, socket: &S, record: &StartRecord) ->
         record.max_message_size as usize,
         record.peer_max_message_size as usize,
         record.max_buffered_amount as usize,
+        record.max_kept_bytes as usize,
     )
 }
 

@@ -140,6 +140,7 @@ fn refusal_text(number: u32) -> &'static str
         5 => "no channel on the stream\0",
         6 => "payload protocol is not known\0",
         7 => "message is too long\0",
+        8 => "no room for the opening's texts\0",
         _ => "unknown refusal\0",
     }
 }

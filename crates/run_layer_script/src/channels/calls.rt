@@ -10,9 +10,22 @@ use std::mem;
 /// More is not printed of what one command asks for.
 const MANY: u32 = 100_000;
 
-/// No channels, at an end that has so many streams and takes messages of so many bytes.
-pub fn begin(alloc: Global, is_client: bool, stream_count: u32, limit: u32) -> Channels {
-    Channels::new(alloc, is_client, stream(stream_count).0, limit as usize)
+/// No channels, at an end that has so many streams, takes messages of so many bytes, and keeps so many of labels, protocols and parts.
+pub fn begin(
+    alloc: Global,
+    is_client: bool,
+    stream_count: u32,
+    limit: u32,
+    max_kept: u32,
+) -> Channels {
+    let stream_count = stream(stream_count).0;
+    Channels::new(
+        alloc,
+        is_client,
+        stream_count,
+        limit as usize,
+        max_kept as usize,
+    )
 }
 
 fn description(alloc: Global) -> DataChannelOpen {
@@ -60,7 +73,11 @@ fn call(output: &mut Output, channels: &mut Channels, name: &str, first: u32, se
     match name {
         "client" | "server" => drop(mem::replace(
             channels,
-            begin(output.alloc, name == "client", first, second),
+            begin(output.alloc, name == "client", first, second, MANY),
+        )),
+        "narrow" => drop(mem::replace(
+            channels,
+            begin(output.alloc, true, 8, first, second),
         )),
         "close" => channels.close(id),
         "streams" => channels.set_stream_count(id.0),
@@ -85,7 +102,12 @@ fn show(output: &mut Output, channels: &Channels, id: StreamId) {
 }
 
 fn list(output: &mut Output, channels: &Channels) {
-    let ids = output.made(channels.streams());
+    let mut ids = Vec::new(output.alloc);
+    for id in 0..u16::MAX {
+        if channels.get(StreamId(id)).is_some() {
+            output.note(ids.push(StreamId(id)));
+        }
+    }
     output.debug_line(&ids);
 }
 

@@ -205,7 +205,7 @@ fn tell<S: DcSctpSocket>(output: &mut Output, channels: &mut DataChannels, socke
 
 fn meet(output: &mut Output, state: SocketState, room: u32, size: usize) {
     let alloc = output.alloc;
-    let mut channels = DataChannels::new(alloc, true, 8, 100, 100, 100);
+    let mut channels = DataChannels::new(alloc, true, 8, 100, 100, 100, 100);
     let mut socket = Refusing {
         alloc,
         state,
