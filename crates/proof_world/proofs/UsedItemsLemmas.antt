@@ -220,9 +220,6 @@ module _ {P : Type 0} where
 
 -- ---- what is sent again takes no number
 
-abbrev number_in : Resent → ℕ
-number_in x = next_number x.outstanding.items
-
 record StaysAt (a b : Items) : Type 0 where
   point : b.acked ≡ a.acked
   next : next_number b ≡ next_number a

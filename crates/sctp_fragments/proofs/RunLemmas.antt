@@ -54,10 +54,6 @@ module _ {E : Type 0} (rank : E → ℕ) (goes : E → E → Bool) where
   AllBelow_append n [] ys h k = k
   AllBelow_append n (x ∷ xs) ys h k = (h.0, AllBelow_append n xs ys h.1 k)
 
-  AllBelow_later : (m n : ℕ) (xs : List E) → m ≤ n → AllBelow rank m xs → AllBelow rank n xs
-  AllBelow_later m n [] l h = tt
-  AllBelow_later m n (x ∷ xs) l h = (omega (arith, h.0), AllBelow_later m n xs l h.1)
-
   -- the end is above what comes before it
   end_rises : (d : E) (n : ℕ) (xs : List (List E)) → AreRuns rank goes (Some d) xs → IsBelow rank n (end_of (Some d) xs) → rank d < n
   end_rises d n [] h k = k

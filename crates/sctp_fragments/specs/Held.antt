@@ -1,9 +1,9 @@
 -- Fragments that are held until their message is ready, in the order of their keys.
-use Rattle.std.specs.Prelude.{◌≡◌, ℕ, ◌+◌, ◌≤◌, ◌&&◌, ◌==◌, not, nat_lt, Bool, true, false, if◌then◌else◌, Option, None, List, [], ◌∷◌, ◌++◌, length}
+use Rattle.std.specs.Prelude.{◌≡◌, ℕ, ◌+◌, ◌&&◌, ◌==◌, not, Bool, true, false, if◌then◌else◌, None, List, [], ◌∷◌, ◌++◌, length}
 use Rattle.sctp_serial.specs.Messages.{Message}
 use Rattle.sctp_chunk.specs.Chunk.{FragmentTree}
 use Rattle.sctp_fragments.specs.ReassemblyKey.{pair_rank}
-use Rattle.sctp_fragments.specs.Runs.{flat, runs_of, AreRuns, is_whole, is_held, last_of}
+use Rattle.sctp_fragments.specs.Runs.{flat, runs_of, AreRuns, is_whole, is_held}
 
 -- a fragment and its key: its message's number, and its place in the message, that is its TSN, or with interleaving its
 -- FSN (RFC 8260 section 2.1). All are unwrapped. Unordered DATA has no number, and a constant here
@@ -94,9 +94,3 @@ pub record IsTaken (old run new : List Held) : Type 0 where
   pub left : intervals_of new ≡ front ++ back
   pub split : old ≡ flat front ++ (run ++ flat back)
   pub rest : new ≡ flat front ++ flat back
-
--- the first interval that is in turn went out
-pub record IsTurn (n : ℕ) (old run new : List Held) : Type 0 where
-  pub taken : IsTaken old run new
-  pub turn : is_in_turn n run ≡ true
-  pub first : NoneInTurn n taken.front

@@ -1,12 +1,12 @@
 -- How an interval list keeps the fragments.
-use Rattle.std.specs.Prelude.{◌≡◌, ℕ, ◌<◌, ◌≤◌, ◌^◌, not, nat_lt, Bool, true, false, None, List, [], ◌∷◌, ◌++◌, length, map}
+use Rattle.std.specs.Prelude.{◌≡◌, ℕ, ◌<◌, ◌≤◌, ◌^◌, not, nat_lt, Bool, true, false, None, List, [], ◌∷◌, ◌++◌, map}
 use Rattle.sctp_chunk.specs.declared.data.Data.{Data}
 use Rattle.sctp_chunk.specs.Views.{fragment_tree}
 use Rattle.sctp_fragments.specs.declared.interval.Entry.{Entry}
 use Rattle.sctp_fragments.specs.declared.interval.Interval.{Interval}
 use Rattle.sctp_fragments.specs.Entries.{items_of}
-use Rattle.sctp_fragments.specs.Runs.{flat, AreRuns, last_of, is_held}
-use Rattle.sctp_fragments.specs.Held.{Held, rank_of, goes_on, bytes_of, NonePass, is_in_turn}
+use Rattle.sctp_fragments.specs.Runs.{flat, AreRuns, is_held}
+use Rattle.sctp_fragments.specs.Held.{Held, rank_of, goes_on, NonePass}
 
 abbrev pub as_held : ℕ → ℕ → Data → Held
 as_held number index d = record { number = number; index = index; fragment = fragment_tree d }
@@ -33,12 +33,6 @@ abbrev pub AreIndexed : List Held → Type 0
 AreIndexed [] = Unit {0}
 AreIndexed (h ∷ hs) = (h.index < 2 ^ 64) × AreIndexed hs
 
--- the first run ends at n or above it
-abbrev pub EndsFrom : ℕ → List (List Held) → Type 0
-EndsFrom n [] = Unit {0}
-EndsFrom n ([] ∷ rs) = ⊥
-EndsFrom n ((e ∷ es) ∷ rs) = n ≤ rank_of (last_of e es)
-
 -- x came between the runs ps and qs
 pub record IsInserted (ps qs new : List (List Held)) (x : Held) : Type 0 where
   pub kept : AreRuns rank_of goes_on None new
@@ -61,10 +55,6 @@ abbrev pub StartsFrom : ℕ → List (List Held) → Type 0
 StartsFrom n [] = Unit {0}
 StartsFrom n ([] ∷ rs) = ⊥
 StartsFrom n ((e ∷ es) ∷ rs) = n ≤ e.number
-
-abbrev pub StartsInTurn : ℕ → List (List Held) → Type 0
-StartsInTurn n [] = Unit {0}
-StartsInTurn n (r ∷ rs) = is_in_turn n r ≡ true
 
 -- the runs without the first entry of the first one, where es is left of it
 abbrev pub without_first : List Held → List (List Held) → List (List Held)

@@ -35,11 +35,6 @@ cut_before old part rest log c = record {
 pub more_made : (old longer log part : List Entry) → (made : List Entry) × (longer ≡ old ++ made) → log ≡ longer ++ part → (made : List Entry) × (log ≡ old ++ made)
 more_made old longer log part begun e = (begun.0 ++ part, e ∙ (ap (λ (l : List Entry). l ++ part) begun.1 ∙ append_assoc old begun.0 part))
 
--- or ends here
-pub loop_cut : (old longer log whole left : List Entry) → (made : List Entry) × (longer ≡ old ++ made) → longer ++ left ≡ whole → log ≡ longer → IsCut old whole log
-loop_cut old longer log whole left begun goes_on same =
-    cut_there old whole log begun.0 left (same ∙ begun.1) (ap (λ (l : List Entry). l ++ left) same ∙ goes_on)
-
 pub stops_as : (P Q : List Entry → Type 0) (old log : List Entry) → ((whole : List Entry) → P whole → Q whole) → StopsWithin P old log → StopsWithin Q old log
 stops_as P Q old log f (stops.unlogged same) = stops.unlogged same
 stops_as P Q old log f (stops.begun whole p cut) = stops.begun whole (f whole p) cut

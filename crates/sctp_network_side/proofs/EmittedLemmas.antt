@@ -1,7 +1,6 @@
 -- Events taken one after the other.
 use Rattle.std.specs.Prelude.{slice_get}
 use Rattle.std.proofs.Common.{◌≡◌, ℕ, zero, suc, ◌+◌, ◌≤◌, ◌<◌, Option, Some, None, List, [], ◌∷◌, ◌++◌, length, map, drop, refl, sym, ap, ◌∙◌, append_assoc, arith}
-use Rattle.std.proofs.lemmas.List.{append-nil, drop_all}
 use Rattle.sctp_state.specs.Events.{Event, SendPacket, OnConnected, OnClosed, OnConnectionRestarted, OnAborted, OnError, OnBufferedAmountLow, OnTotalBufferedAmountLow, OnStreamsResetFailed, OnStreamsResetPerformed, OnIncomingStreamReset, OnLifecycleMessageFullySent, OnLifecycleMessageMaybeExpired, OnLifecycleMessageExpired, OnLifecycleMessageDelivered, OnLifecycleEnd, GivenUp, first_of}
 use Rattle.sctp_serial.specs.Messages.{Message}
 use Rattle.sctp_network_side.specs.SideView.{ready_entry}
@@ -98,9 +97,6 @@ one_more f xs k x old new start e n s =
     ap (λ (m : ℕ). f x ∷ map f (drop m xs)) (sym next) ∙ sym (ap (map f) (got xs k x e)) in
     ap (λ (l : List Entry). l ++ map f (drop (k + 1) xs)) n ∙ append_assoc old (f x ∷ []) (map f (drop (k + 1) xs))
     ∙ ap (λ (l : List Entry). old ++ l) rest ∙ s
-
-pub none_more : {X : Type 0} (f : X → Entry) (xs : List X) (k : ℕ) (old start : List Entry) → length xs ≤ k → old ++ map f (drop k xs) ≡ start → old ≡ start
-none_more f xs k old start past s = sym (append-nil old) ∙ ap (λ (l : List Entry). old ++ l) (sym (ap (map f) (drop_all k xs past))) ∙ s
 
 past : {X : Type 0} (xs : List X) (k : ℕ) → slice_get xs k ≡ None → length xs ≤ k
 past [] k e = omega arith

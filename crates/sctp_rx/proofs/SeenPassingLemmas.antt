@@ -1,5 +1,5 @@
 -- Moving a front up, over the runs that it reaches.
-use Rattle.std.proofs.Common.{◌≡◌, ℕ, ◌+◌, ◌<◌, ◌≤◌, Bool, eqb, leb, ◌||◌, ◌&&◌, List, [], ◌∷◌, ◌++◌, length, get_or, drop, max, sym, ap, ◌∙◌, subst, arith, drop-cons}
+use Rattle.std.proofs.Common.{◌≡◌, ℕ, ◌+◌, ◌<◌, ◌≤◌, Bool, eqb, leb, ◌||◌, ◌&&◌, List, [], ◌∷◌, ◌++◌, max, sym, ap, ◌∙◌, subst, arith}
 use Rattle.std.proofs.lemmas.Bool.Decides.{nat_tests}
 use Rattle.sctp_rx.specs.Seen.{Run, in_runs, AreRuns, last_above}
 use Rattle.sctp_rx.specs.SeenSteps.{Cuts, Passes}
@@ -19,10 +19,6 @@ last_above_max c (b ∷ rs) r = omega (arith, le_last_above b.last rs r.2)
 
 pub within_last : (n c : ℕ) (rs : List Run) → AreRuns c rs → n ≤ c → last_above c rs ≡ max n (last_above c rs)
 within_last n c rs r h = omega (arith, le_last_above c rs r)
-
--- the first run, and the others
-pub at_front : (rs : List Run) (b : Run) → 0 < length rs → b ≡ get_or rs 0 b → rs ≡ b ∷ drop 1 rs
-at_front rs b h read = drop-cons rs 0 b h ∙ ap (λ x. x ∷ drop 1 rs) (sym read)
 
 -- one run is passed
 pub record PassesOne (p q : ℕ) (b : Run) (old new : List Run) : Type 0 where
@@ -46,13 +42,6 @@ pub passes_one : (p q : ℕ) (b : Run) (old new : List Run) → AreRuns 0 old �
 passes_one p q b old new r split reach joins =
     let runs = subst (λ (z : List Run). AreRuns 0 z) split r in
     rw (reach, split) (passes_one_of p b new runs joins)
-
--- none is left that it reaches
-pub apart : (p : ℕ) (b : Run) (old new : List Run) → AreRuns 0 old → old ≡ b ∷ new → p + 1 < b.first → AreRuns p old
-apart p b old new r split far =
-    let runs = subst (λ (z : List Run). AreRuns 0 z) split r in
-    let made : AreRuns p (b ∷ new) = (far, runs.1, runs.2) in
-    subst (λ (z : List Run). AreRuns p z) (sym split) made
 
 up_to_both : (p c n : ℕ) (v : Bool) → c < p → (leb n p || v) ≡ (leb n p || (leb n c || v))
 up_to_both p c n v h = grind (arith, nat_tests)
@@ -121,10 +110,4 @@ cuts p q old low rest is begin reach r =
     let c = cuts_from 0 p low rest (omega arith) begin (subst (λ (t : List Run). AreRuns 0 t) is r) in
     rw (reach, is) (record { numbers = c.numbers; runs = c.runs; onward = omega arith; last = c.last })
 
-pub cut_passes : (p q n : ℕ) (old mid new : List Run) → Cuts p old q mid → Passes q mid n new → Passes p old n new
-cut_passes p q n old mid new c w = record {
-  numbers = λ m. w.numbers m ∙ c.numbers m;
-  runs = w.runs;
-  onward = omega (arith, c.onward, w.onward);
-  last = w.last ∙ c.last;
 }

@@ -6,7 +6,7 @@ use Rattle.std.specs.Str.{all_ascii_digits, IsUtf8}
 use Rattle.std.specs.Result.{result_ok}
 use Rattle.std.specs.Str.Parse.{ParsesUnsigned, digits_value}
 use Rattle.std.proofs.lemmas.Fmt.{IsAscii-from_digits}
-use Rattle.std.proofs.lemmas.Result.{OkIff-at_ok, OkIff-at_err}
+use Rattle.std.proofs.lemmas.Result.{OkIff-at_err}
 use Rattle.std.proofs.lemmas.Str.{IsUtf8-from_ascii}
 use Rattle.std.proofs.lemmas.Str.Parse.{IsNumeralModel, numerals_by_value, tells_all_ascii_digits, parse_digits}
 use Rattle.sctp_world.specs.Command.{IsNumber}
@@ -24,11 +24,6 @@ module _ (word : List ℕ) (digits : list_all is_ascii_digit word ≡ true) wher
 
   pub is_utf8 : IsUtf8 word
   is_utf8 = IsUtf8-from_ascii word (IsAscii-from_digits word (model.to word plain))
-
-  pub is_number : {E : Type 0} (r : Result ℕ E) (n : ℕ) → ParsesUnsigned 64 10 word r → r ≡ Ok n → IsNumber word n
-  is_number r n parsed e =
-      let p = OkIff-at_ok r ((0 < length word) × (digits_value 10 word < 2 ^ 64)) (digits_value 10 word) n (parse_digits model 64 word r parsed plain) e in
-      record { digits = digits; some = p.0.0; value = sym p.1 }
 
   pub is_no_number : {E : Type 0} (r : Result ℕ E) (fault : E) (n : ℕ) → ParsesUnsigned 64 10 word r → r ≡ Err fault → n < 2 ^ 64 → IsNumber word n → ⊥
   is_no_number r fault n parsed e fits number =
