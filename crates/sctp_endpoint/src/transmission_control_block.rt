@@ -26,7 +26,7 @@ use sctp_tx::{ChunkForm, RetransmissionQueue};
 use std::alloc::{AllocError, Global};
 
 /// Tags and first TSNs of both ends, and the tag that tells this association from a later one.
-#[derive(Clone, Copy, Debug, PartialEq, Eq)]
+#[derive(Clone, Copy, Debug)]
 pub struct Identity {
     pub my_verification_tag: u32,
     pub my_initial_tsn: Tsn,

@@ -14,7 +14,7 @@ use sctp_wire::Checksum;
 use std::alloc::AllocError;
 
 /// What becomes of an echoed cookie (RFC 9260 section 5.2.4).
-#[derive(Clone, Copy, Debug, PartialEq, Eq)]
+#[derive(Clone, Copy, Debug)]
 pub enum CookieResolution {
     /// Establish.
     EstablishNew,

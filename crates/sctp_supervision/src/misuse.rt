@@ -22,7 +22,7 @@ use sctp_wire::Checksum;
 use std::alloc::{AllocError, Global};
 
 /// How a chunk breaks what was negotiated.
-#[derive(Clone, Copy, Debug, PartialEq, Eq)]
+#[derive(Clone, Copy, Debug)]
 pub enum Misuse {
     /// DATA or FORWARD-TSN, though messages are interleaved.
     NotInterleaved,

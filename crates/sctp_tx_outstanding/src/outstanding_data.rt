@@ -714,7 +714,7 @@ impl OutstandingData {
         None
     }
 
-    /// Begins behind this TSN, as a socket does that is restored. For data of which nothing is outstanding.
+    /// Begins behind this TSN. For data of which nothing is outstanding.
     pub fn reset_sequence_numbers(&mut self, last_cumulative_tsn: Tsn)
         requires { self.old.items.kept ≡ [] }
         ensures { self.new ≡ record self.old { items = begun_at self.old.first last_cumulative_tsn.0 self.old.items } }
