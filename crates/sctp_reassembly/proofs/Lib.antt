@@ -1,6 +1,7 @@
 pub mod InsertLemmas
 pub mod ListLemmas
 pub mod CountLemmas
+pub mod ListStateLemmas
 pub mod PopLemmas
 pub mod FindLemmas
 pub mod DeliverLemmas

@@ -10,6 +10,7 @@ pub mod ReassemblyMode
 pub mod Waiting
 pub mod Places
 pub mod Listed
+pub mod ListState
 pub mod Turns
 pub mod ReassemblyHandover
 pub mod UnorderedByTsn

@@ -1,44 +1,142 @@
 //! Intervals in the order of their keys: maximal runs of fragments without a message's border inside.
 
 ghost use Rattle.std.specs.Prelude.{◌≡◌, ◌==◌, ◌+◌, ◌<◌, ◌≤◌, ◌^◌, ◌++◌, ◌∷◌, [], not, List, true, false, length, option_map, IfOk, OnOk, OnErr, IfSome, IfNone};
+ghost use Rattle.sctp_fragments.specs.Runs.{is_held, with_item};
+ghost use Rattle.sctp_fragments.specs.Held.{rank_of, bytes_of, IsPlaced};
+ghost use Rattle.sctp_fragments.specs.ReassemblyKey.{rank_at};
+ghost use Rattle.sctp_fragments.specs.Interval.{as_held, held_of};
+ghost use Rattle.sctp_reassembly.specs.ListState.{held_in, IsListState, IsLeft};
 
-use crate::counted::key_at;
-use crate::dropped::{all_sums_of, ends_below, take_low};
-use crate::places::{
-    add_to, begins_below, drop_first, first_key, interval_with, take_if_complete, take_in_turn,
-};
+use crate::interval_map::IntervalMap;
+use crate::places::has_key;
 use sctp_chunk::Data;
-use sctp_fragments::{Entry, Interval, ReassemblyKey};
+use sctp_fragments::{Interval, ReassemblyKey, is_before};
 use std::alloc::{AllocError, Global};
-use std::collections::BTreeMap;
 use std::marker::Model;
+
+/// How a list has its fragments.
+#[derive(Drop)]
+pub(crate) enum ListState<K: ReassemblyKey> {
+    /// None.
+    Empty,
+    /// A single one.
+    Lone(Interval<K>),
+    /// Several.
+    Many(Box<IntervalMap<K>>),
+}
 
 /// Fragments by their keys, joined to intervals where they have one key after the other. An interval ends where a message
 /// ends, and begins where one begins: so a message is complete exactly where it is an interval.
 ///
-/// The first interval stands alone, so that a list of one takes no map. Each later one is under the key of one of its fragments,
-/// which stays where fragments come at either end: so a fragment in the middle moves no interval.
+/// A single fragment stands alone. A second one takes a map for all, which goes where at most one is left.
 #[derive(Drop)]
 pub struct IntervalList<K: ReassemblyKey> {
     alloc: Global,
-    first: Option<Interval<K>>,
-    later: BTreeMap<K, Interval<K>>,
-    bytes: usize,
-    fragments: usize,
+    state: ListState<K>,
 }
 
 impl<K: ReassemblyKey> Model for IntervalList<K> {
     ghost use Rattle.std.specs.Prelude.{List};
     ghost use Rattle.sctp_fragments.specs.Held.{Held};
-    ghost use Rattle.sctp_fragments.specs.Interval.{held_of, entries_of};
-    ghost use Rattle.sctp_reassembly.specs.Places.{all_of};
-    ghost use Rattle.sctp_reassembly.specs.Listed.{IsListed};
+    ghost use Rattle.sctp_fragments.specs.Interval.{held_of};
+    ghost use Rattle.sctp_reassembly.specs.ListState.{held_in, IsListState};
 
     ghost Value = { List Held };
 
-    ghost view = { λ s. entries_of (held_of K.number K.index) (all_of s.first s.later.entries) };
+    ghost view = { λ s. held_in (held_of K.number K.index) s.state };
 
-    ghost invariant = { λ s. IsListed K.is_key K.number K.index s.first s.later.entries s.bytes s.fragments };
+    ghost invariant = { λ s. IsListState K.number K.index s.state };
+}
+
+/// All fragments of a list, which has none then.
+fn take_all<K: ReassemblyKey>(alloc: Global, state: &mut ListState<K>) -> IntervalMap<K>
+    requires { IsListState K.number K.index state.old }
+    ensures value { result ≡ held_in (held_of K.number K.index) state.old }
+    ensures empty { held_in (held_of K.number K.index) state.new ≡ [] }
+    ensures state { IsListState K.number K.index state.new }
+{
+    match std::mem::replace(state, ListState::Empty) {
+        ListState::Empty => IntervalMap::new(alloc),
+        ListState::Lone(interval) => IntervalMap::of(alloc, interval),
+        ListState::Many(map) => Box::into_inner(map),
+    }
+}
+
+/// A list of at most one fragment, that of the map.
+fn few<K: ReassemblyKey>(map: &mut IntervalMap<K>) -> ListState<K>
+    requires { length map.old ≤ 1 }
+    ensures value { held_in (held_of K.number K.index) result ≡ map.old }
+    ensures state { IsListState K.number K.index result }
+{
+    match map.take_lone() {
+        Some(interval) => ListState::Lone(interval),
+        None => ListState::Empty,
+    }
+}
+
+/// Lets the map go where it has at most one fragment.
+fn narrow<K: ReassemblyKey>(state: &mut ListState<K>)
+    requires { IsLeft K.number K.index state.old }
+    ensures value { held_in (held_of K.number K.index) state.new ≡ held_in (held_of K.number K.index) state.old }
+    ensures state { IsListState K.number K.index state.new }
+{
+    let ListState::Many(map) = state else {
+        return;
+    };
+    if map.held_fragments() > 1 {
+        return;
+    }
+    let left = few(map);
+    *state = left;
+}
+
+/// Adds the fragment to none.
+fn add_first<K: ReassemblyKey>(
+    alloc: Global,
+    state: &mut ListState<K>,
+    key: K,
+    fragment: Data,
+) -> Result<bool, AllocError>
+    requires empty { held_in (held_of K.number K.index) state.old ≡ [] }
+    requires state { IsListState K.number K.index state.old }
+    ensures value { OnOk result (held_in (held_of K.number K.index) state.new ≡ with_item rank_of (as_held (K.number key) (K.index key) fragment) (held_in (held_of K.number K.index) state.old)) }
+    ensures answer { IfOk result (λ is_new. is_new ≡ not (is_held rank_of (rank_at K.number K.index key) (held_in (held_of K.number K.index) state.old))) }
+    ensures place { IfOk result (λ is_new. is_new ≡ true → IsPlaced (held_in (held_of K.number K.index) state.old) (held_in (held_of K.number K.index) state.new) (as_held (K.number key) (K.index key) fragment)) }
+    ensures bytes { bytes_of (held_in (held_of K.number K.index) state.new) ≤ bytes_of (held_in (held_of K.number K.index) state.old) + length fragment.payload.items }
+    ensures fragments { length (held_in (held_of K.number K.index) state.new) ≤ length (held_in (held_of K.number K.index) state.old) + 1 }
+    ensures err { OnErr result (held_in (held_of K.number K.index) state.new ≡ held_in (held_of K.number K.index) state.old) }
+    ensures state { IsListState K.number K.index state.new }
+{
+    let mut map = IntervalMap::new(alloc);
+    let is_new = map.add(key, fragment)?;
+    *state = few(&mut map);
+    Ok(is_new)
+}
+
+/// Adds the fragment to another one, in a map.
+fn add_second<K: ReassemblyKey>(
+    alloc: Global,
+    state: &mut ListState<K>,
+    key: K,
+    fragment: Data,
+) -> Result<bool, AllocError>
+    requires room { bytes_of (held_in (held_of K.number K.index) state.old) + length fragment.payload.items < 2 ^ 64 }
+    requires fragments { length (held_in (held_of K.number K.index) state.old) + 1 < 2 ^ 64 }
+    requires state { IsListState K.number K.index state.old }
+    ensures value { OnOk result (held_in (held_of K.number K.index) state.new ≡ with_item rank_of (as_held (K.number key) (K.index key) fragment) (held_in (held_of K.number K.index) state.old)) }
+    ensures answer { IfOk result (λ is_new. is_new ≡ not (is_held rank_of (rank_at K.number K.index key) (held_in (held_of K.number K.index) state.old))) }
+    ensures place { IfOk result (λ is_new. is_new ≡ true → IsPlaced (held_in (held_of K.number K.index) state.old) (held_in (held_of K.number K.index) state.new) (as_held (K.number key) (K.index key) fragment)) }
+    ensures bytes { bytes_of (held_in (held_of K.number K.index) state.new) ≤ bytes_of (held_in (held_of K.number K.index) state.old) + length fragment.payload.items }
+    ensures fragments { length (held_in (held_of K.number K.index) state.new) ≤ length (held_in (held_of K.number K.index) state.old) + 1 }
+    ensures err { OnErr result (held_in (held_of K.number K.index) state.new ≡ held_in (held_of K.number K.index) state.old) }
+    ensures state { IsListState K.number K.index state.new }
+{
+    let mut map = Box::new(alloc, IntervalMap::new(alloc))?;
+    *map = take_all(alloc, state);
+    let added = map.add(key, fragment);
+    *state = ListState::Many(map);
+    narrow(state);
+    added
 }
 
 impl<K: ReassemblyKey> IntervalList<K> {
@@ -56,10 +154,7 @@ impl<K: ReassemblyKey> IntervalList<K> {
     {
         IntervalList {
             alloc,
-            first: None,
-            later: BTreeMap::new(alloc),
-            bytes: 0,
-            fragments: 0,
+            state: ListState::Empty,
         }
     }
 
@@ -67,7 +162,7 @@ impl<K: ReassemblyKey> IntervalList<K> {
     pub fn is_empty(&self) -> bool
         ensures { result ≡ (length self.now == 0) }
     {
-        self.first.is_none()
+        matches!(&self.state, ListState::Empty)
     }
 
     /// The key of the first fragment.
@@ -75,31 +170,44 @@ impl<K: ReassemblyKey> IntervalList<K> {
         ensures some { IfSome result (λ k. BeginsFrom (rank_at K.number K.index k) self.now) }
         ensures none { IfNone result (self.now ≡ []) }
     {
-        first_key(&self.first)
+        match &self.state {
+            ListState::Empty => None,
+            ListState::Lone(interval) => Some(interval.first().key),
+            ListState::Many(map) => map.first(),
+        }
     }
 
     /// How many bytes of payload it holds.
     pub fn total_bytes(&self) -> usize
         ensures { result ≡ bytes_of self.now }
     {
-        self.bytes
+        match &self.state {
+            ListState::Empty => 0,
+            ListState::Lone(interval) => interval.total_bytes(),
+            ListState::Many(map) => map.total_bytes(),
+        }
     }
 
     /// How many fragments it holds.
     pub fn held_fragments(&self) -> usize
         ensures { result ≡ length self.now }
     {
-        self.fragments
+        match &self.state {
+            ListState::Empty => 0,
+            ListState::Lone(_) => 1,
+            ListState::Many(map) => map.held_fragments(),
+        }
     }
 
     /// How many intervals it has.
     pub fn len(&self) -> usize
         ensures { result ≡ length (intervals_of self.now) }
     {
-        if self.first.is_none() {
-            return 0;
+        match &self.state {
+            ListState::Empty => 0,
+            ListState::Lone(_) => 1,
+            ListState::Many(map) => map.len(),
         }
-        self.later.len() + 1
     }
 
     /// The key of the first fragment of the interval at the place.
@@ -107,7 +215,16 @@ impl<K: ReassemblyKey> IntervalList<K> {
         ensures some { IfSome result (λ k. IsKeyAt (rank_at K.number K.index k) place (intervals_of self.now)) }
         ensures none { IfNone result (length (intervals_of self.now) ≤ place) }
     {
-        key_at(&self.first, &self.later, place)
+        match &self.state {
+            ListState::Empty => None,
+            ListState::Lone(interval) => {
+                if place > 0 {
+                    return None;
+                }
+                Some(interval.first().key)
+            }
+            ListState::Many(map) => map.key_at(place),
+        }
     }
 
     /// Adds the fragment, and says whether it is new; where its key is held nothing changes. Without memory nothing changes
@@ -122,24 +239,26 @@ impl<K: ReassemblyKey> IntervalList<K> {
         ensures fragments { length self.new ≤ length self.old + 1 }
         ensures err { OnErr result (self.new ≡ self.old) }
     {
-        key.known();
-        let bytes = fragment.payload.len();
-        let entry = Entry { key, fragment };
-        if !add_to(self.alloc, &mut self.first, &mut self.later, entry)? {
-            return Ok(false);
+        match &mut self.state {
+            ListState::Empty => add_first(self.alloc, &mut self.state, key, fragment),
+            ListState::Lone(interval) => {
+                if has_key(interval, key) {
+                    return Ok(false);
+                }
+                add_second(self.alloc, &mut self.state, key, fragment)
+            }
+            ListState::Many(map) => map.add(key, fragment),
         }
-        self.bytes += bytes;
-        self.fragments += 1;
-        Ok(true)
     }
 
     /// Whether the interval with the key is a complete message with the number.
     pub fn is_in_turn_at(&self, key: K, number: u128) -> bool
         ensures { (front back : List (List Held)) (r : List Held) → intervals_of self.now ≡ front ++ r ∷ back → is_held rank_of (rank_at K.number K.index key) r ≡ true → result ≡ is_in_turn number r }
     {
-        match interval_with(&self.first, &self.later, key) {
-            Some(interval) => interval.is_in_turn(number),
-            None => false,
+        match &self.state {
+            ListState::Empty => false,
+            ListState::Lone(interval) => has_key(interval, key) && interval.is_in_turn(number),
+            ListState::Many(map) => map.is_in_turn_at(key, number),
         }
     }
 
@@ -152,10 +271,15 @@ impl<K: ReassemblyKey> IntervalList<K> {
         ensures none { IfNone result (self.new ≡ self.old) }
         ensures incomplete { IfNone result ((front back : List (List Held)) (r : List Held) → intervals_of self.old ≡ front ++ r ∷ back → is_held rank_of (rank_at K.number K.index key) r ≡ true → is_complete r ≡ false) }
     {
-        let interval = take_if_complete(&mut self.first, &mut self.later, key)?;
-        self.bytes -= interval.total_bytes();
-        self.fragments -= interval.len();
-        Some(interval)
+        if let ListState::Many(map) = &mut self.state {
+            let popped = map.pop_if_complete(key);
+            narrow(&mut self.state);
+            return popped;
+        }
+        let mut map = take_all(self.alloc, &mut self.state);
+        let popped = map.pop_if_complete(key);
+        self.state = few(&mut map);
+        popped
     }
 
     /// Takes out the first of the intervals that is a complete message with the number. Other intervals before it, also
@@ -167,52 +291,25 @@ impl<K: ReassemblyKey> IntervalList<K> {
         ensures bytes { IfSome result (λ i. bytes_of self.old ≡ bytes_of (run_of (held_of K.number K.index) i) + bytes_of self.new) }
         ensures fragments { IfSome result (λ i. length self.old ≡ length (run_of (held_of K.number K.index) i) + length self.new) }
     {
-        let interval = take_in_turn(&mut self.first, &mut self.later, number)?;
-        self.bytes -= interval.total_bytes();
-        self.fragments -= interval.len();
-        Some(interval)
+        if let ListState::Many(map) = &mut self.state {
+            let popped = map.pop_front_if_complete_and(number);
+            narrow(&mut self.state);
+            return popped;
+        }
+        let mut map = take_all(self.alloc, &mut self.state);
+        let popped = map.pop_front_if_complete_and(number);
+        self.state = few(&mut map);
+        popped
     }
 
     /// Whether a fragment is before the key; else there is nothing to drop.
     pub(crate) fn begins_below(&self, key: K) -> bool
         ensures { result ≡ false → from_rank rank_of (rank_at K.number K.index key) self.now ≡ self.now }
     {
-        begins_below(&self.first, key)
-    }
-
-    /// Whether all fragments are before the key.
-    fn ends_below(&self, key: K) -> bool
-        ensures { result ≡ true → from_rank rank_of (rank_at K.number K.index key) self.now ≡ [] }
-    {
-        ends_below(&self.first, &self.later, key)
-    }
-
-    /// Drops intervals that are before the key, by one cut: of those that begin before it at most two stay.
-    fn drop_low(&mut self, key: K)
-        ensures same { from_rank rank_of (rank_at K.number K.index key) self.new ≡ from_rank rank_of (rank_at K.number K.index key) self.old }
-        ensures others { NoneComplete (intervals_of self.old) → NoneComplete (intervals_of self.new) }
-        ensures bytes { bytes_of self.new ≤ bytes_of self.old }
-        ensures fragments { length self.new ≤ length self.old }
-    {
-        let Some(low) = take_low(&mut self.first, &mut self.later, key) else {
-            return;
-        };
-        let (bytes, fragments) = all_sums_of(&low);
-        self.bytes -= bytes;
-        self.fragments -= fragments;
-    }
-
-    /// Drops the fragments before the key, one after the other.
-    fn drop_before(&mut self, key: K)
-        ensures value { self.new ≡ from_rank rank_of (rank_at K.number K.index key) self.old }
-        ensures others { NoneComplete (intervals_of self.old) → NoneComplete (intervals_of self.new) }
-        ensures bytes { bytes_of self.new ≤ bytes_of self.old }
-        ensures fragments { length self.new ≤ length self.old }
-    {
-        while begins_below(&self.first, key) {
-            let bytes = drop_first(&mut self.first, &mut self.later);
-            self.bytes -= bytes;
-            self.fragments -= 1;
+        match &self.state {
+            ListState::Empty => false,
+            ListState::Lone(interval) => is_before(interval.first().key, key),
+            ListState::Many(map) => map.begins_below(key),
         }
     }
 
@@ -223,11 +320,13 @@ impl<K: ReassemblyKey> IntervalList<K> {
         ensures bytes { bytes_of self.new ≤ bytes_of self.old }
         ensures fragments { length self.new ≤ length self.old }
     {
-        if self.ends_below(key) {
-            *self = IntervalList::new(self.alloc);
+        if let ListState::Many(map) = &mut self.state {
+            map.retain(key);
+            narrow(&mut self.state);
             return;
         }
-        self.drop_low(key);
-        self.drop_before(key);
+        let mut map = take_all(self.alloc, &mut self.state);
+        map.retain(key);
+        self.state = few(&mut map);
     }
 }

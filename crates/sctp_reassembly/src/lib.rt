@@ -4,6 +4,7 @@
 mod counted;
 mod dropped;
 pub mod interval_list;
+mod interval_map;
 mod near;
 mod ordered_fragments;
 mod ordered_stream;

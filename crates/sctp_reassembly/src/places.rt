@@ -167,7 +167,7 @@ fn last_with<K: ReassemblyKey>(later: &BTreeMap<K, Interval<K>>, key: K) -> Opti
 }
 
 /// Whether an interval has an entry with the key.
-fn has_key<K: ReassemblyKey>(interval: &Interval<K>, key: K) -> bool
+pub(crate) fn has_key<K: ReassemblyKey>(interval: &Interval<K>, key: K) -> bool
     ensures { (before : Option Held) (rs : List (List Held)) → AreRuns rank_of goes_on before (run_of (held_of K.number K.index) interval.now ∷ rs) → result ≡ is_held rank_of (rank_at K.number K.index key) (run_of (held_of K.number K.index) interval.now) }
 {
     !is_before(key, interval.first().key) && !is_before(interval.last().key, key)

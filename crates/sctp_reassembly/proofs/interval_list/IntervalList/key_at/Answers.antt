@@ -1,19 +1,16 @@
-use Rattle.std.proofs.Common.{◌≤◌, length, ap, sym, subst, ◌∙◌}
+use Rattle.std.proofs.Common.{◌≡◌, ap, sym, subst, ◌∙◌, rules}
 use Rattle.sctp_fragments.specs.Held.{intervals_of}
+use Rattle.sctp_fragments.specs.Interval.{held_of}
 use Rattle.sctp_fragments.specs.ReassemblyKey.{rank_at}
-use Rattle.sctp_fragments.specs.Interval.{held_of, lists_of}
-use Rattle.sctp_reassembly.specs.Places.{all_of}
 use Rattle.sctp_reassembly.specs.KeyAt.{IsKeyAt}
-use Rattle.sctp_reassembly.proofs.ListLemmas.{intervals_flat}
-use Rattle.sctp_reassembly.proofs.HolderLemmas.{some_then, none_then}
+use Rattle.sctp_reassembly.specs.ListState.{held_in, IsListState}
+use Rattle.sctp_reassembly.proofs.ListStateLemmas.{lone_key}
 use Rattle.sctp_reassembly.proofs.interval_list.IntervalList.key_at.Goals as goal
 
-pub returns-clause-some : goal.returns-clause-some
-returns-clause-some g c =
-    let rs = lists_of (held_of g.K.ReassemblyKey.number g.K.ReassemblyKey.index) (all_of c.self.inside.first c.self.inside.later.entries) in
-    some_then c.key_at.result (λ k j. subst (IsKeyAt (rank_at g.K.ReassemblyKey.number g.K.ReassemblyKey.index k) c.args.place) (sym (intervals_flat rs c.self.invariant.kept.runs) ∙ ap intervals_of c.self.view_is) j) c.key_at.ensures.some
-
-pub returns-clause-none : goal.returns-clause-none
-returns-clause-none g c =
-    let rs = lists_of (held_of g.K.ReassemblyKey.number g.K.ReassemblyKey.index) (all_of c.self.inside.first c.self.inside.later.entries) in
-    none_then c.key_at.result (λ h. subst (λ rs. length rs ≤ c.args.place) (sym (intervals_flat rs c.self.invariant.kept.runs) ∙ ap intervals_of c.self.view_is) h) c.key_at.ensures.none
+pub returns-else-place-gt0-clause-some : goal.returns-else-place-gt0-clause-some
+returns-else-place-gt0-clause-some g c =
+    let lone = subst (IsListState g.K.ReassemblyKey.number g.K.ReassemblyKey.index) c.in-Lone.is c.self.invariant in
+    let view = sym (ap (held_in (held_of g.K.ReassemblyKey.number g.K.ReassemblyKey.index)) c.in-Lone.is) ∙ c.self.view_is in
+    let zero : c.args.place ≡ 0 = search rules in
+    subst (λ v. IsKeyAt (rank_at g.K.ReassemblyKey.number g.K.ReassemblyKey.index c.first.result.now.key) c.args.place (intervals_of v)) view
+    (lone_key g.K.ReassemblyKey.is_key g.K.ReassemblyKey.number g.K.ReassemblyKey.index c.in-Lone.interval c.first.result.now c.args.place lone zero c.first.ensures)

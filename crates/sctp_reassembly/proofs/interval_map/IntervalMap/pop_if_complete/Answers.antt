@@ -6,7 +6,7 @@ use Rattle.sctp_reassembly.proofs.ListLemmas.{takes, intervals_flat}
 use Rattle.sctp_reassembly.proofs.JoinedLemmas.{none_holds}
 use Rattle.sctp_reassembly.proofs.TurnLemmas.{taken_indexed}
 use Rattle.sctp_reassembly.proofs.CountLemmas.{counts_taken, run_length}
-use Rattle.sctp_reassembly.proofs.interval_list.IntervalList.pop_if_complete.Goals as goal
+use Rattle.sctp_reassembly.proofs.interval_map.IntervalMap.pop_if_complete.Goals as goal
 
 pub returns-in_err-interval-clause-incomplete : goal.returns-in_err-interval-clause-incomplete
 returns-in_err-interval-clause-incomplete g c =

@@ -10,7 +10,7 @@ use Rattle.sctp_reassembly.proofs.FindLemmas.{not_found, without_none, left_none
 use Rattle.sctp_reassembly.proofs.PopLemmas.{popped, popped_intervals, popped_left}
 use Rattle.sctp_reassembly.proofs.TurnLemmas.{taken_indexed}
 use Rattle.sctp_reassembly.proofs.CountLemmas.{counts_taken, run_length}
-use Rattle.sctp_reassembly.proofs.interval_list.IntervalList.pop_front_if_complete_and.Goals as goal
+use Rattle.sctp_reassembly.proofs.interval_map.IntervalMap.pop_front_if_complete_and.Goals as goal
 
 pub total_bytes-requires : goal.total_bytes-requires
 total_bytes-requires g c =

@@ -3,7 +3,7 @@ use Rattle.std.specs.Prelude.{is_none}
 use Rattle.sctp_fragments.specs.Held.{intervals_of}
 use Rattle.sctp_fragments.specs.Interval.{held_of}
 use Rattle.sctp_reassembly.proofs.ListLemmas.{len_kept}
-use Rattle.sctp_reassembly.proofs.interval_list.IntervalList.len.Goals as goal
+use Rattle.sctp_reassembly.proofs.interval_map.IntervalMap.len.Goals as goal
 
 pub returns : goal.returns
 returns g c =

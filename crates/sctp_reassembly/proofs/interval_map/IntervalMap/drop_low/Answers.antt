@@ -6,7 +6,7 @@ use Rattle.sctp_fragments.specs.ReassemblyKey.{rank_at}
 use Rattle.sctp_reassembly.specs.Places.{all_of}
 use Rattle.sctp_reassembly.proofs.ListLemmas.{intervals_flat}
 use Rattle.sctp_reassembly.proofs.LowLemmas.{leaves}
-use Rattle.sctp_reassembly.proofs.interval_list.IntervalList.drop_low.Goals as goal
+use Rattle.sctp_reassembly.proofs.interval_map.IntervalMap.drop_low.Goals as goal
 
 pub all_sums_of-bytes-requires-clause-bytes : goal.all_sums_of-bytes-requires-clause-bytes
 all_sums_of-bytes-requires-clause-bytes g c =

@@ -5,7 +5,7 @@ use Rattle.sctp_fragments.specs.Interval.{held_of, lists_of, entries_of}
 use Rattle.sctp_fragments.specs.ReassemblyKey.{rank_at}
 use Rattle.sctp_reassembly.specs.Places.{all_of}
 use Rattle.sctp_reassembly.specs.Listed.{IsListed}
-use Rattle.sctp_reassembly.proofs.interval_list.IntervalList.drop_before.Given as goal
+use Rattle.sctp_reassembly.proofs.interval_map.IntervalMap.drop_before.Given as goal
 
 abbrev pub invariant-loop-key : goal.invariant-loop-key
 invariant-loop-key g l = record {

@@ -5,7 +5,7 @@ use Rattle.sctp_fragments.specs.ReassemblyKey.{rank_at}
 use Rattle.sctp_fragments.specs.Interval.{held_of, lists_of}
 use Rattle.sctp_reassembly.specs.Places.{all_of}
 use Rattle.sctp_reassembly.proofs.DroppedLemmas.{drops_all}
-use Rattle.sctp_reassembly.proofs.interval_list.IntervalList.ends_below.Goals as goal
+use Rattle.sctp_reassembly.proofs.interval_map.IntervalMap.ends_below.Goals as goal
 
 pub returns : goal.returns
 returns g c below =

@@ -6,7 +6,7 @@ use Rattle.sctp_fragments.specs.Interval.{held_of, lists_of}
 use Rattle.sctp_reassembly.specs.Places.{all_of}
 use Rattle.sctp_reassembly.proofs.ListLemmas.{begins_from}
 use Rattle.sctp_reassembly.proofs.HolderLemmas.{some_then}
-use Rattle.sctp_reassembly.proofs.interval_list.IntervalList.first.Goals as goal
+use Rattle.sctp_reassembly.proofs.interval_map.IntervalMap.first.Goals as goal
 
 pub returns-clause-some : goal.returns-clause-some
 returns-clause-some g c =

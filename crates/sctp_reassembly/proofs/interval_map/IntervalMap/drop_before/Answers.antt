@@ -7,7 +7,7 @@ use Rattle.sctp_reassembly.specs.Places.{all_of}
 use Rattle.sctp_reassembly.proofs.ListLemmas.{drops, drops_none, intervals_flat}
 use Rattle.sctp_reassembly.proofs.TurnLemmas.{indexed_first}
 use Rattle.sctp_reassembly.proofs.CountLemmas.{counts_first}
-use Rattle.sctp_reassembly.proofs.interval_list.IntervalList.drop_before.Goals as goal
+use Rattle.sctp_reassembly.proofs.interval_map.IntervalMap.drop_before.Goals as goal
 
 pub overflow_sub-self : goal.overflow_sub-self
 overflow_sub-self g c =
