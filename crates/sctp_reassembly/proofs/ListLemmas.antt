@@ -1,10 +1,9 @@
 -- What the calls of an interval list leave.
 use Rattle.std.proofs.Common.{◌≡◌, ℕ, suc, ◌+◌, ◌<◌, ◌≤◌, ◌==◌, Bool, true, false, not, Option, Some, None, List, [], ◌∷◌, ◌++◌, length, refl, ap, sym, subst, ◌∙◌, arith}
-use Rattle.std.proofs.lemmas.Bool.Decides.{nat_tests}
 use Rattle.std.specs.Prelude.{◌&&◌, is_none}
 use Rattle.std.specs.Map.{values_of}
 use Rattle.std.proofs.lemmas.Bool.{lt-ltb, and_parts}
-use Rattle.sctp_fragments.specs.Interval.{without_first, first_below, run_of}
+use Rattle.sctp_fragments.specs.Interval.{without_first, first_below}
 use Rattle.sctp_fragments.specs.Runs.{from_rank}
 use Rattle.sctp_fragments.proofs.PlaceLemmas.{emitted_less, emitted_not_less}
 use Rattle.sctp_fragments.proofs.RunLemmas.{first_runs, from_rank_runs}
@@ -14,19 +13,13 @@ use Rattle.sctp_fragments.specs.Runs.{is_next, flat, last_of, is_held, with_item
 use Rattle.sctp_fragments.specs.Held.{Held, rank_of, goes_on, bytes_of, intervals_of, is_complete, begins, ends, NonePass, NoneComplete, IsPlaced, IsTaken, is_in_turn}
 use Rattle.sctp_fragments.specs.Interval.{lists_of, entries_of}
 use Rattle.sctp_fragments.proofs.RunLemmas.{flat_append, runs_of_flat, AreRuns_without, with_item_between, is_held_between}
-use Rattle.sctp_fragments.proofs.PlaceLemmas.{cons, some_run}
-use Rattle.sctp_reassembly.specs.Places.{IsAdded, IsAnswer, IsAmong, IsOut, IsLed, all_of}
+use Rattle.sctp_reassembly.specs.Places.{IsAdded, IsAnswer, IsAmong, IsOut, all_of}
 use Rattle.sctp_reassembly.proofs.HolderLemmas.{only_one, held_among}
 use Rattle.sctp_reassembly.proofs.InsertLemmas.{length_lists_of}
 
 pub bytes_of_append : (xs ys : List Held) → bytes_of (xs ++ ys) ≡ bytes_of xs + bytes_of ys
 bytes_of_append [] ys = omega arith
 bytes_of_append (x ∷ xs) ys = omega (arith, bytes_of_append xs ys)
-
-module _ {K : Type 0} (f : Entry K → Held) where
-  pub no_entries : (first : Option (Interval K)) (later : List (K × Interval K)) → IsLed first later → is_none first ≡ (length (entries_of f (all_of first later)) == 0)
-  no_entries None later led = ap (λ (l : List (K × Interval K)). length (entries_of f (all_of None l)) == 0) (sym led)
-  no_entries (Some i) later led = let c = cons (run_of f i) (some_run f i) in rw c.is (grind (arith, nat_tests))
 
 pub second_false : (a b c d : Bool) → (a && (b && not c)) ≡ true → (c && d) ≡ false
 second_false true true false d h = refl

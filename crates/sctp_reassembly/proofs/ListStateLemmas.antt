@@ -1,10 +1,10 @@
 -- A single fragment, as an interval list has it.
-use Rattle.std.proofs.Common.{◌≡◌, ℕ, suc, ◌+◌, ◌<◌, ◌≤◌, ◌^◌, Bool, true, false, cond, Option, Some, None, List, [], ◌∷◌, ◌++◌, length, refl, ap, sym, subst, ◌∙◌, arith, length-append, append-nil}
+use Rattle.std.proofs.Common.{◌≡◌, ℕ, ◌<◌, ◌≤◌, ◌^◌, Bool, true, false, cond, Option, Some, None, List, [], ◌∷◌, ◌++◌, length, refl, ap, sym, subst, ◌∙◌, arith, length-append, append-nil}
 use Rattle.std.specs.Map.{values_of}
 use Rattle.std.specs.Prelude.{Result, Ok, Err, OnOk, OnErr}
 use Rattle.sctp_fragments.specs.declared.interval.Entry.{Entry}
 use Rattle.sctp_fragments.specs.declared.interval.Interval.{Interval}
-use Rattle.sctp_fragments.specs.Interval.{held_of, run_of, lists_of, entries_of, AreIndexed, IsInRuns}
+use Rattle.sctp_fragments.specs.Interval.{held_of, run_of, entries_of}
 use Rattle.sctp_fragments.specs.Held.{Held, rank_of, bytes_of, intervals_of}
 use Rattle.sctp_fragments.specs.ReassemblyKey.{rank_at}
 use Rattle.sctp_fragments.specs.Runs.{is_held, put_in, with_item}

@@ -1,5 +1,5 @@
-use Rattle.std.proofs.Common.{◌<◌, ap, sym, subst, ◌∙◌, arith, length}
-use Rattle.sctp_fragments.specs.Interval.{held_of, as_held}
+use Rattle.std.proofs.Common.{ap, subst, arith, length}
+use Rattle.sctp_fragments.specs.Interval.{as_held}
 use Rattle.sctp_reassembly.specs.ListState.{IsListState}
 use Rattle.sctp_reassembly.proofs.ListStateLemmas.{keeps_length}
 use Rattle.sctp_reassembly.proofs.interval_list.IntervalList.add.Goals as goal

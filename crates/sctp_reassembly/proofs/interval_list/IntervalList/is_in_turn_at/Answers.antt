@@ -1,7 +1,7 @@
 use Rattle.std.proofs.Common.{◌≡◌, None, [], true, false, refl, ap, sym, subst, ◌∙◌}
 use Rattle.sctp_fragments.specs.Held.{intervals_of, is_in_turn, rank_of}
 use Rattle.sctp_fragments.specs.Runs.{is_held}
-use Rattle.sctp_fragments.specs.Interval.{held_of, run_of}
+use Rattle.sctp_fragments.specs.Interval.{held_of}
 use Rattle.sctp_fragments.specs.ReassemblyKey.{rank_at}
 use Rattle.sctp_reassembly.specs.ListState.{held_in, IsListState}
 use Rattle.sctp_reassembly.proofs.ListLemmas.{none_there}

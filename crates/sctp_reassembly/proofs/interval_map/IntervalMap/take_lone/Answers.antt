@@ -1,4 +1,4 @@
-use Rattle.std.proofs.Common.{◌≡◌, ◌≤◌, None, ap, sym, subst, ◌∙◌, arith, length}
+use Rattle.std.proofs.Common.{◌≤◌, sym, subst, length}
 use Rattle.sctp_fragments.specs.Interval.{held_of, entries_of}
 use Rattle.sctp_reassembly.specs.Places.{all_of}
 use Rattle.sctp_reassembly.specs.Listed.{IsListed}
