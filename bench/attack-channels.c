@@ -1,8 +1,10 @@
 /* SPDX-License-Identifier: Apache-2.0 */
 /* attack-channels KIND SIZE COUNT LAST: one end with data channels whose peer, that knows its tag, opens COUNT of them and then makes a packet of up
- * to SIZE bytes, which is handed in where LAST is 1. Prints the processor nanoseconds that this took, and how many bytes the packet has. */
+ * to SIZE bytes, which is handed in where LAST is 1. Prints the processor nanoseconds that this took, how many bytes the packet has, how many more are
+ * kept behind it, and how many behind the openings. */
 #define _POSIX_C_SOURCE 200809L
 #include "shelfpigeon.h"
+#include <malloc.h>
 #include <stdio.h>
 #include <stdlib.h>
 #include <string.h>
@@ -183,6 +185,7 @@ int main(int words, char **word) {
     make(&peer, 0);
     must("connect", pigeon_connect(&peer));
     while (take_of_peer(&peer, &end) + take(&end, &peer) > 0) {}
+    size_t at_first = mallinfo2().uordblks;
     for (uint32_t opened = 0; opened < count;) {
         begin();
         for (; opened < count && length < 60000; opened++)
@@ -191,11 +194,13 @@ int main(int words, char **word) {
         take(&end, NULL);
     }
     fill(word[1], size, count);
+    size_t opened = mallinfo2().uordblks;
     if (atoi(word[4])) {
         clock_gettime(CLOCK_PROCESS_CPUTIME_ID, &before);
         hand_in(&end);
         clock_gettime(CLOCK_PROCESS_CPUTIME_ID, &after);
-        printf("%lld %zu\n", (after.tv_sec - before.tv_sec) * 1000000000ll + after.tv_nsec - before.tv_nsec, length);
+        long long took = (after.tv_sec - before.tv_sec) * 1000000000ll + after.tv_nsec - before.tv_nsec;
+        printf("%lld %zu %zd %zd\n", took, length, (ssize_t)(mallinfo2().uordblks - opened), (ssize_t)(opened - at_first));
     }
     pigeon_free(&end);
     pigeon_free(&peer);

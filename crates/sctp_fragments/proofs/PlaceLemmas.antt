@@ -1,6 +1,5 @@
 -- Intervals by their place in a vector.
-use Rattle.std.proofs.Common.{◌≡◌, ℕ, zero, suc, ◌+◌, ◌-◌, ◌<◌, ◌≤◌, Bool, true, false, List, [], ◌∷◌, ◌++◌, length, get_or, ltb, drop, set, refl, ap, sym, ◌∙◌, arith, append_assoc, map, length-append}
-use Rattle.std.specs.List.{remove}
+use Rattle.std.proofs.Common.{◌≡◌, ℕ, zero, suc, ◌+◌, ◌-◌, ◌<◌, ◌≤◌, Bool, true, false, List, [], ◌∷◌, ◌++◌, length, get_or, ltb, drop, refl, ap, sym, ◌∙◌, arith, append_assoc, map, length-append}
 use Rattle.std.proofs.lemmas.Bool.Decides.{nat_tests}
 use Rattle.std.proofs.lemmas.List.{map-append}
 use Rattle.sctp_fragments.specs.declared.interval.Entry.{Entry}
@@ -86,31 +85,6 @@ module _ {K : Type 0} (f : Entry K → Held) where
 
   pub run_front : (new old : List (Entry K)) (i : Interval K) (x : Entry K) → new ≡ x ∷ old → old ≡ (items_of i.entries.value) → map f new ≡ f x ∷ run_of f i
   run_front new old i x made is = ap (map f) made ∙ ap (λ (t : List (Entry K)). f x ∷ map f t) is
-
-  -- a vector of intervals in two parts, and what is at the border
-  set_at : (ps qs : List (Interval K)) (i j : Interval K) → set (ps ++ i ∷ qs) (length ps) j ≡ ps ++ j ∷ qs
-  set_at [] qs i j = refl
-  set_at (p ∷ ps) qs i j = ap (λ (t : List (Interval K)). p ∷ t) (set_at ps qs i j)
-
-  get_at : (ps qs : List (Interval K)) (i d : Interval K) → get_or (ps ++ i ∷ qs) (length ps) d ≡ i
-  get_at [] qs i d = refl
-  get_at (p ∷ ps) qs i d = get_at ps qs i d
-
-  get_after : (ps qs : List (Interval K)) (i j d : Interval K) → get_or (ps ++ i ∷ (j ∷ qs)) (suc (length ps)) d ≡ j
-  get_after [] qs i j d = refl
-  get_after (p ∷ ps) qs i j d = get_after ps qs i j d
-
-  remove_after : (ps qs : List (Interval K)) (i j : Interval K) → remove (ps ++ i ∷ (j ∷ qs)) (suc (length ps)) ≡ ps ++ i ∷ qs
-  remove_after [] qs i j = refl
-  remove_after (p ∷ ps) qs i j = ap (λ (t : List (Interval K)). p ∷ t) (remove_after ps qs i j)
-
-  pub lists_set : (xs ps qs : List (Interval K)) (i j : Interval K) (n : ℕ) → xs ≡ ps ++ i ∷ qs → length ps ≡ n → lists_of f (set xs n j) ≡ lists_of f ps ++ run_of f j ∷ lists_of f qs
-  lists_set xs ps qs i j n is at = rw is (rw (← at) (rw (set_at ps qs i j) (lists_of_append ps (j ∷ qs))))
-
-  pub read_at : (xs ps qs : List (Interval K)) (i d : Interval K) (n : ℕ) → xs ≡ ps ++ i ∷ qs → length ps ≡ n → d ≡ get_or xs n d → d ≡ i
-  read_at xs ps qs i d n is at read = read ∙ (ap (λ (t : List (Interval K)). get_or t n d) is ∙ (ap (λ (k : ℕ). get_or (ps ++ i ∷ qs) k d) (sym at) ∙ get_at ps qs i d))
-
-module _ {K : Type 0} (f : Entry K → Held) where
 
 pub length_payload : (hs : List Held) → length (payload_of hs) ≡ bytes_of hs
 length_payload [] = refl

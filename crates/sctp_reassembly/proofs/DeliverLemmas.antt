@@ -7,8 +7,7 @@ use Rattle.sctp_serial.specs.Messages.{Message}
 use Rattle.sctp_serial.specs.Unwrapped.{origin}
 use Rattle.sctp_fragments.specs.Runs.{is_held, with_item, AreRuns}
 use Rattle.sctp_fragments.specs.Held.{Held, rank_of, goes_on, NonePass, NoneComplete, NoneInTurn, without_first_of, left_by, intervals_of, is_in_turn, is_complete, IsTaken, IsPlaced, message_of_run}
-use Rattle.sctp_reassembly.specs.Delivery.{OrderedDelivery, OrderedStream, deliver, deliver_within, at_rest, preceded_by, delivering, ordered_arrival, unordered_arrival, first_complete, ready_bytes}
-use Rattle.std.proofs.lemmas.List.Sums.{sum_by_push}
+use Rattle.sctp_reassembly.specs.Delivery.{OrderedDelivery, OrderedStream, deliver, deliver_within, at_rest, preceded_by, delivering, ordered_arrival, unordered_arrival, first_complete}
 use Rattle.sctp_reassembly.proofs.FindLemmas.{found, without_found, not_found, taken_left}
 use Rattle.sctp_reassembly.proofs.HolderLemmas.{only_one}
 
@@ -152,6 +151,3 @@ nothing_more rs ms none = sym (append-nil rs) ∙ ap (λ (t : List Message). rs 
 pub one_earlier : (ready new : List Message) (m n : Message) (d : OrderedDelivery) (whole : List Message) → new ≡ ready ++ m ∷ [] → m ≡ n → ready ++ (preceded_by n d).messages ≡ whole → new ++ d.messages ≡ whole
 one_earlier ready new m n d whole made same h =
     ap (λ (t : List Message). t ++ d.messages) made ∙ (append_assoc ready (m ∷ []) d.messages ∙ (ap (λ (t : Message). ready ++ t ∷ d.messages) same ∙ h))
-
-pub ready_pushed : (old new : List Message) (m : Message) → new ≡ old ++ m ∷ [] → ready_bytes new ≡ ready_bytes old + length m.payload
-ready_pushed old new m made = ap ready_bytes made ∙ sum_by_push (λ t. length t.payload) old m

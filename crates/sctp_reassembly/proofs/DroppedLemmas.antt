@@ -36,9 +36,3 @@ module _ {K : Type 0} (is_key : K → Type 0) (number index : K → ℕ) where
       → ((h : Held) (hs : List Held) → run_of (held_of number index) i ≡ h ∷ hs → e ≡ last_of h hs) → rank_of e < n → IsBelow rank_of n (end_of None (lists_of (held_of number index) (all_of first later)))
   ends_later first later front k i e n is last less =
       subst (λ (t : List (List Held)). IsBelow rank_of n (end_of None t)) (sym (all_with first later front k i is)) (end_with (lists_of (held_of number index) (all_of first front)) i e n last less)
-
-  -- the first one, where there are no later ones
-  pub ends_first : (first : Option (Interval K)) (later : List (K × Interval K)) (i : Interval K) (e : Held) (n : ℕ) → first ≡ Some i → later ≡ []
-      → ((h : Held) (hs : List Held) → run_of (held_of number index) i ≡ h ∷ hs → e ≡ last_of h hs) → rank_of e < n → IsBelow rank_of n (end_of None (lists_of (held_of number index) (all_of first later)))
-  ends_first first later i e n some none last less =
-      rw some (rw none (end_with [] i e n last less))

@@ -1,7 +1,6 @@
 -- An entry that comes between intervals.
 use Rattle.std.proofs.Common.{◌≡◌, suc, Bool, true, false, None, List, [], ◌∷◌, ◌++◌, length, refl, ap, sym, subst, ◌∙◌, arith, append_assoc, append-nil}
 use Rattle.std.proofs.lemmas.Bool.Decides.{nat_tests}
-use Rattle.std.specs.Prelude.{Result, Ok, Err, OnOk, IfOk}
 use Rattle.sctp_fragments.specs.declared.interval.Entry.{Entry}
 use Rattle.sctp_fragments.specs.declared.interval.Interval.{Interval}
 use Rattle.sctp_fragments.specs.Runs.{flat, end_of, last_of, is_held, IsBelow, LeadsTo, is_next, joins_left, joins_right, AreRuns}
@@ -12,11 +11,6 @@ use Rattle.sctp_fragments.proofs.RunLemmas.{flat_append, alone, at_left, at_righ
 flat_last : {E : Type 0} (ps : List (List E)) (r : List E) → flat (ps ++ r ∷ []) ≡ flat ps ++ r
 flat_last [] r = append-nil r
 flat_last (p ∷ ps) r = ap (λ t. p ++ t) (flat_last ps r) ∙ sym (append_assoc p (flat ps) r)
-
--- what a call answers that is answered on
-pub answered : {T E P : Type 0} {Q R : T → Type 0} (r : Result T E) → OnOk r P → IfOk r Q → ((x : T) → P → Q x → R x) → IfOk r R
-answered (Ok x) p q f = f x p q
-answered (Err e) p q f = tt
 
 module _ (test : List Held → Bool) where
   NonePass_append : (xs ys : List (List Held)) → NonePass test xs → NonePass test ys → NonePass test (xs ++ ys)

@@ -26,9 +26,6 @@ module _ {K : Type 0} (is_key : K → Type 0) (number index : K → ℕ) where
       let c = cons (run_of (held_of number index) i) (some_run (held_of number index) i) in
       end_is is_key number index ps front k i c.head c.tail is c.is ∙ ap Some (sym (last c.head c.tail c.is))
 
-  pub none_before : (x : Held) (ps : List (K × Interval K)) → ps ≡ [] → IsBelow rank_of (rank_of x) (end_of None (runs ps)) × (None ≡ previous_of number index x ps)
-  none_before x ps is = subst (λ (t : List (K × Interval K)). IsBelow rank_of (rank_of x) (end_of None (runs t)) × (None ≡ previous_of number index x t)) (sym is) (tt, refl)
-
   pub held_before : (n : ℕ) (ps : List (K × Interval K)) (e : Held) (r : Bool) → end_of None (runs ps) ≡ Some e → r ≡ nat_lt (rank_of e) n → r ≡ false → ends_from n (runs ps) ≡ true
   held_before n ps e r end is off = ap (is_from n) end ∙ ap not (sym is ∙ off)
 

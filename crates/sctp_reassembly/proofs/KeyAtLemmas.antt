@@ -1,5 +1,5 @@
 -- The interval at a place.
-use Rattle.std.proofs.Common.{◌≡◌, ℕ, suc, ◌≤◌, ◌<◌, ◌+◌, Fits, w64, Option, Some, None, List, [], ◌∷◌, ◌++◌, length, refl, ap, sym, ◌∙◌, arith, append-nil, append_assoc}
+use Rattle.std.proofs.Common.{◌≡◌, ℕ, suc, ◌≤◌, ◌<◌, ◌+◌, Fits, w64, Option, Some, List, [], ◌∷◌, ◌++◌, length, refl, ap, sym, ◌∙◌, arith, append-nil, append_assoc}
 use Rattle.std.proofs.Common.{inl, inr}
 use Rattle.std.proofs.lemmas.Bool.{cases_lt}
 use Rattle.sctp_fragments.specs.declared.interval.Entry.{Entry}
@@ -7,7 +7,7 @@ use Rattle.sctp_fragments.specs.declared.interval.Interval.{Interval}
 use Rattle.sctp_fragments.specs.Held.{Held, rank_of}
 use Rattle.sctp_fragments.specs.Interval.{run_of, lists_of}
 use Rattle.sctp_fragments.proofs.PlaceLemmas.{cons, some_run, lists_of_append}
-use Rattle.sctp_reassembly.specs.Places.{IsLed, all_of}
+use Rattle.sctp_reassembly.specs.Places.{all_of}
 use Rattle.std.specs.Map.{values_of}
 use Rattle.sctp_reassembly.specs.KeyAt.{IsKeyAt}
 use Rattle.sctp_reassembly.proofs.InsertLemmas.{length_lists_of}
@@ -48,12 +48,6 @@ module _ {K : Type 0} (f : Entry K → Held) where
   none_so_far place passed is front split at upto =
       let all : length (lists_of f is) ≡ length front = length_lists_of f is ∙ (ap length split ∙ ap length (append-nil front)) in
       omega (arith, all, at, upto)
-
-  pub none_led : (place : ℕ) (first : Option (Interval K)) (later : List (K × Interval K)) → first ≡ None → IsLed first later → length (lists_of f (all_of first later)) ≤ place
-  none_led place (Some i) later none led = absurd (cc)
-  none_led place None later none led =
-      let zero_is : length (lists_of f (all_of None later)) ≡ 0 = ap (λ (l : List (K × Interval K)). length (lists_of f (all_of None l))) led in
-      omega (arith, zero_is)
 
   module _ (place : ℕ) (first : Option (Interval K)) (later : List (K × Interval K)) (i : Interval K) (is : first ≡ Some i) where
     lists_are : lists_of f (all_of first later) ≡ run_of f i ∷ lists_of f (values_of later)

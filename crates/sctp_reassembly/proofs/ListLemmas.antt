@@ -59,9 +59,6 @@ takes old new run h out complete =
     }
 
 module _ {K : Type 0} (f : Entry K → Held) where
-  pub intervals_kept : (xs : List (Interval K)) (v : List Held) → AreRuns rank_of goes_on None (lists_of f xs) → entries_of f xs ≡ v → intervals_of v ≡ lists_of f xs
-  intervals_kept xs v h is = rw (← is) (runs_of_flat rank_of goes_on None (lists_of f xs) h)
-
   length_values : {X Y : Type 0} (es : List (X × Y)) → length (values_of es) ≡ length es
   length_values [] = refl
   length_values (e ∷ es) = ap suc (length_values es)

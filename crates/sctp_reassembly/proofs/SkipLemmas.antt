@@ -5,7 +5,7 @@ use Rattle.sctp_fragments.specs.Held.{Held}
 use Rattle.sctp_reassembly.specs.Delivery.{OrderedStream, UnorderedStream, fresh_ordered, fresh_unordered, ordered_arrival, unordered_arrival, ordered_forward, unordered_forward}
 use Rattle.sctp_serial.specs.Unwrapped.{u32_space, nearest}
 use Rattle.sctp_chunk.specs.Chunk.{FragmentTree}
-use Rattle.sctp_reassembly.specs.ReassemblyStreams.{Entries, Streams, Outcome, add, add_in_order, held_as, place_of, unchanged, number_unless_far, is_far, stream_at, set_stream, with_ordered, with_unordered, add_ordered, add_unordered, skip_ordered, skip_unordered, skip, skip_each}
+use Rattle.sctp_reassembly.specs.ReassemblyStreams.{Entries, Streams, Outcome, add, add_in_order, held_as, place_of, unchanged, number_unless_far, is_far, stream_at, set_stream, with_ordered, with_unordered, add_ordered, add_unordered, skip_ordered, skip_unordered}
 
 -- what is numbered
 near : (b : Bool) (n m : ℕ) → cond b None (Some n) ≡ Some m → b ≡ false
@@ -37,10 +37,6 @@ skip_near id n m ss some =
 module _ (e : SkippedStream) (es : List SkippedStream) (i : ℕ) (h : i < length es) (read : e ≡ get_or es i e) where
   rest_is : drop i es ≡ e ∷ drop (i + 1) es
   rest_is = let up : suc i ≡ i + 1 = omega arith in drop-cons es i e h ∙ (ap (λ (t : SkippedStream). t ∷ drop (suc i) es) (sym read) ∙ ap (λ (k : ℕ). e ∷ drop k es) up)
-
-  pub skipped_streams : (ss new : Streams) (whole : Streams) → new ≡ (skip e ss).streams → (skip_each (drop i es) ss).streams ≡ whole → (skip_each (drop (i + 1) es) new).streams ≡ whole
-  skipped_streams ss new whole made before =
-      ap (λ (t : Streams). (skip_each (drop (i + 1) es) t).streams) made ∙ (ap (λ (t : List SkippedStream). (skip_each t ss).streams) (sym rest_is) ∙ before)
 
 -- ---- the two forms
 

@@ -113,11 +113,6 @@ module _ (ps qs : List (List Held)) (e : Held) (es : List Held) (runs : AreRuns 
   lower : AllBelow rank_of (rank_of e) (flat ps)
   lower = AllBelow_runs rank_of goes_on None (rank_of e) ps (AreRuns_front rank_of goes_on None ps ((e ∷ es) ∷ qs) runs) (starts_below (end_of None ps) e es qs from_here)
 
-  none_through : (n : ℕ) → rank_of e < pair_rank n 0 → NoneInTurn n (ps ++ (e ∷ es) ∷ [])
-  none_through n h =
-      none_append n ps ((e ∷ es) ∷ []) (none_below ps (rank_of e) n lower (omega (arith, h)))
-      (of_another n e es (below_differs e.number e.index (suc (rank_of e)) n (omega arith) (omega (arith, h))), tt)
-
   module _ (indexed : AreIndexed (flat (ps ++ (e ∷ es) ∷ qs))) where
     later : AreIndexed (flat qs)
     later =
