@@ -1,6 +1,6 @@
 -- Notes of the streams that hold a fragment.
-use Rattle.std.proofs.Common.{◌≡◌, ◌⊎◌, ℕ, zero, suc, ◌+◌, ◌<◌, ◌≤◌, ◌==◌, ◌||◌, Bool, true, false, cond, List, [], ◌∷◌, ◌++◌, Option, Some, None, length, drop, get_or, refl, ap, sym, subst, ◌∙◌, inl, inr, arith, Less, Equal, Greater}
-use Rattle.std.specs.Prelude.{unwrap_or, is_some, not, nat_lt, Result, Ok, Err, OnOk, OnErr}
+use Rattle.std.proofs.Common.{◌≡◌, ◌⊎◌, ℕ, zero, suc, ◌<◌, ◌≤◌, ◌==◌, Bool, true, false, cond, List, [], ◌∷◌, ◌++◌, Option, Some, None, length, get_or, refl, ap, sym, subst, ◌∙◌, inl, inr, arith, Less, Equal, Greater}
+use Rattle.std.specs.Prelude.{unwrap_or, is_some, not, nat_lt}
 use Rattle.std.specs.List.{list_any, All}
 use Rattle.std.specs.List.Sorted.{IsStrictlySortedBy}
 use Rattle.std.specs.Ordering.{nat_cmp, is_gt, match_ordering}
@@ -10,9 +10,7 @@ use Rattle.std.specs.BTreeMap.{is_at, insert_entry}
 use Rattle.std.proofs.lemmas.Bool.{cases_lt, eqb-true, or_parts}
 use Rattle.std.proofs.lemmas.Bool.Decides.{nat_tests}
 use Rattle.std.proofs.lemmas.Cmp.{nat_cmp_total, eq_by_cmp_equiv}
-use Rattle.std.proofs.lemmas.List.{drop_more, drop_all}
 use Rattle.std.proofs.lemmas.List.Elements.{All-head, All-tail}
-use Rattle.std.proofs.lemmas.List.Folds.{list_any-append}
 use Rattle.std.proofs.lemmas.Map.{lookup-none}
 use Rattle.std.proofs.lemmas.Map.Entries.{none_past_head, lookup-filter-keys}
 use Rattle.std.proofs.lemmas.Map.Keys.{sorted_tail, IsDistinct-from_sorted}
@@ -24,23 +22,23 @@ use Rattle.sctp_fragments.specs.Runs.{from_rank}
 use Rattle.sctp_fragments.specs.Held.{Held, rank_of}
 use Rattle.sctp_reassembly.specs.Delivery.{UnorderedStream, fresh_unordered, held_from}
 use Rattle.sctp_reassembly.specs.ReassemblyStreams.{Entries, stream_at, with_stream, put_stream, set_stream, is_named, forget}
-use Rattle.sctp_reassembly.specs.ReassemblyHandover.{unordered_records}
-use Rattle.sctp_reassembly.specs.UnorderedByTsn.{Notes, note_cmp, is_noted, BeginsFrom, HasNote, AreNoted, OthersAreNoted, KeepsOthers, NoneBelow, drop_below}
+use Rattle.sctp_reassembly.specs.ReassemblyHandover.{unordered_entries}
+use Rattle.sctp_reassembly.specs.UnorderedByTsn.{Notes, IsNoted, HasNote, AreNoted, OthersAreNoted, KeepsOthers, NoneBelow, drop_below}
 use Rattle.sctp_serial.proofs.NumberLemmas.{equal_at, at_itself, is_equal, not_at}
 
 -- ---- the order of notes
 
-pub first_rank : (a b c d : ℕ) → is_gt (note_cmp (a, c) (b, d)) ≡ false → a ≤ b
-first_rank a b c d h = elim (cases_lt b a) [ inl less ↦ absurd (behind less) | inr l ↦ l ]
+pub not_above : (a b : ℕ) → is_gt (nat_cmp a b) ≡ false → a ≤ b
+not_above a b h = elim (cases_lt b a) [ inl less ↦ absurd (behind less) | inr l ↦ l ]
   where
     behind : b < a → ⊥
     behind l = grind (arith, nat_tests)
 
-pub other_note : (a c : ℕ) (note : ℕ × ℕ) → (note.1 == c) ≡ false → is_at (note_cmp (a, c)) note ≡ false
-other_note a c note h = apart a c note.0 note.1 h
+apart : (a b : ℕ) → (a == b) ≡ false → Some a ≡ Some b → ⊥
+apart a b other same = let is : a ≡ b = cc in differ is
   where
-    apart : (a c b d : ℕ) → (d == c) ≡ false → is_at (note_cmp (a, c)) (b, d) ≡ false
-    apart a c b d h = grind (arith, nat_tests)
+    differ : a ≡ b → ⊥
+    differ is = grind (arith, nat_tests)
 
 turned : (a b : ℕ) → (a == b) ≡ false → (b == a) ≡ false
 turned a b h = grind (arith, nat_tests)
@@ -49,49 +47,33 @@ turned a b h = grind (arith, nat_tests)
 pub by_tsn : (n m : ℕ) → n ≤ m → pair_rank origin n ≤ pair_rank origin m
 by_tsn n m l = omega (arith, l)
 
--- a note by the key of a fragment
-pub noted_at : (number tsn id : ℕ) (notes : Notes) (hs : List Held) → number ≡ origin → is_noted notes (tsn, id) ≡ true → BeginsFrom (pair_rank number tsn) hs → HasNote notes id hs
-noted_at number tsn id notes hs is there begins = inr (tsn, there, subst (λ n. BeginsFrom (pair_rank n tsn) hs) is begins)
-
 -- none of these notes is below the TSN
-pub none_from : (n : ℕ) (notes : Notes) → All (λ k. is_gt (note_cmp (n, 0) k) ≡ false) notes → NoneBelow (pair_rank origin n) notes
+pub none_from : (n : ℕ) (notes : Notes) → All (λ k. is_gt (nat_cmp n k) ≡ false) (keys_of notes) → NoneBelow (pair_rank origin n) notes
 none_from n [] all note there = absurd (cc)
-none_from n (x ∷ xs) all note there = go (is_at (note_cmp note) x) refl there (none_from n xs (All-tail (λ k. is_gt (note_cmp (n, 0) k) ≡ false) x xs all) note)
+none_from n (x ∷ xs) all note there = go (is_at (nat_cmp note.0) x.0) refl there (none_from n xs (All-tail (λ k. is_gt (nat_cmp n k) ≡ false) x.0 (keys_of xs) all) note)
   where
-    same_rank : (a c b d : ℕ) → is_at (note_cmp (a, c)) (b, d) ≡ true → a ≡ b
-    same_rank a c b d h = grind (arith, nat_tests)
-
-    go : (b : Bool) → is_at (note_cmp note) x ≡ b → (b || is_noted xs note) ≡ true → (is_noted xs note ≡ true → pair_rank origin n ≤ pair_rank origin note.0) → pair_rank origin n ≤ pair_rank origin note.0
-    go true h t ih = by_tsn n note.0 (subst (λ r. n ≤ r) (sym (same_rank note.0 note.1 x.0 x.1 h)) (first_rank n x.0 0 x.1 (All-head (λ k. is_gt (note_cmp (n, 0) k) ≡ false) x xs all)))
+    go : (b : Bool) → is_at (nat_cmp note.0) x.0 ≡ b → cond b (Some x.1) (lookup (is_at (nat_cmp note.0)) xs) ≡ Some note.1 → (IsNoted xs note → pair_rank origin n ≤ pair_rank origin note.0) → pair_rank origin n ≤ pair_rank origin note.0
+    go true h t ih = by_tsn n note.0 (subst (λ r. n ≤ r) (equal_at note.0 x.0 h) (not_above n x.0 (All-head (λ k. is_gt (nat_cmp n k) ≡ false) x.0 (keys_of xs) all)))
     go false h t ih = ih t
 
--- a note that goes out, and one that comes in
-pub out_others : (rank id : ℕ) (old new : Notes) → ((note : ℕ × ℕ) → is_noted new note ≡ cond (is_at (note_cmp (rank, id)) note) false (is_noted old note)) → KeepsOthers id old new
-out_others rank id old new made note other there = made note ∙ (ap (λ b. cond b false (is_noted old note)) (other_note rank id note other) ∙ there)
-
-pub in_keeps : (rank id : ℕ) (old new : Notes) → ((note : ℕ × ℕ) → is_noted new note ≡ cond (is_at (note_cmp (rank, id)) note) true (is_noted old note))
-    → (note : ℕ × ℕ) → is_noted old note ≡ true → is_noted new note ≡ true
-in_keeps rank id old new made note there = made note ∙ go (is_at (note_cmp (rank, id)) note)
+-- a note goes out
+pub out_others : (tsn id : ℕ) (old new : Notes) → IsNoted old (tsn, id) → ((n : ℕ) → lookup (is_at (nat_cmp n)) new ≡ cond (is_at (nat_cmp tsn) n) None (lookup (is_at (nat_cmp n)) old)) → KeepsOthers id old new
+out_others tsn id old new own made note other there = made note.0 ∙ go (is_at (nat_cmp tsn) note.0) refl
   where
-    go : (b : Bool) → cond b true (is_noted old note) ≡ true
-    go true = refl
-    go false = there
-
--- of a call that may fail, which changes nothing then
-pub either : {T E P Q R : Type 0} (r : Result T E) → OnOk r P → OnErr r Q → (P → R) → (Q → R) → R
-either (Ok x) p q f g = f p
-either (Err y) p q f g = g q
+    go : (b : Bool) → is_at (nat_cmp tsn) note.0 ≡ b → cond b None (lookup (is_at (nat_cmp note.0)) old) ≡ Some note.1
+    go true h = absurd (apart note.1 id other (sym there ∙ subst (λ n. IsNoted old (n, id)) (sym (equal_at tsn note.0 h)) own))
+    go false h = there
 
 -- ---- one stream changes
 
-still : (old new : Notes) (q : ℕ) (hs : List Held) → ((note : ℕ × ℕ) → note.1 ≡ q → is_noted old note ≡ true → is_noted new note ≡ true) → HasNote old q hs → HasNote new q hs
+still : (old new : Notes) (q : ℕ) (hs : List Held) → ((note : ℕ × ℕ) → note.1 ≡ q → IsNoted old note → IsNoted new note) → HasNote old q hs → HasNote new q hs
 still old new q hs kept has =
     elim has [
       | inl none ↦ inl none
       | inr some ↦ inr (some.0, kept (some.0, q) refl some.1, some.2)
     ]
 
-pub renewed : (id : ℕ) (old less new : Notes) (es : Entries UnorderedStream) → KeepsOthers id old less → ((note : ℕ × ℕ) → is_noted less note ≡ true → is_noted new note ≡ true)
+pub renewed : (id : ℕ) (old less new : Notes) (es : Entries UnorderedStream) → KeepsOthers id old less → ((note : ℕ × ℕ) → IsNoted less note → IsNoted new note)
     → HasNote new id (stream_at fresh_unordered id es).held → OthersAreNoted id old es → AreNoted new es
 renewed id old less new es out more made others q = go (q == id) refl
   where
@@ -195,19 +177,24 @@ IsDone n notes id hs = HasNote notes id hs × (from_rank rank_of n hs ≡ hs)
 abbrev pub NotedOrDone : ℕ → Notes → Notes → Entries UnorderedStream → Type 0
 NotedOrDone n rest notes es = (id : ℕ) → HasNote rest id (stream_at fresh_unordered id es).held ⊎ IsDone n notes id (stream_at fresh_unordered id es).held
 
+-- a note of two lists is one of either
+parted : (tsn id : ℕ) (below rest : Notes) → IsNoted (below ++ rest) (tsn, id) → IsNoted below (tsn, id) ⊎ IsNoted rest (tsn, id)
+parted tsn id [] rest there = inr there
+parted tsn id (x ∷ xs) rest there = go (is_at (nat_cmp tsn) x.0) there (parted tsn id xs rest)
+  where
+    go : (b : Bool) → cond b (Some x.1) (lookup (is_at (nat_cmp tsn)) (xs ++ rest)) ≡ Some id → (IsNoted (xs ++ rest) (tsn, id) → IsNoted xs (tsn, id) ⊎ IsNoted rest (tsn, id))
+        → (cond b (Some x.1) (lookup (is_at (nat_cmp tsn)) xs) ≡ Some id) ⊎ IsNoted rest (tsn, id)
+    go true t ih = inl t
+    go false t ih = ih t
+
 -- the notes are cut at the rank
 cut_one : (n : ℕ) (below rest : Notes) (id : ℕ) (hs : List Held) → NoneBelow n rest → HasNote (below ++ rest) id hs → HasNote below id hs ⊎ IsDone n rest id hs
-cut_one n below rest id hs none has =
-    elim has [
-      | inl e ↦ inl (inl e)
-      | inr some ↦ go some.0 some.1 some.2 (is_noted below (some.0, id)) refl
+cut_one n below rest id hs none (inl e) = inl (inl e)
+cut_one n below rest id hs none (inr (tsn, there, begins)) =
+    elim (parted tsn id below rest there) [
+      | inl low ↦ inl (inr (tsn, low, begins))
+      | inr back ↦ inr (inr (tsn, back, begins), begins n (none (tsn, id) back))
     ]
-  where
-    go : (rank : ℕ) → is_noted (below ++ rest) (rank, id) ≡ true → BeginsFrom (pair_rank origin rank) hs → (b : Bool) → is_noted below (rank, id) ≡ b → HasNote below id hs ⊎ IsDone n rest id hs
-    go rank there begins true h = inl (inr (rank, h, begins))
-    go rank there begins false h =
-        let back : is_noted rest (rank, id) ≡ true = sym (ap (λ b. b || is_noted rest (rank, id)) h) ∙ (sym (list_any-append (is_at (note_cmp (rank, id))) below rest) ∙ there) in
-        inr (inr (rank, back, begins), begins n (none (rank, id) back))
 
 pub cut : (n : ℕ) (all below rest : Notes) (es : Entries UnorderedStream) → all ≡ below ++ rest → NoneBelow n rest → AreNoted all es → NotedOrDone n below rest es
 cut n all below rest es parts none has id =
@@ -215,11 +202,12 @@ cut n all below rest es parts none has id =
 
 -- past the note of another stream
 past_note : (note : ℕ × ℕ) (rest : Notes) (id : ℕ) (hs : List Held) → (note.1 == id) ≡ false → HasNote (note ∷ rest) id hs → HasNote rest id hs
-past_note note rest id hs other has =
-    elim has [
-      | inl e ↦ inl e
-      | inr some ↦ inr (some.0, sym (ap (λ b. b || is_noted rest (some.0, id)) (other_note some.0 id note other)) ∙ some.1, some.2)
-    ]
+past_note note rest id hs other (inl e) = inl e
+past_note note rest id hs other (inr (tsn, there, begins)) = inr (tsn, go (is_at (nat_cmp tsn) note.0) there, begins)
+  where
+    go : (b : Bool) → cond b (Some note.1) (lookup (is_at (nat_cmp tsn)) rest) ≡ Some id → IsNoted rest (tsn, id)
+    go true t = absurd (apart note.1 id other t)
+    go false t = t
 
 -- what is written holds nothing below the rank
 written_from : (n id : ℕ) (s : UnorderedStream) (es : Entries UnorderedStream) → from_rank rank_of n s.held ≡ s.held
@@ -235,7 +223,7 @@ written_from n id s (e ∷ es) h = go (is_at (nat_cmp id) e.0) refl (written_fro
     go false t ih = subst IsFrom (sym (ap (λ b. unwrap_or (cond b (Some e.1) (lookup (is_at (nat_cmp id)) (put_stream id s es))) fresh_unordered) t)) ih
 
 pub forwarded_next : (n : ℕ) (note : ℕ × ℕ) (rest old new : Notes) (es left : Entries UnorderedStream) → left ≡ put_stream note.1 (held_from n (stream_at fresh_unordered note.1 es)) es
-    → ((x : ℕ × ℕ) → is_noted old x ≡ true → is_noted new x ≡ true) → HasNote new note.1 (stream_at fresh_unordered note.1 left).held
+    → ((x : ℕ × ℕ) → IsNoted old x → IsNoted new x) → HasNote new note.1 (stream_at fresh_unordered note.1 left).held
     → NotedOrDone n (note ∷ rest) old es → NotedOrDone n rest new left
 forwarded_next n note rest old new es left made kept has all id = go (id == note.1) refl
   where
@@ -282,7 +270,7 @@ named_one (x ∷ ids) (suc i) n d l h = named_one ids i n d (omega arith) (or_pa
 pub not_named : (ids : List StreamId) (i n : ℕ) (d : StreamId) → i < length ids → is_named ids n ≡ false → (n == (get_or ids i d).0) ≡ false
 not_named ids i n d l h = turned (get_or ids i d).0 n (named_one ids i n d l (or_parts (length ids == 0) (list_any (λ x. x.0 == n) ids) h).1)
 
-pub forgets : (ids : List StreamId) (old new : Notes) (es left : Entries UnorderedStream) → ((note : ℕ × ℕ) → is_named ids note.1 ≡ false → is_noted old note ≡ true → is_noted new note ≡ true)
+pub forgets : (ids : List StreamId) (old new : Notes) (es left : Entries UnorderedStream) → ((note : ℕ × ℕ) → is_named ids note.1 ≡ false → IsNoted old note → IsNoted new note)
     → left ≡ forget ids es → AreNoted old es → AreNoted new left
 forgets ids old new es left kept made all id = subst (λ (t : Entries UnorderedStream). HasNote new id (stream_at fresh_unordered id t).held) (sym made) (go (is_named ids id) refl)
   where
@@ -299,43 +287,38 @@ forgets ids old new es left kept made all id = subst (λ (t : Entries UnorderedS
 
 -- ---- all notes are made anew
 
--- whether a record of the id is among them
-abbrev pub is_listed : ℕ → List HandoverUnorderedStream → Bool
-is_listed id records = list_any (λ r. r.id == id) records
+-- each stream has a note, or is among those to come
+abbrev pub NotedOrLeft : Entries UnorderedStream → Notes → Entries UnorderedStream → Type 0
+NotedOrLeft left notes es = (id : ℕ) → HasNote notes id (stream_at fresh_unordered id es).held ⊎ (lookup (is_at (nat_cmp id)) left ≡ lookup (is_at (nat_cmp id)) es)
 
--- of the streams whose records were taken there is a note
-abbrev pub NotedUntil : ℕ → Notes → List HandoverUnorderedStream → Entries UnorderedStream → Type 0
-NotedUntil i notes records es = (id : ℕ) → HasNote notes id (stream_at fresh_unordered id es).held ⊎ (is_listed id (drop i records) ≡ is_listed id records)
-
-pub notes_one : (i : ℕ) (d : HandoverUnorderedStream) (old new : Notes) (records : List HandoverUnorderedStream) (es : Entries UnorderedStream) → i < length records
-    → ((note : ℕ × ℕ) → is_noted old note ≡ true → is_noted new note ≡ true) → HasNote new (get_or records i d).id (stream_at fresh_unordered (get_or records i d).id es).held
-    → NotedUntil i old records es → NotedUntil (i + 1) new records es
-notes_one i d old new records es l kept made until id =
-    elim (until id) [
+pub noted_next : (e : ℕ × UnorderedStream) (left : Entries UnorderedStream) (old new : Notes) (es : Entries UnorderedStream) → ((note : ℕ × ℕ) → IsNoted old note → IsNoted new note)
+    → HasNote new e.0 e.1.held → NotedOrLeft (e ∷ left) old es → NotedOrLeft left new es
+noted_next e left old new es kept made all id =
+    elim (all id) [
       | inl has ↦ inl (still old new id (stream_at fresh_unordered id es).held (λ note is there. kept note there) has)
-      | inr same ↦ go ((get_or records i d).id == id) refl same
+      | inr same ↦ go (is_at (nat_cmp id) e.0) refl same
     ]
   where
-    go : (b : Bool) → ((get_or records i d).id == id) ≡ b → is_listed id (drop i records) ≡ is_listed id records → HasNote new id (stream_at fresh_unordered id es).held ⊎ (is_listed id (drop (i + 1) records) ≡ is_listed id records)
-    go true h same = inl (subst (λ k. HasNote new k (stream_at fresh_unordered k es).held) (eqb-true (get_or records i d).id id h) made)
-    go false h same = inr (sym (ap (is_listed id) (drop_more records i d l) ∙ ap (λ b. b || is_listed id (drop (i + 1) records)) h) ∙ same)
+    go : (b : Bool) → is_at (nat_cmp id) e.0 ≡ b → cond b (Some e.1) (lookup (is_at (nat_cmp id)) left) ≡ lookup (is_at (nat_cmp id)) es
+        → HasNote new id (stream_at fresh_unordered id es).held ⊎ (lookup (is_at (nat_cmp id)) left ≡ lookup (is_at (nat_cmp id)) es)
+    go true h same = inl (subst (λ (o : Option UnorderedStream). HasNote new id (unwrap_or o fresh_unordered).held) same (subst (λ i. HasNote new i e.1.held) (equal_at id e.0 h) made))
+    go false h same = inr same
 
-unlisted : (id : ℕ) (es : Entries UnorderedStream) → is_listed id (unordered_records es) ≡ false → stream_at fresh_unordered id es ≡ fresh_unordered
-unlisted id [] h = refl
-unlisted id (e ∷ es) h = go (e.0 == id) refl h (unlisted id es)
-  where
-    other : (a b : ℕ) → (b == a) ≡ false → is_at (nat_cmp a) b ≡ false
-    other a b t = grind (arith, nat_tests)
-
-    go : (b : Bool) → (e.0 == id) ≡ b → (b || is_listed id (unordered_records es)) ≡ false → (is_listed id (unordered_records es) ≡ false → stream_at fresh_unordered id es ≡ fresh_unordered)
-        → stream_at fresh_unordered id (e ∷ es) ≡ fresh_unordered
-    go true t h ih = absurd (cc)
-    go false t h ih = ap (λ b. unwrap_or (cond b (Some e.1) (lookup (is_at (nat_cmp id)) es)) fresh_unordered) (other id e.0 t) ∙ ih h
-
-pub notes_all : (i : ℕ) (notes : Notes) (records : List HandoverUnorderedStream) (es : Entries UnorderedStream) → length records ≤ i → records ≡ unordered_records es
-    → NotedUntil i notes records es → AreNoted notes es
-notes_all i notes records es l made until id =
-    elim (until id) [
+pub all_noted : (notes : Notes) (es : Entries UnorderedStream) → NotedOrLeft [] notes es → AreNoted notes es
+all_noted notes es all id =
+    elim (all id) [
       | inl has ↦ has
-      | inr same ↦ inl (ap (λ (s : UnorderedStream). s.held) (unlisted id es (ap (is_listed id) (sym made) ∙ (sym same ∙ ap (is_listed id) (drop_all i records l)))))
+      | inr same ↦ inl (ap (λ (o : Option UnorderedStream). (unwrap_or o fresh_unordered).held) (sym same))
     ]
+
+-- what is restored holds nothing
+pub restored_noted : (notes : Notes) (records : List HandoverUnorderedStream) → AreNoted notes (unordered_entries records)
+restored_noted notes records id = inl (none records)
+  where
+    none : (rs : List HandoverUnorderedStream) → (stream_at fresh_unordered id (unordered_entries rs)).held ≡ []
+    none [] = refl
+    none (r ∷ rs) = go (is_at (nat_cmp id) r.id) (none rs)
+      where
+        go : (b : Bool) → (stream_at fresh_unordered id (unordered_entries rs)).held ≡ [] → (unwrap_or (cond b (Some fresh_unordered) (lookup (is_at (nat_cmp id)) (unordered_entries rs))) fresh_unordered).held ≡ []
+        go true h = refl
+        go false h = h

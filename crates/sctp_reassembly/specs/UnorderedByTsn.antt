@@ -1,8 +1,7 @@
 -- Notes of the streams that hold a fragment: a TSN, below which a stream holds none, and its id.
-use Rattle.std.specs.Prelude.{◌≡◌, ◌⊎◌, ℕ, ◌≤◌, ◌==◌, Bool, true, false, List, [], map}
-use Rattle.std.specs.List.{list_any}
-use Rattle.std.specs.Ordering.{nat_cmp, ordering_then}
-use Rattle.std.specs.declared.cmp.Ordering.{Ordering}
+use Rattle.std.specs.Prelude.{◌≡◌, ◌⊎◌, ℕ, ◌≤◌, ◌==◌, false, List, [], Some, map}
+use Rattle.std.specs.Ordering.{nat_cmp}
+use Rattle.std.specs.Map.{lookup}
 use Rattle.std.specs.BTreeMap.{is_at}
 use Rattle.sctp_serial.specs.Unwrapped.{origin}
 use Rattle.sctp_fragments.specs.ReassemblyKey.{pair_rank}
@@ -14,11 +13,9 @@ use Rattle.sctp_reassembly.specs.ReassemblyStreams.{Entries, stream_at}
 abbrev pub Notes : Type 0
 Notes = List (ℕ × ℕ)
 
-abbrev pub note_cmp : ℕ × ℕ → ℕ × ℕ → Ordering
-note_cmp x y = ordering_then (nat_cmp x.0 y.0) (nat_cmp x.1 y.1)
-
-abbrev pub is_noted : Notes → ℕ × ℕ → Bool
-is_noted notes note = list_any (is_at (note_cmp note)) notes
+-- a TSN has one note
+abbrev pub IsNoted : Notes → ℕ × ℕ → Type 0
+IsNoted notes note = lookup (is_at (nat_cmp note.0)) notes ≡ Some note.1
 
 -- no fragment is below the rank
 abbrev pub BeginsFrom : ℕ → List Held → Type 0
@@ -26,7 +23,7 @@ BeginsFrom rank hs = (n : ℕ) → n ≤ rank → from_rank rank_of n hs ≡ hs
 
 -- nothing is held, or there is a note of it
 abbrev pub HasNote : Notes → ℕ → List Held → Type 0
-HasNote notes id hs = (hs ≡ []) ⊎ ((tsn : ℕ) × (is_noted notes (tsn, id) ≡ true) × BeginsFrom (pair_rank origin tsn) hs)
+HasNote notes id hs = (hs ≡ []) ⊎ ((tsn : ℕ) × IsNoted notes (tsn, id) × BeginsFrom (pair_rank origin tsn) hs)
 
 -- there is a note of each stream that holds a fragment
 abbrev pub AreNoted : Notes → Entries UnorderedStream → Type 0
@@ -38,11 +35,11 @@ OthersAreNoted other notes es = (id : ℕ) → (id == other) ≡ false → HasNo
 
 -- the notes of other streams stay
 abbrev pub KeepsOthers : ℕ → Notes → Notes → Type 0
-KeepsOthers other old new = (note : ℕ × ℕ) → (note.1 == other) ≡ false → is_noted old note ≡ true → is_noted new note ≡ true
+KeepsOthers other old new = (note : ℕ × ℕ) → (note.1 == other) ≡ false → IsNoted old note → IsNoted new note
 
 -- no note is of a rank below this one
 abbrev pub NoneBelow : ℕ → Notes → Type 0
-NoneBelow rank notes = (note : ℕ × ℕ) → is_noted notes note ≡ true → rank ≤ pair_rank origin note.0
+NoneBelow rank notes = (note : ℕ × ℕ) → IsNoted notes note → rank ≤ pair_rank origin note.0
 
 -- what a point before the rank leaves of all streams
 abbrev pub drop_below : ℕ → Entries UnorderedStream → Entries UnorderedStream

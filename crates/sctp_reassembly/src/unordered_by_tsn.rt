@@ -5,30 +5,31 @@ ghost use Rattle.sctp_serial.specs.Unwrapped.{origin};
 ghost use Rattle.sctp_fragments.specs.ReassemblyKey.{pair_rank};
 ghost use Rattle.sctp_fragments.specs.Held.{Held};
 ghost use Rattle.sctp_reassembly.specs.Delivery.{fresh_unordered, held_from};
-ghost use Rattle.sctp_reassembly.specs.UnorderedByTsn.{is_noted, BeginsFrom, HasNote, AreNoted, OthersAreNoted, KeepsOthers, NoneBelow, drop_below};
+ghost use Rattle.sctp_reassembly.specs.UnorderedByTsn.{IsNoted, BeginsFrom, HasNote, AreNoted, OthersAreNoted, KeepsOthers, NoneBelow, drop_below};
 ghost use Rattle.sctp_reassembly.specs.ReassemblyHandover.{unordered_records, unordered_entries};
 ghost use Rattle.sctp_reassembly.specs.ReassemblyStreams.{unordered_bytes, unordered_fragments, is_named, stream_at};
 ghost use Rattle.sctp_state.specs.Validity.{rises_from, unordered_ids};
 
 use crate::ordered_stream::FIRST;
 use crate::ready_messages::ReadyMessages;
+use crate::unordered_stream::UnorderedStream;
 use crate::unordered_streams::UnorderedStreams;
 use sctp_chunk::Data;
 use sctp_fragments::TraditionalKey;
 use sctp_serial::StreamId;
 use sctp_state::api::handover::HandoverUnorderedStream;
 use std::alloc::{AllocError, Global};
-use std::collections::BTreeSet;
+use std::collections::BTreeMap;
 use std::marker::Model;
 
 /// The streams, with a note of each that holds a fragment, by the TSN of its first one: a forward point looks at those
-/// alone that hold something below it. Where a note is missing, for want of memory or since a key has another number than
-/// unordered messages have, the next point looks at all streams, and makes the notes anew.
+/// alone that hold something below it. Where a note is missing, for want of memory, since another stream's has its TSN, or
+/// since a key has another number than unordered messages have, the next point looks at all streams, and makes the notes anew.
 #[derive(Drop)]
 pub struct UnorderedByTsn {
     alloc: Global,
     streams: UnorderedStreams<TraditionalKey>,
-    notes: BTreeSet<(u64, u16)>,
+    notes: BTreeMap<u64, u16>,
     is_noted: bool,
 }
 
@@ -42,26 +43,33 @@ impl Model for UnorderedByTsn {
 
     ghost view = { λ s. s.streams };
 
-    ghost invariant = { λ s. s.is_noted ≡ true → AreNoted s.notes.keys s.streams };
+    ghost invariant = { λ s. s.is_noted ≡ true → AreNoted s.notes.entries s.streams };
 }
 
 /// Takes away the note by the key that was the stream's first one.
-fn take_note(notes: &mut BTreeSet<(u64, u16)>, id: StreamId, first: Option<TraditionalKey>)
-    ensures { KeepsOthers id.0 notes.old.keys notes.new.keys }
+fn take_note(notes: &mut BTreeMap<u64, u16>, id: StreamId, first: Option<TraditionalKey>)
+    ensures { KeepsOthers id.0 notes.old.entries notes.new.entries }
 {
     if let Some(key) = first {
-        notes.remove(&(key.index, id.0));
+        if notes.get(&key.index) == Some(&id.0) {
+            notes.remove(&key.index);
+        }
     }
 }
 
-/// Makes the note of a stream by its first key, where it holds a fragment. Says whether there was memory.
-fn make_note(notes: &mut BTreeSet<(u64, u16)>, id: StreamId, first: Option<TraditionalKey>) -> bool
-    ensures kept { (note : ℕ × ℕ) → is_noted notes.old.keys note ≡ true → is_noted notes.new.keys note ≡ true }
-    ensures made { result ≡ true → (hs : List Held) → IfSome first (λ k. BeginsFrom (pair_rank k.number k.index) hs) → IfNone first (hs ≡ []) → HasNote notes.new.keys id.0 hs }
+/// Makes the note of a stream by its first key, where it holds a fragment. Says no where memory lacks, or where it takes the
+/// place of another stream's.
+fn make_note(notes: &mut BTreeMap<u64, u16>, id: StreamId, first: Option<TraditionalKey>) -> bool
+    ensures kept { result ≡ true → (note : ℕ × ℕ) → IsNoted notes.old.entries note → IsNoted notes.new.entries note }
+    ensures made { result ≡ true → (hs : List Held) → IfSome first (λ k. BeginsFrom (pair_rank k.number k.index) hs) → IfNone first (hs ≡ []) → HasNote notes.new.entries id.0 hs }
 {
     match first {
         Some(key) if key.number != FIRST => false,
-        Some(key) => notes.insert((key.index, id.0)).is_ok(),
+        Some(key) => match notes.insert(key.index, id.0) {
+            Ok(None) => true,
+            Ok(Some(other)) => other == id.0,
+            Err(_) => false,
+        },
         None => true,
     }
 }
@@ -70,34 +78,32 @@ fn make_note(notes: &mut BTreeSet<(u64, u16)>, id: StreamId, first: Option<Tradi
 fn renew_note(
     is_noted: bool,
     streams: &UnorderedStreams<TraditionalKey>,
-    notes: &mut BTreeSet<(u64, u16)>,
+    notes: &mut BTreeMap<u64, u16>,
     id: StreamId,
     first: Option<TraditionalKey>,
 ) -> bool
-    ensures { result ≡ true → (is_noted ≡ true) × (OthersAreNoted id.0 notes.old.keys streams.now → AreNoted notes.new.keys streams.now) }
+    ensures { result ≡ true → (is_noted ≡ true) × (OthersAreNoted id.0 notes.old.entries streams.now → AreNoted notes.new.entries streams.now) }
 {
     if !is_noted {
         return false;
     }
-    take_note(notes, id, first);
-    make_note(notes, id, streams.first(id))
+    let now = streams.first(id);
+    if now != first {
+        take_note(notes, id, first);
+    }
+    make_note(notes, id, now)
 }
 
-/// Makes the notes of all streams anew. Says whether there was memory.
+/// Makes the notes of all streams anew. Says whether all have theirs.
 fn make_notes(
-    alloc: Global,
-    streams: &UnorderedStreams<TraditionalKey>,
-    notes: &mut BTreeSet<(u64, u16)>,
+    streams: &BTreeMap<u16, UnorderedStream<TraditionalKey>>,
+    notes: &mut BTreeMap<u64, u16>,
 ) -> bool
-    ensures { result ≡ true → AreNoted notes.new.keys streams.now }
+    ensures { result ≡ true → AreNoted notes.new.entries streams.now.entries }
 {
     notes.clear();
-    let Ok(records) = streams.handed_over(alloc) else {
-        return false;
-    };
-    for record in &records {
-        let id = StreamId(record.id);
-        if !make_note(notes, id, streams.first(id)) {
+    for (id, stream) in streams {
+        if !make_note(notes, StreamId(*id), stream.first()) {
             return false;
         }
     }
@@ -105,11 +111,11 @@ fn make_notes(
 }
 
 /// Whether no note is below the index.
-fn is_none_below(notes: &BTreeSet<(u64, u16)>, index: u64) -> bool
-    ensures { result ≡ true → NoneBelow (pair_rank origin index) notes.now.keys }
+fn is_none_below(notes: &BTreeMap<u64, u16>, index: u64) -> bool
+    ensures { result ≡ true → NoneBelow (pair_rank origin index) notes.now.entries }
 {
-    match notes.first() {
-        Some(least) => index <= least.0,
+    match notes.first_key_value() {
+        Some((least, _)) => index <= *least,
         None => true,
     }
 }
@@ -117,17 +123,17 @@ fn is_none_below(notes: &BTreeSet<(u64, u16)>, index: u64) -> bool
 /// Takes away the notes below the index. Where there are some, it takes memory.
 fn take_below(
     alloc: Global,
-    notes: &mut BTreeSet<(u64, u16)>,
+    notes: &mut BTreeMap<u64, u16>,
     index: u64,
-) -> Option<BTreeSet<(u64, u16)>>
-    ensures parts { IfSome result (λ below. notes.old.keys ≡ below.keys ++ notes.new.keys) }
-    ensures rest { IfSome result (λ below. NoneBelow (pair_rank origin index) notes.new.keys) }
-    ensures kept { IfNone result (notes.new.keys ≡ notes.old.keys) }
+) -> Option<BTreeMap<u64, u16>>
+    ensures parts { IfSome result (λ below. notes.old.entries ≡ below.entries ++ notes.new.entries) }
+    ensures rest { IfSome result (λ below. NoneBelow (pair_rank origin index) notes.new.entries) }
+    ensures kept { IfNone result (notes.new.entries ≡ notes.old.entries) }
 {
     if is_none_below(notes, index) {
-        return Some(BTreeSet::new(alloc));
+        return Some(BTreeMap::new(alloc));
     }
-    match notes.split_off(&(index, 0)) {
+    match notes.split_off(&index) {
         Ok(rest) => Some(std::mem::replace(notes, rest)),
         Err(_) => None,
     }
@@ -138,15 +144,15 @@ fn forward_noted(
     alloc: Global,
     is_noted: bool,
     streams: &mut UnorderedStreams<TraditionalKey>,
-    notes: &mut BTreeSet<(u64, u16)>,
+    notes: &mut BTreeMap<u64, u16>,
     first: TraditionalKey,
 ) -> bool
     ensures same { drop_below (pair_rank first.number first.index) streams.new ≡ drop_below (pair_rank first.number first.index) streams.old }
     ensures bytes { unordered_bytes streams.new ≤ unordered_bytes streams.old }
     ensures fragments { unordered_fragments streams.new ≤ unordered_fragments streams.old }
     ensures before { result ≡ true → is_noted ≡ true }
-    ensures noted { AreNoted notes.old.keys streams.old → result ≡ true → AreNoted notes.new.keys streams.new }
-    ensures done { AreNoted notes.old.keys streams.old → result ≡ true → streams.new ≡ drop_below (pair_rank first.number first.index) streams.old }
+    ensures noted { AreNoted notes.old.entries streams.old → result ≡ true → AreNoted notes.new.entries streams.new }
+    ensures done { AreNoted notes.old.entries streams.old → result ≡ true → streams.new ≡ drop_below (pair_rank first.number first.index) streams.old }
 {
     if !is_noted || first.number != FIRST {
         return false;
@@ -154,8 +160,8 @@ fn forward_noted(
     let Some(below) = take_below(alloc, notes, first.index) else {
         return false;
     };
-    for note in &below {
-        let id = StreamId(note.1);
+    for (_, id) in &below {
+        let id = StreamId(*id);
         if !make_note(notes, id, streams.forward_to(id, first)) {
             return false;
         }
@@ -167,10 +173,10 @@ fn forward_noted(
 /// Takes away the notes of the streams that are named, or all where none is.
 fn take_notes(
     streams: &UnorderedStreams<TraditionalKey>,
-    notes: &mut BTreeSet<(u64, u16)>,
+    notes: &mut BTreeMap<u64, u16>,
     ids: &[StreamId],
 )
-    ensures { (note : ℕ × ℕ) → is_named ids.now note.1 ≡ false → is_noted notes.old.keys note ≡ true → is_noted notes.new.keys note ≡ true }
+    ensures { (note : ℕ × ℕ) → is_named ids.now note.1 ≡ false → IsNoted notes.old.entries note → IsNoted notes.new.entries note }
 {
     if ids.is_empty() {
         notes.clear();
@@ -194,7 +200,7 @@ impl UnorderedByTsn {
         UnorderedByTsn {
             alloc,
             streams: UnorderedStreams::new(alloc),
-            notes: BTreeSet::new(alloc),
+            notes: BTreeMap::new(alloc),
             is_noted: true,
         }
     }
@@ -210,8 +216,8 @@ impl UnorderedByTsn {
         Ok(UnorderedByTsn {
             alloc,
             streams: UnorderedStreams::restored(alloc, records)?,
-            notes: BTreeSet::new(alloc),
-            is_noted: false,
+            notes: BTreeMap::new(alloc),
+            is_noted: true,
         })
     }
 
@@ -291,6 +297,6 @@ impl UnorderedByTsn {
             return;
         }
         self.streams.forward_all(first);
-        self.is_noted = make_notes(self.alloc, &self.streams, &mut self.notes);
+        self.is_noted = make_notes(&self.streams.streams, &mut self.notes);
     }
 }
