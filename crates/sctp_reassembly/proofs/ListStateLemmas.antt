@@ -1,11 +1,11 @@
 -- A single fragment, as an interval list has it.
-use Rattle.std.proofs.Common.{◌≡◌, ℕ, ◌<◌, ◌≤◌, ◌^◌, Bool, true, false, cond, Option, Some, None, List, [], ◌∷◌, ◌++◌, length, refl, ap, sym, subst, ◌∙◌, arith, length-append, append-nil}
+use Rattle.std.proofs.Common.{◌≡◌, ℕ, ◌≤◌, Bool, true, false, cond, Option, Some, None, List, [], ◌∷◌, ◌++◌, length, refl, ap, sym, subst, ◌∙◌, arith, length-append}
 use Rattle.std.specs.Map.{values_of}
 use Rattle.std.specs.Prelude.{Result, Ok, Err, OnOk, OnErr}
 use Rattle.sctp_fragments.specs.declared.interval.Entry.{Entry}
 use Rattle.sctp_fragments.specs.declared.interval.Interval.{Interval}
 use Rattle.sctp_fragments.specs.Interval.{held_of, run_of, entries_of}
-use Rattle.sctp_fragments.specs.Held.{Held, rank_of, bytes_of, intervals_of}
+use Rattle.sctp_fragments.specs.Held.{Held, rank_of, intervals_of}
 use Rattle.sctp_fragments.specs.ReassemblyKey.{rank_at}
 use Rattle.sctp_fragments.specs.Runs.{is_held, put_in, with_item}
 use Rattle.sctp_fragments.proofs.PlaceLemmas.{cons, some_run}
@@ -16,6 +16,7 @@ use Rattle.sctp_reassembly.specs.KeyAt.{IsKeyAt}
 use Rattle.sctp_reassembly.proofs.ListLemmas.{intervals_flat}
 use Rattle.sctp_reassembly.proofs.CountLemmas.{put_length}
 
+-- one fragment leaves no place for later intervals
 module _ {K : Type 0} (f : Entry K → Held) where
   pub none_later : (first : Option (Interval K)) (later : List (K × Interval K)) → IsLed first later → length (entries_of f (all_of first later)) ≤ 1 → later ≡ []
   none_later None later led few = led
@@ -28,36 +29,8 @@ module _ {K : Type 0} (is_key : K → Type 0) (number index : K → ℕ) where
   pub nothing_listed : (later : List (K × Interval K)) → later ≡ [] → IsListed is_key number index None later 0 0
   nothing_listed later none = subst (λ (l : List (K × Interval K)). IsListed is_key number index None l 0 0) (sym none) (record { kept = record { runs = tt; named = tt; led = refl; counted = refl; small = tt }; counted = refl })
 
-  pub lone_listed : (i : Interval K) (later : List (K × Interval K)) (bytes : ℕ) → later ≡ [] → IsLone number index i → bytes ≡ bytes_of (run_of (held_of number index) i) → IsListed is_key number index (Some i) later bytes 1
-  lone_listed i later bytes none lone sum = subst (λ (l : List (K × Interval K)). IsListed is_key number index (Some i) l bytes 1) (sym none) (record {
-    kept = record {
-      runs = lone.runs;
-      named = tt;
-      led = tt;
-      counted = sum ∙ ap bytes_of (sym (append-nil (run_of (held_of number index) i)));
-      small = lone.small;
-    };
-    counted = sym lone.one;
-  })
-
-  pub lone_left : (i : Interval K) (later : List (K × Interval K)) (bytes fragments : ℕ) → IsListed is_key number index (Some i) later bytes fragments → length (entries_of (held_of number index) (all_of (Some i) later)) ≤ 1 → bytes < 2 ^ 64
-      → IsLone number index i × (entries_of (held_of number index) (i ∷ []) ≡ entries_of (held_of number index) (all_of (Some i) later))
-  lone_left i later bytes fragments listed few room = go later (none_later (held_of number index) (Some i) later listed.kept.led few) listed few
-    where
-      go : (l : List (K × Interval K)) → l ≡ [] → IsListed is_key number index (Some i) l bytes fragments → length (entries_of (held_of number index) (all_of (Some i) l)) ≤ 1
-          → IsLone number index i × (entries_of (held_of number index) (i ∷ []) ≡ entries_of (held_of number index) (all_of (Some i) l))
-      go [] none listed few = (
-        record {
-          runs = listed.kept.runs;
-          small = listed.kept.small;
-          one = omega (arith, few, some_run (held_of number index) i, length-append (run_of (held_of number index) i) []);
-          room = omega (arith, room, listed.kept.counted);
-        },
-        refl,
-      )
-      go (e ∷ es) none listed few = absurd (cc)
-
-  -- its interval, and the key of that
+module _ {K : Type 0} (number index : K → ℕ) where
+  -- the only interval of a single fragment, and its key
   pub lone_is : (i : Interval K) → IsLone number index i → (front back : List (List Held)) (r : List Held) → intervals_of (entries_of (held_of number index) (i ∷ [])) ≡ front ++ r ∷ back → run_of (held_of number index) i ≡ r
   lone_is i lone front back r runs = go front (sym (intervals_flat (run_of (held_of number index) i ∷ []) lone.runs) ∙ runs)
     where
@@ -80,7 +53,7 @@ module _ {K : Type 0} (is_key : K → Type 0) (number index : K → ℕ) where
         begins = ap rank_of (first c.head c.tail c.is);
       }
 
--- no fragment goes where one comes
+-- where a fragment comes, or fails to, none goes
 pub keeps_length : {T E : Type 0} (r : Result T E) (x : Held) (old new : List Held) → OnOk r (new ≡ with_item rank_of x old) → OnErr r (new ≡ old) → length old ≤ length new
 keeps_length (Ok v) x old new ok err = go (is_held rank_of (rank_of x) old) (ap length ok)
   where

@@ -48,32 +48,6 @@ impl<K: ReassemblyKey> Model for IntervalList<K> {
     ghost invariant = { λ s. IsListState K.number K.index s.state };
 }
 
-/// All fragments of a list, which has none then.
-fn take_all<K: ReassemblyKey>(alloc: Global, state: &mut ListState<K>) -> IntervalMap<K>
-    requires { IsListState K.number K.index state.old }
-    ensures value { result ≡ held_in (held_of K.number K.index) state.old }
-    ensures empty { held_in (held_of K.number K.index) state.new ≡ [] }
-    ensures state { IsListState K.number K.index state.new }
-{
-    match std::mem::replace(state, ListState::Empty) {
-        ListState::Empty => IntervalMap::new(alloc),
-        ListState::Lone(interval) => IntervalMap::of(alloc, interval),
-        ListState::Many(map) => Box::into_inner(map),
-    }
-}
-
-/// A list of at most one fragment, that of the map.
-fn few<K: ReassemblyKey>(map: &mut IntervalMap<K>) -> ListState<K>
-    requires { length map.old ≤ 1 }
-    ensures value { held_in (held_of K.number K.index) result ≡ map.old }
-    ensures state { IsListState K.number K.index result }
-{
-    match map.take_lone() {
-        Some(interval) => ListState::Lone(interval),
-        None => ListState::Empty,
-    }
-}
-
 /// Lets the map go where it has at most one fragment.
 fn narrow<K: ReassemblyKey>(state: &mut ListState<K>)
     requires { IsLeft K.number K.index state.old }
@@ -83,60 +57,11 @@ fn narrow<K: ReassemblyKey>(state: &mut ListState<K>)
     let ListState::Many(map) = state else {
         return;
     };
-    if map.held_fragments() > 1 {
+    if map.sums().1 > 1 {
         return;
     }
-    let left = few(map);
+    let left = map.take_few();
     *state = left;
-}
-
-/// Adds the fragment to none.
-fn add_first<K: ReassemblyKey>(
-    alloc: Global,
-    state: &mut ListState<K>,
-    key: K,
-    fragment: Data,
-) -> Result<bool, AllocError>
-    requires empty { held_in (held_of K.number K.index) state.old ≡ [] }
-    requires state { IsListState K.number K.index state.old }
-    ensures value { OnOk result (held_in (held_of K.number K.index) state.new ≡ with_item rank_of (as_held (K.number key) (K.index key) fragment) (held_in (held_of K.number K.index) state.old)) }
-    ensures answer { IfOk result (λ is_new. is_new ≡ not (is_held rank_of (rank_at K.number K.index key) (held_in (held_of K.number K.index) state.old))) }
-    ensures place { IfOk result (λ is_new. is_new ≡ true → IsPlaced (held_in (held_of K.number K.index) state.old) (held_in (held_of K.number K.index) state.new) (as_held (K.number key) (K.index key) fragment)) }
-    ensures bytes { bytes_of (held_in (held_of K.number K.index) state.new) ≤ bytes_of (held_in (held_of K.number K.index) state.old) + length fragment.payload.items }
-    ensures fragments { length (held_in (held_of K.number K.index) state.new) ≤ length (held_in (held_of K.number K.index) state.old) + 1 }
-    ensures err { OnErr result (held_in (held_of K.number K.index) state.new ≡ held_in (held_of K.number K.index) state.old) }
-    ensures state { IsListState K.number K.index state.new }
-{
-    let mut map = IntervalMap::new(alloc);
-    let is_new = map.add(key, fragment)?;
-    *state = few(&mut map);
-    Ok(is_new)
-}
-
-/// Adds the fragment to another one, in a map.
-fn add_second<K: ReassemblyKey>(
-    alloc: Global,
-    state: &mut ListState<K>,
-    key: K,
-    fragment: Data,
-) -> Result<bool, AllocError>
-    requires room { bytes_of (held_in (held_of K.number K.index) state.old) + length fragment.payload.items < 2 ^ 64 }
-    requires fragments { length (held_in (held_of K.number K.index) state.old) + 1 < 2 ^ 64 }
-    requires state { IsListState K.number K.index state.old }
-    ensures value { OnOk result (held_in (held_of K.number K.index) state.new ≡ with_item rank_of (as_held (K.number key) (K.index key) fragment) (held_in (held_of K.number K.index) state.old)) }
-    ensures answer { IfOk result (λ is_new. is_new ≡ not (is_held rank_of (rank_at K.number K.index key) (held_in (held_of K.number K.index) state.old))) }
-    ensures place { IfOk result (λ is_new. is_new ≡ true → IsPlaced (held_in (held_of K.number K.index) state.old) (held_in (held_of K.number K.index) state.new) (as_held (K.number key) (K.index key) fragment)) }
-    ensures bytes { bytes_of (held_in (held_of K.number K.index) state.new) ≤ bytes_of (held_in (held_of K.number K.index) state.old) + length fragment.payload.items }
-    ensures fragments { length (held_in (held_of K.number K.index) state.new) ≤ length (held_in (held_of K.number K.index) state.old) + 1 }
-    ensures err { OnErr result (held_in (held_of K.number K.index) state.new ≡ held_in (held_of K.number K.index) state.old) }
-    ensures state { IsListState K.number K.index state.new }
-{
-    let mut map = Box::new(alloc, IntervalMap::new(alloc))?;
-    *map = take_all(alloc, state);
-    let added = map.add(key, fragment);
-    *state = ListState::Many(map);
-    narrow(state);
-    added
 }
 
 impl<K: ReassemblyKey> IntervalList<K> {
@@ -184,7 +109,7 @@ impl<K: ReassemblyKey> IntervalList<K> {
         match &self.state {
             ListState::Empty => 0,
             ListState::Lone(interval) => interval.total_bytes(),
-            ListState::Many(map) => map.total_bytes(),
+            ListState::Many(map) => map.sums().0,
         }
     }
 
@@ -195,7 +120,7 @@ impl<K: ReassemblyKey> IntervalList<K> {
         match &self.state {
             ListState::Empty => 0,
             ListState::Lone(_) => 1,
-            ListState::Many(map) => map.held_fragments(),
+            ListState::Many(map) => map.sums().1,
         }
     }
 
@@ -240,14 +165,27 @@ impl<K: ReassemblyKey> IntervalList<K> {
         ensures err { OnErr result (self.new ≡ self.old) }
     {
         match &mut self.state {
-            ListState::Empty => add_first(self.alloc, &mut self.state, key, fragment),
+            ListState::Many(map) => map.add(key, fragment),
+            ListState::Empty => {
+                let mut map = IntervalMap::new(self.alloc);
+                let is_new = map.add(key, fragment)?;
+                self.state = map.take_few();
+                Ok(is_new)
+            }
             ListState::Lone(interval) => {
                 if has_key(interval, key) {
                     return Ok(false);
                 }
-                add_second(self.alloc, &mut self.state, key, fragment)
+                let mut map = Box::new(self.alloc, IntervalMap::new(self.alloc))?;
+                *map = IntervalMap::of(
+                    self.alloc,
+                    std::mem::replace(&mut self.state, ListState::Empty),
+                );
+                let added = map.add(key, fragment);
+                self.state = ListState::Many(map);
+                narrow(&mut self.state);
+                added
             }
-            ListState::Many(map) => map.add(key, fragment),
         }
     }
 
@@ -276,9 +214,12 @@ impl<K: ReassemblyKey> IntervalList<K> {
             narrow(&mut self.state);
             return popped;
         }
-        let mut map = take_all(self.alloc, &mut self.state);
+        let mut map = IntervalMap::of(
+            self.alloc,
+            std::mem::replace(&mut self.state, ListState::Empty),
+        );
         let popped = map.pop_if_complete(key);
-        self.state = few(&mut map);
+        self.state = map.take_few();
         popped
     }
 
@@ -296,9 +237,12 @@ impl<K: ReassemblyKey> IntervalList<K> {
             narrow(&mut self.state);
             return popped;
         }
-        let mut map = take_all(self.alloc, &mut self.state);
+        let mut map = IntervalMap::of(
+            self.alloc,
+            std::mem::replace(&mut self.state, ListState::Empty),
+        );
         let popped = map.pop_front_if_complete_and(number);
-        self.state = few(&mut map);
+        self.state = map.take_few();
         popped
     }
 
@@ -306,10 +250,9 @@ impl<K: ReassemblyKey> IntervalList<K> {
     pub(crate) fn begins_below(&self, key: K) -> bool
         ensures { result ≡ false → from_rank rank_of (rank_at K.number K.index key) self.now ≡ self.now }
     {
-        match &self.state {
-            ListState::Empty => false,
-            ListState::Lone(interval) => is_before(interval.first().key, key),
-            ListState::Many(map) => map.begins_below(key),
+        match self.first() {
+            Some(first) => is_before(first, key),
+            None => false,
         }
     }
 
@@ -325,8 +268,11 @@ impl<K: ReassemblyKey> IntervalList<K> {
             narrow(&mut self.state);
             return;
         }
-        let mut map = take_all(self.alloc, &mut self.state);
+        let mut map = IntervalMap::of(
+            self.alloc,
+            std::mem::replace(&mut self.state, ListState::Empty),
+        );
         map.retain(key);
-        self.state = few(&mut map);
+        self.state = map.take_few();
     }
 }

@@ -1,11 +1,12 @@
 //! Intervals in the order of their keys, with the sums of their fragments.
 
-ghost use Rattle.std.specs.Prelude.{◌≡◌, ◌==◌, ◌+◌, ◌<◌, ◌≤◌, ◌^◌, ◌++◌, ◌∷◌, [], not, List, true, false, length, option_map, IfOk, OnOk, OnErr, IfSome, IfNone};
+ghost use Rattle.std.specs.Prelude.{◌≡◌, ◌+◌, ◌<◌, ◌≤◌, ◌^◌, ◌++◌, ◌∷◌, [], not, List, true, false, length, option_map, IfOk, OnOk, OnErr, IfSome, IfNone};
 
 use crate::counted::key_at;
 use crate::dropped::{all_sums_of, ends_below, take_low};
+use crate::interval_list::ListState;
 use crate::places::{
-    add_to, begins_below, drop_first, first_key, interval_with, take_if_complete, take_in_turn,
+    add_to, begins_below, drop_first, interval_with, take_if_complete, take_in_turn,
 };
 use sctp_chunk::Data;
 use sctp_fragments::{Entry, Interval, ReassemblyKey};
@@ -45,10 +46,10 @@ impl<K: ReassemblyKey> IntervalMap<K> {
     ghost use Rattle.sctp_fragments.specs.Runs.{is_held, with_item, from_rank};
     ghost use Rattle.sctp_fragments.specs.Held.{Held, rank_of, intervals_of, bytes_of, is_complete, NoneComplete, is_in_turn, without_first_of, left_by, IsPlaced, IsTaken};
     ghost use Rattle.sctp_fragments.specs.ReassemblyKey.{rank_at};
-    ghost use Rattle.sctp_fragments.specs.Interval.{as_held, held_of, run_of, entries_of};
+    ghost use Rattle.sctp_fragments.specs.Interval.{as_held, held_of, run_of};
     ghost use Rattle.sctp_reassembly.specs.UnorderedByTsn.{BeginsFrom};
     ghost use Rattle.sctp_reassembly.specs.KeyAt.{IsKeyAt};
-    ghost use Rattle.sctp_reassembly.specs.ListState.{IsLone};
+    ghost use Rattle.sctp_reassembly.specs.ListState.{held_in, IsListState};
 
     /// No fragments. Takes no memory.
     pub fn new(alloc: Global) -> IntervalMap<K>
@@ -63,11 +64,16 @@ impl<K: ReassemblyKey> IntervalMap<K> {
         }
     }
 
-    /// A single fragment. Takes no memory.
-    pub fn of(alloc: Global, interval: Interval<K>) -> IntervalMap<K>
-        requires { IsLone K.number K.index interval }
-        ensures { result ≡ entries_of (held_of K.number K.index) (interval ∷ []) }
+    /// The fragments of a list. Takes no memory.
+    pub fn of(alloc: Global, state: ListState<K>) -> IntervalMap<K>
+        requires { IsListState K.number K.index state }
+        ensures { result ≡ held_in (held_of K.number K.index) state }
     {
+        let interval = match state {
+            ListState::Empty => return IntervalMap::new(alloc),
+            ListState::Lone(interval) => interval,
+            ListState::Many(map) => return Box::into_inner(map),
+        };
         let bytes = interval.total_bytes();
         IntervalMap {
             alloc,
@@ -78,16 +84,26 @@ impl<K: ReassemblyKey> IntervalMap<K> {
         }
     }
 
-    /// Takes the fragment out, of one at most.
-    pub fn take_lone(&mut self) -> Option<Interval<K>>
+    /// Takes all out, of one fragment at most.
+    pub fn take_few(&mut self) -> ListState<K>
         requires { length self.old ≤ 1 }
-        ensures some { IfSome result (λ i. IsLone K.number K.index i) }
-        ensures value { IfSome result (λ i. entries_of (held_of K.number K.index) (i ∷ []) ≡ self.old) }
-        ensures none { IfNone result (self.old ≡ []) }
+        ensures value { held_in (held_of K.number K.index) result ≡ self.old }
+        ensures state { IsListState K.number K.index result }
     {
         self.bytes = 0;
         self.fragments = 0;
-        self.first.take()
+        match self.first.take() {
+            Some(interval) => ListState::Lone(interval),
+            None => ListState::Empty,
+        }
+    }
+
+    /// How many bytes of payload, and how many fragments it holds.
+    pub fn sums(&self) -> (usize, usize)
+        ensures bytes { result.0 ≡ bytes_of self.now }
+        ensures fragments { result.1 ≡ length self.now }
+    {
+        (self.bytes, self.fragments)
     }
 
     /// The key of the first fragment.
@@ -95,21 +111,10 @@ impl<K: ReassemblyKey> IntervalMap<K> {
         ensures some { IfSome result (λ k. BeginsFrom (rank_at K.number K.index k) self.now) }
         ensures none { IfNone result (self.now ≡ []) }
     {
-        first_key(&self.first)
-    }
-
-    /// How many bytes of payload it holds.
-    pub fn total_bytes(&self) -> usize
-        ensures { result ≡ bytes_of self.now }
-    {
-        self.bytes
-    }
-
-    /// How many fragments it holds.
-    pub fn held_fragments(&self) -> usize
-        ensures { result ≡ length self.now }
-    {
-        self.fragments
+        match &self.first {
+            Some(interval) => Some(interval.first().key),
+            None => None,
+        }
     }
 
     /// How many intervals it has.
@@ -193,20 +198,6 @@ impl<K: ReassemblyKey> IntervalMap<K> {
         Some(interval)
     }
 
-    /// Whether a fragment is before the key; else there is nothing to drop.
-    pub fn begins_below(&self, key: K) -> bool
-        ensures { result ≡ false → from_rank rank_of (rank_at K.number K.index key) self.now ≡ self.now }
-    {
-        begins_below(&self.first, key)
-    }
-
-    /// Whether all fragments are before the key.
-    fn ends_below(&self, key: K) -> bool
-        ensures { result ≡ true → from_rank rank_of (rank_at K.number K.index key) self.now ≡ [] }
-    {
-        ends_below(&self.first, &self.later, key)
-    }
-
     /// Drops intervals that are before the key, by one cut: of those that begin before it at most two stay.
     fn drop_low(&mut self, key: K)
         ensures same { from_rank rank_of (rank_at K.number K.index key) self.new ≡ from_rank rank_of (rank_at K.number K.index key) self.old }
@@ -243,7 +234,7 @@ impl<K: ReassemblyKey> IntervalMap<K> {
         ensures bytes { bytes_of self.new ≤ bytes_of self.old }
         ensures fragments { length self.new ≤ length self.old }
     {
-        if self.ends_below(key) {
+        if ends_below(&self.first, &self.later, key) {
             *self = IntervalMap::new(self.alloc);
             return;
         }

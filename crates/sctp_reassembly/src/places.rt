@@ -15,17 +15,6 @@ use sctp_fragments::{Entries, Entry, Interval, ReassemblyKey, goes_on_to, is_bef
 use std::alloc::{AllocError, Global};
 use std::collections::BTreeMap;
 
-/// The key of the first fragment.
-pub(crate) fn first_key<K: ReassemblyKey>(first: &Option<Interval<K>>) -> Option<K>
-    ensures some { IfSome result (λ k. (later : List (K × Interval K)) (e : Held) (es : List Held) (rs : List (List Held)) → lists_of (held_of K.number K.index) (all_of first.now later) ≡ (e ∷ es) ∷ rs → rank_at K.number K.index k ≡ rank_of e) }
-    ensures none { IfNone result (first.now ≡ None) }
-{
-    match first {
-        Some(interval) => Some(interval.first().key),
-        None => None,
-    }
-}
-
 /// Whether the first fragment is before the key.
 pub(crate) fn begins_below<K: ReassemblyKey>(first: &Option<Interval<K>>, key: K) -> bool
     ensures { (later : List (K × Interval K)) → IsLed first.now later → result ≡ first_below (rank_at K.number K.index key) (lists_of (held_of K.number K.index) (all_of first.now later)) }

@@ -18,14 +18,14 @@ returns-then-has_key g c front back r runs held =
     let lone = subst (IsListState g.K.ReassemblyKey.number g.K.ReassemblyKey.index) c.in-Lone.is c.self.invariant in
     let view = sym (ap (held_in (held_of g.K.ReassemblyKey.number g.K.ReassemblyKey.index)) c.in-Lone.is) ∙ c.self.view_is in
     c.is_in_turn.ensures
-    ∙ ap (is_in_turn c.args.number) (lone_is g.K.ReassemblyKey.is_key g.K.ReassemblyKey.number g.K.ReassemblyKey.index c.in-Lone.interval lone front back r (ap intervals_of view ∙ runs))
+    ∙ ap (is_in_turn c.args.number) (lone_is g.K.ReassemblyKey.number g.K.ReassemblyKey.index c.in-Lone.interval lone front back r (ap intervals_of view ∙ runs))
 
 pub returns-else-has_key : goal.returns-else-has_key
 returns-else-has_key g c front back r runs held =
     let n = rank_at g.K.ReassemblyKey.number g.K.ReassemblyKey.index c.args.key in
     let lone = subst (IsListState g.K.ReassemblyKey.number g.K.ReassemblyKey.index) c.in-Lone.is c.self.invariant in
     let view = sym (ap (held_in (held_of g.K.ReassemblyKey.number g.K.ReassemblyKey.index)) c.in-Lone.is) ∙ c.self.view_is in
-    let is = lone_is g.K.ReassemblyKey.is_key g.K.ReassemblyKey.number g.K.ReassemblyKey.index c.in-Lone.interval lone front back r (ap intervals_of view ∙ runs) in
+    let is = lone_is g.K.ReassemblyKey.number g.K.ReassemblyKey.index c.in-Lone.interval lone front back r (ap intervals_of view ∙ runs) in
     let here : c.has_key.result ≡ true = c.has_key.ensures None [] lone.runs ∙ (ap (is_held rank_of n) is ∙ held) in
     absurd (apart (sym c.if-has_key.false ∙ here))
   where

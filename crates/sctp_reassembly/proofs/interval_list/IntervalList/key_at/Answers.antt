@@ -13,4 +13,4 @@ returns-else-place-gt0-clause-some g c =
     let view = sym (ap (held_in (held_of g.K.ReassemblyKey.number g.K.ReassemblyKey.index)) c.in-Lone.is) ∙ c.self.view_is in
     let zero : c.args.place ≡ 0 = search rules in
     subst (λ v. IsKeyAt (rank_at g.K.ReassemblyKey.number g.K.ReassemblyKey.index c.first.result.now.key) c.args.place (intervals_of v)) view
-    (lone_key g.K.ReassemblyKey.is_key g.K.ReassemblyKey.number g.K.ReassemblyKey.index c.in-Lone.interval c.first.result.now c.args.place lone zero c.first.ensures)
+    (lone_key g.K.ReassemblyKey.number g.K.ReassemblyKey.index c.in-Lone.interval c.first.result.now c.args.place lone zero c.first.ensures)

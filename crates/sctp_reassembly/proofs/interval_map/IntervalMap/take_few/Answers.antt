@@ -3,7 +3,7 @@ use Rattle.sctp_fragments.specs.Interval.{held_of, entries_of}
 use Rattle.sctp_reassembly.specs.Places.{all_of}
 use Rattle.sctp_reassembly.specs.Listed.{IsListed}
 use Rattle.sctp_reassembly.proofs.ListStateLemmas.{none_later, nothing_listed}
-use Rattle.sctp_reassembly.proofs.interval_map.IntervalMap.take_lone.Goals as goal
+use Rattle.sctp_reassembly.proofs.interval_map.IntervalMap.take_few.Goals as goal
 
 pub invariant_of-self : goal.invariant_of-self
 invariant_of-self g c =
