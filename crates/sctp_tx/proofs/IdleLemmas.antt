@@ -21,11 +21,11 @@ record Idle (s : Sender) (q : Queue) : Type 0 where
   begun : q.begun ≡ None
   times : q.scheduler.times ≡ []
 
-none_of : {T : Type 0} (l : List T) → length l == 0 ≡ true → l ≡ []
+pub none_of : {T : Type 0} (l : List T) → length l == 0 ≡ true → l ≡ []
 none_of [] e = refl
 none_of (x ∷ l) e = grind (arith, nat_tests)
 
-no_one : {T : Type 0} (x : Option T) → is_some x ≡ false → x ≡ None
+pub no_one : {T : Type 0} (x : Option T) → is_some x ≡ false → x ≡ None
 no_one None e = refl
 no_one (Some x) e = absurd (cc)
 
@@ -44,7 +44,7 @@ none_made : {P : Type 0} (now size : ℕ) (q : Queue) (emitted : Emitted P) → 
 none_made now size q emitted begun times = rw (begun, times) refl
 
 module _ {P : Type 0} (now : ℕ) where
-  idle_turn : (b : Bool) (x : Filling P) → x.queue.begun ≡ None → x.queue.scheduler.times ≡ [] → queue_step_if b now x ≡ record { filling = x; is_more = false }
+  pub idle_turn : (b : Bool) (x : Filling P) → x.queue.begun ≡ None → x.queue.scheduler.times ≡ [] → queue_step_if b now x ≡ record { filling = x; is_more = false }
   idle_turn false x begun times = refl
   idle_turn true x begun times = rw (none_made now (offered_payload x.left x.sender) x.queue x.emitted begun times) refl
 

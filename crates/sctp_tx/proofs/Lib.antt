@@ -5,4 +5,5 @@ pub mod IdleLemmas
 pub mod PartlyLemmas
 pub mod SendingLemmas
 pub mod TakenLemmas
+pub mod TurnLemmas
 pub mod UnfinishedLemmas
