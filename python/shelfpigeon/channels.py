@@ -84,7 +84,9 @@ class Channel:
 class Channels(End):
     """A socket with data channels.
 
-    A turn: `advance_time`; `handle_input` for each packet that came, and what is opened, sent and closed; all `events`; `poll_timeout`.
+    A turn: `advance_time`; `handle_input` for each packet that came, and what is opened, sent and closed; all `events`; `next_given_up` until it
+    answers None; `poll_timeout`. What isn't taken piles up.
+
     `max_message_size` is one's own a=max-message-size, `peer_max_message_size` the peer's, 65,536 where it says none: at 0 any is sent. At an own 0
     only empty messages are taken."""
 
