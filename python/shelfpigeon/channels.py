@@ -2,6 +2,7 @@
 """Data channels over a socket (RFC 8831, RFC 8832)."""
 from __future__ import annotations
 
+from collections import deque
 from collections.abc import Iterator
 from ctypes import byref, c_size_t, c_uint32, create_string_buffer, sizeof
 from typing import Optional, Union
@@ -102,6 +103,7 @@ class Channels(End):
     ):
         super().__init__(options, seed=seed)
         self._channels: dict[int, Channel] = {}
+        self._taken: deque[ChannelsEvent] = deque()
         self.role = Role(role)
         given = ChannelsOptionsStruct(
             role=role,
@@ -127,6 +129,7 @@ class Channels(End):
     ) -> Channel:
         """Opens a channel, by which messages may be sent at once. `lifetime` is in milliseconds. `priority`, 128 to 1,024 (RFC 8831 section 6.4), is
         told to the peer, and its stream has it once all events were taken; 0 leaves the stream's own. The time is to be advanced first."""
+        self._take_ahead()
         options, number = channel_options(ordered, max_retransmissions, lifetime, priority), c_uint32()
         name, spoken = label.encode(), protocol.encode()
         check(
@@ -149,6 +152,7 @@ class Channels(End):
     ) -> Channel:
         """A channel that both ends have agreed on; it is open at once. Its stream has `priority` as by `open`; whether the association
         has it isn't looked at."""
+        self._take_ahead()
         options = channel_options(ordered, max_retransmissions, lifetime, priority)
         name, spoken = label.encode(), protocol.encode()
         check(
@@ -164,6 +168,14 @@ class Channels(End):
 
     def next_event(self) -> Optional[ChannelsEvent]:
         """Takes the event that comes next, of the socket or of its channels, or None."""
+        return self._taken.popleft() if self._taken else self._taken_now()
+
+    def _take_ahead(self) -> None:
+        """Keeps the events that there are for their owner: before a number is another channel's the end of its former one is taken."""
+        while (event := self._taken_now()) is not None:
+            self._taken.append(event)
+
+    def _taken_now(self) -> Optional[ChannelsEvent]:
         kind = self._borrowed(self._library.pigeon_channels_borrow_event_sized)
         if kind is None:
             return None

@@ -301,6 +301,22 @@ def test_an_abort_closes_the_channels(channels):
     assert chat.is_closed and list(a) == list(b) == []
 
 
+@pytest.mark.parametrize("begin", [lambda end: end.open("new"), lambda end: end.negotiate(0, "new")])
+def test_a_number_is_another_channels_before_the_end_of_its_former_one_is_taken(channels, begin):
+    a, b = channels.ends
+    old = a.open("old")
+    channels.settle()
+    b.close()
+    for packet in [it.data for it in b.events() if isinstance(it, events.Packet)]:
+        a.handle_input(packet)
+    new = begin(a)
+    assert (old.id, old.label, old.is_closed) == (0, "old", True) and (new.id, new.label, new.is_closed) == (0, "new", False)
+    told = list(a.events())
+    assert told.count(events.ChannelClosed(old)) == 1 and any(isinstance(it, events.Aborted) for it in told)
+    new.buffered_amount_low_threshold = 100
+    assert list(a) == [new] and new.buffered_amount_low_threshold == 100
+
+
 def test_a_channel_that_ends_before_its_opening_is_taken(channels):
     a, b = channels.ends
     a.open("short")
