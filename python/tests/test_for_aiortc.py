@@ -89,6 +89,19 @@ def test_a_chat(ours):
     asyncio.run(asyncio.wait_for(chat(), 30))
 
 
+def test_channels_that_are_agreed_on_have_their_numbers_before_others_begin():
+    async def begins():
+        a, b = make(True), make(True)
+        made = [end.createDataChannel("chat") for end in (a, b)]
+        agreed = [end.createDataChannel("agreed", negotiated=True, id=number) for end in (a, b) for number in (0, 1)]
+        await join(a, b)
+        await until(lambda: all(it.readyState == "open" for it in made + agreed))
+        assert sorted(it.id for it in made) == [2, 3]
+        await asyncio.gather(a.close(), b.close())
+
+    asyncio.run(asyncio.wait_for(begins(), 30))
+
+
 def test_buffering():
     async def pours():
         a, b = make(True), make(True, options={"max_receiver_window_buffer_size": 1 << 20})
