@@ -165,7 +165,7 @@ class SctpTransport(RTCSctpTransport):
             case events.ChannelMessage(channel, data):
                 self._of[channel].emit("message", data)
             case events.ChannelOpened(channel) if channel in self._of:
-                self._of[channel]._setReadyState("open")
+                self._opened(self._of[channel])
             case events.ChannelOpened(channel):
                 self.emit("datachannel", self._taken(channel))
             case events.ChannelClosed(channel):
@@ -177,12 +177,16 @@ class SctpTransport(RTCSctpTransport):
                 self.emit("statechange")
                 for mine in list(self._plain):
                     if mine.negotiated:
-                        mine._setReadyState("open")
+                        self._opened(mine)
             case events.Closed() | events.Aborted():
                 logger.info("%s", event)
                 self._ended()
             case events.Reported() | events.ChannelRefused() | events.Restarted():
                 logger.info("%s", event)
+
+    def _opened(self, mine: RTCDataChannel) -> None:
+        if mine.readyState == "connecting":  # one that was closed meanwhile stays so
+            mine._setReadyState("open")
 
     def _taken(self, channel: Channel) -> RTCDataChannel:
         """A channel that the peer opened."""

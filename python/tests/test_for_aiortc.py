@@ -102,6 +102,23 @@ def test_channels_that_are_agreed_on_have_their_numbers_before_others_begin():
     asyncio.run(asyncio.wait_for(begins(), 30))
 
 
+def test_a_channel_that_is_closed_at_once_does_not_open():
+    async def closes():
+        a, b = make(True), make(True)
+        first, told = a.createDataChannel("first"), []
+        await join(a, b)
+        await until(lambda: first.readyState == "open")
+        late = a.createDataChannel("late")
+        late.on("open", lambda: told.append("late"))
+        late.close()
+        assert late.readyState == "closing"
+        await until(lambda: late.readyState == "closed")
+        assert told == []
+        await asyncio.gather(a.close(), b.close())
+
+    asyncio.run(asyncio.wait_for(closes(), 30))
+
+
 def test_buffering():
     async def pours():
         a, b = make(True), make(True, options={"max_receiver_window_buffer_size": 1 << 20})
