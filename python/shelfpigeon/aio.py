@@ -44,7 +44,8 @@ def sent_at_most(options: OptionsStruct, peer_max_message_size: int) -> int:
 
 class Driver:
     """Turns of a socket with channels in the running loop: it has the clock, and the timer by `poll_timeout`. `send` takes each packet, `handle` each
-    other event; `turned` is called behind each turn, and `failed` where the socket has too little memory."""
+    other event; `turned` is called behind each turn, and `failed` where the socket has too little memory. What one of these raises goes to the
+    loop's exception handler, and the turn goes on."""
 
     def __init__(
         self,
@@ -96,9 +97,9 @@ class Driver:
         try:
             while not self._stopped and (event := self.channels.next_event()) is not None:
                 if isinstance(event, events.Packet):
-                    self._send(event.data)
+                    self._tell("a packet", self._send, event.data)
                 else:
-                    self._tell(event)
+                    self._tell(type(event).__name__, self._handle, event)
             while not self._stopped and self.channels.next_given_up() is not None:
                 pass  # records are kept until they are taken, and no message of a channel is known by its number
             self._set_timer()
@@ -106,13 +107,13 @@ class Driver:
             self._fail()
         finally:
             self._turning = False
-        self._turned()
+        self._tell("the end of a turn", self._turned)
 
-    def _tell(self, event: events.ChannelsEvent) -> None:
+    def _tell(self, what: str, owner: Callable[..., None], *told) -> None:
         try:
-            self._handle(event)
+            owner(*told)
         except Exception as fault:
-            self._loop.call_exception_handler({"message": f"the owner failed at {type(event).__name__}", "exception": fault})
+            self._loop.call_exception_handler({"message": f"the owner failed at {what}", "exception": fault})
 
     def _set_timer(self) -> None:
         if self._stopped:
@@ -138,7 +139,7 @@ class Driver:
 
     def _fail(self) -> None:
         self.stop()
-        self._failed()
+        self._tell("the end of the socket", self._failed)
 
     def stop(self) -> None:
         """No turn comes any more. The socket is its maker's to free."""

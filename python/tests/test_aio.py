@@ -5,7 +5,7 @@ import random
 
 import pytest
 
-from shelfpigeon import Options, Role, State, aio
+from shelfpigeon import Options, Role, State, aio, events
 
 
 class Memory:
@@ -213,25 +213,41 @@ async def test_nobody_is_there():
         await a.connect()
 
 
-class Records:
-    """Channels that emit nothing, with records of messages given up."""
+class Emitted:
+    """Channels that have emitted packets, with records of messages given up, and a timer."""
 
-    def __init__(self):
-        self.left = 3
+    def __init__(self, packets: int = 0):
+        self.packets, self.left = packets, 3
 
-    def next_event(self) -> None:
-        return None
+    def next_event(self) -> events.Packet | None:
+        self.packets -= 1
+        return events.Packet(b"packet") if self.packets >= 0 else None
 
     def next_given_up(self) -> int | None:
         self.left -= self.left > 0
         return self.left or None
 
-    def poll_timeout(self) -> None:
-        return None
+    def poll_timeout(self) -> int:
+        return 10**9
 
 
 @run
 async def test_records_are_taken_each_turn():
-    channels = Records()
+    channels = Emitted()
     aio.Driver(channels, print, print, print).turn()
     assert channels.left == 0
+
+
+@run
+async def test_a_turn_goes_on_where_the_owner_fails():
+    told = []
+    asyncio.get_running_loop().set_exception_handler(lambda loop, context: told.append(str(context["exception"])))
+
+    def fails(packet: bytes = b"turned"):
+        raise RuntimeError(packet.decode())
+
+    channels = Emitted(packets=2)
+    driver = aio.Driver(channels, fails, print, print, fails)
+    driver.turn()
+    assert told == ["packet", "packet", "turned"] and channels.left == 0 and driver._timer is not None
+    driver.stop()

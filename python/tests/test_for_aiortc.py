@@ -143,6 +143,29 @@ def test_buffering():
     asyncio.run(asyncio.wait_for(pours(), 60))
 
 
+def test_a_handler_that_fails_ends_nothing():
+    async def fails():
+        told = []
+        asyncio.get_running_loop().set_exception_handler(lambda loop, context: told.append(str(context.get("exception"))))
+        a, b = make(True), make(True)
+        channel, came = a.createDataChannel("much"), []
+        b.on("datachannel", lambda it: it.on("message", came.append))
+        await join(a, b)
+        await until(lambda: channel.readyState == "open")
+
+        @channel.on("bufferedamountlow")
+        def low():
+            raise RuntimeError("the handler's")
+
+        channel.send(bytes(200000))
+        await until(lambda: told == ["the handler's"])
+        channel.send("there")
+        await until(lambda: "there" in came)
+        await asyncio.gather(a.close(), b.close())
+
+    asyncio.run(asyncio.wait_for(fails(), 30))
+
+
 def test_channels_that_cannot_be():
     async def tries():
         a = make(True)
