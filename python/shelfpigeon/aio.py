@@ -22,7 +22,7 @@ from . import events
 from .channels import Channel as PlainChannel
 from .channels import Channels
 from .declarations import OptionsStruct
-from .names import Role, SocketFailed, State
+from .names import NoChannel, Role, SocketFailed, State
 from .sockets import Options
 
 logger = logging.getLogger(__name__)
@@ -195,7 +195,7 @@ class Channel:
         self._alive()
 
     async def send(self, message: Union[str, bytes]) -> None:
-        """Sends text or bytes, once less than `high_water` is buffered."""
+        """Sends text or bytes, once less than `high_water` is buffered. ChannelClosed: the channel is closed, or being closed."""
         self._alive()
         while self._channel.buffered_amount >= self._connection.high_water:
             self._room.clear()
@@ -203,7 +203,10 @@ class Channel:
             await self._room.wait()
             self._alive()
         self._connection._driver.advance()
-        self._channel.send(message)
+        try:
+            self._channel.send(message)
+        except NoChannel:
+            raise self._gone() from None
         self._connection._driver.soon()
 
     async def receive(self) -> Union[str, bytes]:
@@ -236,7 +239,10 @@ class Channel:
 
     def _alive(self) -> None:
         if self._closed.is_set():
-            raise ChannelClosed(f"channel {self.id} is closed")
+            raise self._gone()
+
+    def _gone(self) -> ChannelClosed:
+        return ChannelClosed(f"channel {self.id} is closed")
 
     def _end(self) -> None:
         for it in (self._closed, self._news, self._room, self._opened):

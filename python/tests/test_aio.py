@@ -76,6 +76,23 @@ async def test_messages_go_and_come():
 
 
 @run
+async def test_a_channel_that_is_being_closed_sends_nothing():
+    a, b = await pair()
+    mine = a.open("chat")
+    theirs = await b.accept()
+    theirs.close()
+    with pytest.raises(aio.ChannelClosed):
+        await theirs.send("late")
+    with pytest.raises(aio.ChannelClosed):
+        while True:
+            await mine.send("late")
+            await asyncio.sleep(0)
+    assert not mine._closed.is_set()  # that comes a round trip later
+    await asyncio.gather(mine.wait_closed(), theirs.wait_closed())
+    await asyncio.gather(a.close(), b.close())
+
+
+@run
 async def test_timers_run_where_packets_are_lost():
     a, b = await pair(0.1)
     channel = a.negotiate(5)
