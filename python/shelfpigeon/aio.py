@@ -16,6 +16,7 @@ import socket
 import time
 from collections import deque
 from collections.abc import AsyncIterator, Callable
+from contextlib import suppress
 from typing import Optional, Protocol, Union
 
 from . import events
@@ -162,7 +163,7 @@ class Wire(Protocol):
 
 
 class ChannelClosed(ConnectionError):
-    """The channel has been closed. Where `receive` says so, all that came was received."""
+    """The channel has been closed. Where `receive` says so, all that came was received, or this end has closed it."""
 
 
 class Channel:
@@ -178,7 +179,11 @@ class Channel:
         self._room = asyncio.Event()
         self._opened = asyncio.Event()
         self._closed = asyncio.Event()
+        self._left = False
         channel.buffered_amount_low_threshold = connection.high_water // 2
+
+    def __del__(self):
+        self._connection._forget(self._let_go())
 
     id = property(lambda self: self._channel.id)
     label = property(lambda self: self._channel.label)
@@ -216,7 +221,7 @@ class Channel:
             self._news.clear()
             await self._news.wait()
         message = self._came.popleft()
-        self._connection._read(message)
+        self._connection._read(len(message))
         return message
 
     async def __aiter__(self) -> AsyncIterator[Union[str, bytes]]:
@@ -228,11 +233,15 @@ class Channel:
             yield message
 
     def close(self) -> None:
-        """Closes the channel, behind what was sent."""
+        """Closes the channel, behind what was sent. What came and wasn't received is dropped, and so is what still comes. To be called also where the
+        peer has closed it, unless all that came is received: what isn't counts against `read_limit` as long as the channel is kept."""
         if not self._closed.is_set():
             self._connection._driver.advance()
-            self._channel.close()
+            with suppress(NoChannel):  # the association has ended, which is still to be told
+                self._channel.close()
             self._connection._driver.soon()
+        self._left = True
+        self._connection._read(self._let_go())
 
     async def wait_closed(self) -> None:
         await self._closed.wait()
@@ -244,6 +253,12 @@ class Channel:
     def _gone(self) -> ChannelClosed:
         return ChannelClosed(f"channel {self.id} is closed")
 
+    def _let_go(self) -> int:
+        """Drops what came and wasn't received, and answers how many bytes that were."""
+        size = sum(map(len, self._came))
+        self._came.clear()
+        return size
+
     def _end(self) -> None:
         for it in (self._closed, self._news, self._room, self._opened):
             it.set()
@@ -254,7 +269,9 @@ class Connection:
 
     Each channel buffers `high_water` bytes, then `Channel.send` waits. With `read_limit` bytes that came and weren't received the wire is told to
     pause: what it then drops the peer sends again, and slower. Without `options` the window is twice `max_message_size`, which is what the peer may
-    send, and as long a message may be sent, 262,144 bytes at least, where `peer_max_message_size` allows it."""
+    send, and as long a message may be sent, 262,144 bytes at least, where `peer_max_message_size` allows it.
+
+    So who takes what the peer opens by `accept`, and closes what isn't read to its end, isn't held up by it."""
 
     def __init__(
         self,
@@ -378,6 +395,8 @@ class Connection:
         match event:
             case events.ChannelMessage(channel, data):
                 mine = self._channel_of(channel)
+                if mine._left:
+                    return
                 mine._came.append(data)
                 mine._news.set()
                 self._unread += len(data)
@@ -409,11 +428,17 @@ class Connection:
                 self._held_back.discard(channel)
                 channel._room.set()
 
-    def _read(self, message: Union[str, bytes]) -> None:
-        self._unread -= len(message)
+    def _read(self, size: int) -> None:
+        self._unread -= size
         if self._paused and self._unread <= self.read_limit // 2:
             self._paused = False
             self._wire.resume_reading()
+
+    def _forget(self, size: int) -> None:
+        """As `_read`, of a channel that is collected, in whichever thread."""
+        if size:
+            with suppress(RuntimeError):  # the loop has ended
+                self._driver._loop.call_soon_threadsafe(self._read, size)
 
     def _end(self) -> None:
         self._driver.stop()

@@ -174,6 +174,51 @@ async def test_who_does_not_read_has_the_wire_paused():
     await asyncio.gather(a.close(), b.close())
 
 
+async def fill(channel: aio.Channel, other: aio.Connection) -> asyncio.Future:
+    """Sends until the other end has paused its wire."""
+    sending = asyncio.gather(*[channel.send(bytes(20000)) for _ in range(20)])
+    while not other._wire.paused:
+        await asyncio.sleep(0.005)
+    return sending
+
+
+@run
+async def test_a_channel_that_is_left_holds_up_nothing():
+    a, b = await pair(read_limit=200000)
+    left, other = a.open("left"), a.open("other")
+    await left.send("first")
+    theirs = await b.accept()
+    assert await theirs.receive() == "first"
+    sending = await fill(left, b)
+    theirs.close()
+    assert b._unread == 0 and not b._wire.paused
+    await asyncio.gather(sending, left.wait_closed())
+    await other.send("there")
+    assert await (await b.accept()).receive() == "there" and b._unread == 0
+    await asyncio.gather(a.close(), b.close())
+
+
+@run
+async def test_what_came_before_the_peer_closed_is_received_or_goes_with_the_channel():
+    a, b = await pair(read_limit=200000)
+    for label in ("received", "closed", "dropped"):
+        mine = a.open(label)
+        await asyncio.gather(mine.send("one"), mine.send("two"))
+        mine.close()
+        theirs = await b.accept()
+        await theirs.wait_closed()
+        assert b._unread > 0
+        if label == "received":
+            assert [it async for it in theirs] == ["one", "two"]
+        elif label == "closed":
+            theirs.close()
+            assert [it async for it in theirs] == []
+        del theirs
+        await asyncio.sleep(0.01)
+        assert b._unread == 0
+    await asyncio.gather(a.close(), b.close())
+
+
 @run
 async def test_all_that_iterates_ends_with_the_connection():
     a, b = await pair()
