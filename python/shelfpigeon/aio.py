@@ -29,6 +29,7 @@ from .sockets import Options
 logger = logging.getLogger(__name__)
 Address = tuple[str, int]
 LARGEST = 262144
+MOST_TO_ACCEPT = 1024
 
 
 def options_for(max_message_size: int, /, **fields: int) -> Options:
@@ -41,6 +42,11 @@ def options_for(max_message_size: int, /, **fields: int) -> Options:
 def sent_at_most(options: OptionsStruct, peer_max_message_size: int) -> int:
     """The most bytes of a message that both the socket and the peer, who takes any at 0, let go."""
     return min(peer_max_message_size or options.max_message_size, options.max_message_size)
+
+
+def size_of(message: Union[str, bytes]) -> int:
+    """What a message that came counts: an empty one takes memory too."""
+    return len(message) + 64
 
 
 class Driver:
@@ -221,7 +227,7 @@ class Channel:
             self._news.clear()
             await self._news.wait()
         message = self._came.popleft()
-        self._connection._read(len(message))
+        self._connection._read(size_of(message))
         return message
 
     async def __aiter__(self) -> AsyncIterator[Union[str, bytes]]:
@@ -254,8 +260,8 @@ class Channel:
         return ChannelClosed(f"channel {self.id} is closed")
 
     def _let_go(self) -> int:
-        """Drops what came and wasn't received, and answers how many bytes that were."""
-        size = sum(map(len, self._came))
+        """Drops what came and wasn't received, and answers what it counted."""
+        size = sum(map(size_of, self._came))
         self._came.clear()
         return size
 
@@ -267,11 +273,12 @@ class Channel:
 class Connection:
     """An association with data channels over a wire. `packet_received` takes what comes by it.
 
-    Each channel buffers `high_water` bytes, then `Channel.send` waits. With `read_limit` bytes that came and weren't received the wire is told to
-    pause: what it then drops the peer sends again, and slower. Without `options` the window is twice `max_message_size`, which is what the peer may
-    send, and as long a message may be sent, 262,144 bytes at least, where `peer_max_message_size` allows it.
+    Each channel buffers `high_water` bytes, then `Channel.send` waits. With `read_limit` bytes that came and weren't received, where each message
+    counts 64 more, the wire is told to pause: what it then drops the peer sends again, and slower. So the channels that the peer opens are to be
+    accepted, and those that aren't read any more closed. While 1,024 wait to be accepted the next ones are closed.
 
-    So who takes what the peer opens by `accept`, and closes what isn't read to its end, isn't held up by it."""
+    Without `options` the window is twice `max_message_size`, which is what the peer may send, and as long a message may be sent, 262,144 bytes at
+    least, where `peer_max_message_size` allows it."""
 
     def __init__(
         self,
@@ -399,14 +406,13 @@ class Connection:
                     return
                 mine._came.append(data)
                 mine._news.set()
-                self._unread += len(data)
+                self._unread += size_of(data)
                 if self._unread > self.read_limit and not self._paused:
                     self._paused = True
                     self._wire.pause_reading()
             case events.ChannelOpened(channel):
                 if channel not in self._channels:
-                    self._accepted.append(self._channel_of(channel))
-                    self._news.set()
+                    self._offer(self._channel_of(channel))
                 self._channels[channel]._opened.set()
             case events.ChannelBufferedAmountLow(channel):
                 self._channel_of(channel)._room.set()
@@ -420,6 +426,13 @@ class Connection:
                 self._end()
             case events.Reported() | events.ChannelRefused() | events.Restarted():
                 logger.info("%s", event)
+
+    def _offer(self, channel: Channel) -> None:
+        if len(self._accepted) < MOST_TO_ACCEPT:
+            self._accepted.append(channel)
+            self._news.set()
+        else:
+            channel.close()
 
     def _turned(self) -> None:
         """Where messages were given up no event says that there is room again."""

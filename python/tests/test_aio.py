@@ -174,6 +174,31 @@ async def test_who_does_not_read_has_the_wire_paused():
     await asyncio.gather(a.close(), b.close())
 
 
+@run
+async def test_empty_messages_pause_the_wire_too():
+    a, b = await pair(read_limit=6400)
+    channel = a.open("empty")
+    for _ in range(2000):
+        await channel.send("")
+    theirs = await b.accept()
+    await asyncio.sleep(0.1)
+    assert b._wire.paused and len(theirs._came) < 2000
+    assert [await theirs.receive() for _ in range(2000)] == [""] * 2000 and b._unread == 0
+    await asyncio.gather(a.close(), b.close())
+
+
+@run
+async def test_of_channels_that_nobody_accepts_some_are_kept():
+    a, b = await pair()
+    made = [a.open(str(number)) for number in range(aio.MOST_TO_ACCEPT + 6)]
+    await asyncio.gather(*[it.wait_closed() for it in made[aio.MOST_TO_ACCEPT :]])
+    assert not any(it._closed.is_set() for it in made[: aio.MOST_TO_ACCEPT])
+    assert [(await b.accept()).label for _ in range(aio.MOST_TO_ACCEPT)] == [it.label for it in made[: aio.MOST_TO_ACCEPT]]
+    a.open("next")
+    assert (await b.accept()).label == "next" and not b._accepted
+    await asyncio.gather(a.close(), b.close())
+
+
 async def fill(channel: aio.Channel, other: aio.Connection) -> asyncio.Future:
     """Sends until the other end has paused its wire."""
     sending = asyncio.gather(*[channel.send(bytes(20000)) for _ in range(20)])
