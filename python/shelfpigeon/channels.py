@@ -8,7 +8,7 @@ from ctypes import byref, c_size_t, c_uint32, create_string_buffer, sizeof
 from typing import Optional, Union
 
 from .events import ChannelBufferedAmountLow, ChannelClosed, ChannelMessage, ChannelOpened, ChannelRefused, ChannelsEvent
-from .declarations import ChannelOptionsStruct, ChannelsOptionsStruct, OptionsStruct, Statistics, check
+from .declarations import ChannelOptionsStruct, ChannelsOptionsStruct, OptionsStruct, Statistics, bytes_of, check
 from .names import Answer, Kind, NoChannel, Refusal, Role, SendFlags, Text
 from .declarations import text as text_of
 from .sockets import End
@@ -52,7 +52,7 @@ class Channel:
         if isinstance(message, str):
             kind, payload = Kind.CHANNEL_TEXT, message.encode()
         else:
-            kind, payload = Kind.CHANNEL_BINARY, bytes(message)
+            kind, payload = Kind.CHANNEL_BINARY, bytes_of(message)
         check(end._library.pigeon_channel_send(end._at, self.id, kind, payload, len(payload)))
 
     def close(self) -> None:
@@ -155,11 +155,8 @@ class Channels(End):
         self._take_ahead()
         options = channel_options(ordered, max_retransmissions, lifetime, priority)
         name, spoken = label.encode(), protocol.encode()
-        check(
-            self._library.pigeon_channel_negotiate_sized(
-                self._at, id, byref(options), sizeof(options), name, len(name), spoken, len(spoken)
-            )
-        )
+        called = self._library.pigeon_channel_negotiate_sized
+        self._call(called, id, byref(options), sizeof(options), name, len(name), spoken, len(spoken))
         return self._known(id)
 
     def handle_input(self, packet: bytes) -> None:

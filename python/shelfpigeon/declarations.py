@@ -8,13 +8,26 @@ import os
 from ctypes import POINTER, c_bool, c_char_p, c_int32, c_size_t, c_uint16, c_uint32, c_uint64, c_void_p
 from pathlib import Path
 
-from .names import RAISED, Answer, PigeonError, Text
+from .names import RAISED, Answer, InvalidArgument, PigeonError, Text
 
 NAME = "libshelfpigeon.so.0"
 VERSION = (0, 1)
 SEED_SIZE = 32
 UNLIMITED = 2**32 - 1
 UNSET = 2**64 - 1
+NUMBERS = frozenset((c_bool, c_int32, c_uint16, c_uint32, c_uint64, c_size_t))
+
+
+def fitting(kind, value):
+    """What is handed to C. InvalidArgument: a number that its type doesn't hold, which ctypes would cut off."""
+    if kind in NUMBERS and kind(value).value != value:
+        raise InvalidArgument(Answer.INVALID_ARGUMENT, f"{value} is out of bounds")
+    return value
+
+
+def bytes_of(data) -> bytes:
+    """The bytes of what has some. A number has none, of which `bytes` would make as many zero bytes."""
+    return data if isinstance(data, bytes) else bytes(memoryview(data))
 
 
 class Sized(ctypes.Structure):
@@ -27,10 +40,16 @@ class Sized(ctypes.Structure):
         self.size = ctypes.sizeof(self)
 
     @classmethod
+    def kinds(cls) -> dict[str, type]:
+        return {it[0]: it[1] for it in cls._fields_ if it[0] != "size"}
+
+    @classmethod
     def known(cls, fields: dict[str, int]) -> dict[str, int]:
-        names = {it[0] for it in cls._fields_} - {"size"}
-        if unknown := fields.keys() - names:
+        kinds = cls.kinds()
+        if unknown := fields.keys() - kinds.keys():
             raise TypeError(f"{cls.__name__} has no field {sorted(unknown)[0]!r}")
+        for name, value in fields.items():
+            fitting(kinds[name], value)
         return fields
 
     def __repr__(self) -> str:
@@ -82,6 +101,9 @@ class OptionsStruct(Sized):
         ("delayed_ack_max_timeout", c_uint64),
         ("min_rtt_variance", c_uint64),
     ]
+
+    def __setattr__(self, name: str, value: int) -> None:
+        super().__setattr__(name, fitting(self.kinds().get(name), value))
 
 
 class Metrics(Sized):

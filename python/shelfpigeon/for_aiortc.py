@@ -19,7 +19,7 @@ from aiortc.rtcsctptransport import RTCSctpCapabilities, RTCSctpTransport  # typ
 
 from . import events
 from .aio import Driver, options_for, sent_at_most
-from .channels import Channel, Channels
+from .channels import Channel, Channels, channel_options
 from .names import MessageTooLarge, NoChannel, QueueFull, Role
 
 logger = logging.getLogger(__name__)
@@ -218,8 +218,7 @@ class SctpTransport(RTCSctpTransport):
     # what RTCDataChannel calls
 
     def _begin(self, mine: RTCDataChannel) -> None:
-        channels = self._driven().channels
-        kind = {"ordered": mine.ordered, "max_retransmissions": mine.maxRetransmits, "lifetime": mine.maxPacketLifeTime}
+        channels, kind = self._driven().channels, kind_of(mine)
         if mine.negotiated:
             self._join(mine, channels.negotiate(mine.id, mine.label, mine.protocol, **kind))
             if self._state_name == "connected":
@@ -232,6 +231,7 @@ class SctpTransport(RTCSctpTransport):
             raise InvalidStateError
         if len(mine.label.encode()) > 65535 or len(mine.protocol.encode()) > 65535:
             raise ValueError("a label or a protocol has at most 65,535 bytes")
+        channel_options(**kind_of(mine), priority=0)  # raises where a number is out of bounds
         if mine.negotiated and mine.id in [it.id for it in [*self._waiting, *self._plain]]:
             raise ValueError(f"there is a channel {mine.id} already")
         if self._driver is None:
@@ -274,6 +274,10 @@ class SctpTransport(RTCSctpTransport):
         self._driven().advance()
         channel.close()
         self._driven().soon()
+
+
+def kind_of(mine: RTCDataChannel) -> dict:
+    return {"ordered": mine.ordered, "max_retransmissions": mine.maxRetransmits, "lifetime": mine.maxPacketLifeTime}
 
 
 def use_for(aiortc: ModuleType, **settings) -> None:

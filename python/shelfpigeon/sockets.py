@@ -32,7 +32,9 @@ from .declarations import (
     OptionsStruct,
     OutgoingStruct,
     SendOptionsStruct,
+    bytes_of,
     check,
+    fitting,
     library,
     text,
 )
@@ -103,7 +105,7 @@ class End:
         self._event = EventStruct()
         self._lent = c_void_p()
         options = Options.for_webrtc() if options is None else options
-        seed = os.urandom(SEED_SIZE) if seed is None else bytes(seed)
+        seed = os.urandom(SEED_SIZE) if seed is None else bytes_of(seed)
         answer = self._library.pigeon_new_sized(self._at, byref(options), sizeof(options), seed, len(seed))
         if answer == Answer.INVALID_OPTIONS:
             raise InvalidArgument(answer, f"{text(Text.ANSWER, answer)}: {invalid_field(options)}")
@@ -123,14 +125,18 @@ class End:
         """Lets the socket go; the peer gets nothing. It may be called again."""
         self._library.pigeon_free(self._at)
 
+    def _call(self, function, *arguments) -> None:
+        """Calls a function by numbers of the owner. Raises what is not OK."""
+        check(function(self._at, *map(fitting, function.argtypes[1:], arguments)))
+
     def _read(self, function, kind, *arguments):
         value = kind()
-        check(function(self._at, *arguments, byref(value)))
+        self._call(function, *arguments, byref(value))
         return value.value
 
     def advance_time(self, nanos: int) -> None:
         """Advances the time, since the socket was made, and expires timers. It comes first: the other calls go by it."""
-        check(self._library.pigeon_advance_time(self._at, nanos))
+        self._call(self._library.pigeon_advance_time, nanos)
 
     def poll_timeout(self) -> Optional[int]:
         """By which moment the time is to be advanced next, if a timer runs. It comes last."""
@@ -178,7 +184,7 @@ class End:
     def set_max_message_size(self, size: int) -> None:
         """Sets the most bytes of a message that is sent; at 0 each is refused. With `OptionFlags.AVOID_STALLS` the peer may fill as much beyond the
         window."""
-        check(self._library.pigeon_set_max_message_size(self._at, size))
+        self._call(self._library.pigeon_set_max_message_size, size)
 
     def buffered_amount(self, stream: int) -> int:
         """The bytes of a stream that wait to be sent."""
@@ -189,7 +195,7 @@ class End:
 
     def set_buffered_amount_low_threshold(self, stream: int, size: int) -> None:
         """Sets at which amount an event says that more may be sent. None says it where messages are given up."""
-        check(self._library.pigeon_set_buffered_amount_low_threshold(self._at, stream, size))
+        self._call(self._library.pigeon_set_buffered_amount_low_threshold, stream, size)
 
     @property
     def send_queue_room(self) -> int:
@@ -210,7 +216,7 @@ class End:
 
     def set_stream_priority(self, stream: int, priority: int) -> None:
         """Sets by what a stream is weighed where messages are interleaved (RFC 8260)."""
-        check(self._library.pigeon_set_stream_priority(self._at, stream, priority))
+        self._call(self._library.pigeon_set_stream_priority, stream, priority)
 
     def next_given_up(self) -> Optional[GivenUp]:
         """Takes the record of the message that was given up first, or None. Those that aren't taken pile up."""
@@ -318,7 +324,7 @@ class Socket(End):
     ) -> None:
         """Queues a message, and sends as much as may be sent."""
         options = send_options(unordered, max_retransmissions, lifetime, lifecycle)
-        check(self._library.pigeon_send_sized(self._at, stream, ppid, payload, len(payload), byref(options), sizeof(options)))
+        self._call(self._library.pigeon_send_sized, stream, ppid, payload, len(payload), byref(options), sizeof(options))
 
     def send_many(
         self,
@@ -331,7 +337,7 @@ class Socket(End):
     ) -> list[Answer]:
         """Queues several messages, each a stream, a payload protocol identifier and bytes. Says what became of each. All have the one lifecycle."""
         options, count = send_options(unordered, max_retransmissions, lifetime, lifecycle), len(messages)
-        given = (OutgoingStruct * max(count, 1))(*[OutgoingStruct(stream, ppid, data, len(data)) for stream, ppid, data in messages])
+        given = (OutgoingStruct * max(count, 1))(*[outgoing(*it) for it in messages])
         answers = (c_uint32 * max(count, 1))()
         answer = self._library.pigeon_send_many_sized(self._at, given, count, byref(options), sizeof(options), answers, count)
         if answer != Answer.SOME_REFUSED:
@@ -340,11 +346,12 @@ class Socket(End):
 
     def reset_stream(self, stream: int) -> None:
         """Resets a stream; what waits there is dropped."""
-        check(self._library.pigeon_reset_stream(self._at, stream))
+        self._call(self._library.pigeon_reset_stream, stream)
 
     def reset_streams(self, streams: Sequence[int]) -> None:
         """Resets several streams."""
-        check(self._library.pigeon_reset_streams(self._at, (c_uint16 * max(len(streams), 1))(*streams), len(streams)))
+        given = [fitting(c_uint16, it) for it in streams]
+        check(self._library.pigeon_reset_streams(self._at, (c_uint16 * max(len(given), 1))(*given), len(given)))
 
     @property
     def handover_readiness(self) -> Readiness:
@@ -364,6 +371,10 @@ class Socket(End):
     def restore(self, record: bytes) -> None:
         """Goes on as a record says, in a closed socket with the same options."""
         check(self._library.pigeon_restore(self._at, record, len(record)))
+
+
+def outgoing(stream: int, ppid: int, data: bytes) -> OutgoingStruct:
+    return OutgoingStruct(fitting(c_uint32, stream), fitting(c_uint32, ppid), data, len(data))
 
 
 def send_options(unordered: bool, max_retransmissions: Optional[int], lifetime: Optional[int], lifecycle: int) -> SendOptionsStruct:

@@ -171,6 +171,8 @@ def test_channels_that_cannot_be():
         a = make(True)
         with pytest.raises(ValueError):
             a.createDataChannel("x" * 65536)
+        with pytest.raises(ValueError):
+            a.createDataChannel("x", maxPacketLifeTime=2**32)
         a.createDataChannel("x", negotiated=True, id=1)
         with pytest.raises(ValueError):
             a.createDataChannel("y", negotiated=True, id=1)

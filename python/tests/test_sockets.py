@@ -102,6 +102,52 @@ def test_options():
         assert socket.options.mtu == 1200
 
 
+@pytest.mark.parametrize(
+    "call",
+    [
+        lambda end: end.advance_time(-1),
+        lambda end: end.advance_time(2**64),
+        lambda end: end.send(2**32 + 1, 51, b"x"),
+        lambda end: end.send(1, -51, b"x"),
+        lambda end: end.send(1, 51, b"x", lifetime=2**64),
+        lambda end: end.send_many([(2**32 + 1, 51, b"x")]),
+        lambda end: end.reset_stream(2**32 + 1),
+        lambda end: end.reset_streams([65537]),
+        lambda end: end.set_stream_priority(1, 65536 + 256),
+        lambda end: end.set_buffered_amount_low_threshold(1, -1),
+        lambda end: end.buffered_amount(2**32 + 1),
+        lambda end: end.set_max_message_size(2**32),
+        lambda end: Options.for_webrtc(mtu=2**32 + 1200),
+        lambda end: setattr(Options.for_webrtc(), "mtu", 2**32 + 1200),
+        lambda end: Channels(Role.CLIENT, max_message_size=2**32),
+        lambda end: Channels(Role.CLIENT).negotiate(2**32 + 1),
+        lambda end: Channels(Role.CLIENT).open("x", priority=2**32 + 256),
+    ],
+)
+def test_numbers_that_do_not_fit_are_refused(sockets, call):
+    a, b = sockets.ends
+    a.connect()
+    sockets.settle()
+    with pytest.raises(InvalidArgument):
+        call(a)
+    a.send(2, 51, b"there")
+    sockets.settle()
+    assert list(b.messages()) == [(2, 51, b"there")] and a.clock == sockets.now
+
+
+def test_bytes_are_not_made_of_numbers(channels):
+    a, b = channels.ends
+    chat = a.open("chat")
+    with pytest.raises(TypeError):
+        chat.send(5)
+    with pytest.raises(TypeError):
+        Socket(seed=32)
+    for message in (b"bytes", bytearray(b"array"), memoryview(b"view")[1:]):
+        chat.send(message)
+    channels.settle()
+    assert channels.came(b) == [b"bytes", b"array", b"iew"]
+
+
 @pytest.mark.parametrize("avoids", [False, True])
 def test_stalls_are_avoided_by_a_flag(avoids):
     options = Options.default(flags=OptionFlags.PARTIAL_RELIABILITY | (OptionFlags.AVOID_STALLS if avoids else 0))
