@@ -9,6 +9,7 @@ import asyncio
 import functools
 import logging
 from collections import deque
+from contextlib import suppress
 from dataclasses import dataclass, field
 from types import ModuleType
 from typing import Optional, Union
@@ -272,7 +273,8 @@ class SctpTransport(RTCSctpTransport):
             return
         mine._setReadyState("closing")
         self._driven().advance()
-        channel.close()
+        with suppress(NoChannel):  # the association has ended, which is still to be told
+            channel.close()
         self._driven().soon()
 
 

@@ -93,6 +93,19 @@ async def test_a_channel_that_is_being_closed_sends_nothing():
 
 
 @run
+async def test_a_channel_is_closed_where_the_association_has_ended():
+    a, b = await pair()
+    channel = a.open("chat")
+    await channel.opened()
+    b.socket.close()
+    for packet in [it.data for it in b.socket.events() if isinstance(it, events.Packet)]:
+        a.socket.handle_input(packet)
+    channel.close()
+    await asyncio.gather(channel.wait_closed(), a.wait_closed())
+    b.abort()
+
+
+@run
 async def test_timers_run_where_packets_are_lost():
     a, b = await pair(0.1)
     channel = a.negotiate(5)

@@ -9,7 +9,7 @@ import aioice.ice  # noqa: E402
 from aiortc.exceptions import InvalidStateError  # noqa: E402
 
 import shelfpigeon  # noqa: E402
-from shelfpigeon import Options  # noqa: E402
+from shelfpigeon import Options, events  # noqa: E402
 
 OWN = aiortc.rtcpeerconnection.RTCSctpTransport
 
@@ -117,6 +117,22 @@ def test_a_channel_that_is_closed_at_once_does_not_open():
         await asyncio.gather(a.close(), b.close())
 
     asyncio.run(asyncio.wait_for(closes(), 30))
+
+
+def test_a_channel_is_closed_where_the_association_has_ended():
+    async def ends():
+        a, b = make(True), make(True)
+        channel = a.createDataChannel("chat")
+        await join(a, b)
+        await until(lambda: channel.readyState == "open")
+        b.sctp.socket.close()
+        for packet in [it.data for it in b.sctp.socket.events() if isinstance(it, events.Packet)]:
+            a.sctp.socket.handle_input(packet)
+        channel.close()
+        await until(lambda: channel.readyState == "closed")
+        await asyncio.gather(a.close(), b.close())
+
+    asyncio.run(asyncio.wait_for(ends(), 30))
 
 
 def test_buffering():
