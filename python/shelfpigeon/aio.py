@@ -278,7 +278,7 @@ class Connection:
     accepted, and those that aren't read any more closed. While 1,024 wait to be accepted the next ones are closed.
 
     Without `options` the window is twice `max_message_size`, which is what the peer may send, and as long a message may be sent, 262,144 bytes at
-    least, where `peer_max_message_size` allows it."""
+    least, where `peer_max_message_size` allows it. `max_kept_bytes` is as of `Channels`."""
 
     def __init__(
         self,
@@ -288,6 +288,7 @@ class Connection:
         options: Optional[OptionsStruct] = None,
         max_message_size: int = 262144,
         peer_max_message_size: int = 262144,
+        max_kept_bytes: int = 16777216,
         high_water: int = 1 << 20,
         read_limit: int = 4 << 20,
     ):
@@ -298,6 +299,7 @@ class Connection:
             max_message_size=max_message_size,
             peer_max_message_size=sent_at_most(options, peer_max_message_size),
             max_buffered_amount=2**32 - 1,
+            max_kept_bytes=max_kept_bytes,
         )
         self.high_water, self.read_limit = high_water, read_limit
         self.error: Optional[events.Aborted] = None

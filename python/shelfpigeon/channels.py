@@ -89,7 +89,9 @@ class Channels(End):
     answers None; `poll_timeout`. What isn't taken piles up.
 
     `max_message_size` is one's own a=max-message-size, `peer_max_message_size` the peer's, 65,536 where it says none: at 0 any is sent. At an own 0
-    only empty messages are taken."""
+    only empty messages are taken. `max_kept_bytes` is the most bytes of labels, protocols and unfinished messages that channels keep: an opening by
+    the peer beyond it is refused, by `Refusal.NO_ROOM`, and a part of a message beyond it drops its message, by `Refusal.TOO_LONG`. What this end opens
+    isn't refused for it."""
 
     def __init__(
         self,
@@ -100,6 +102,7 @@ class Channels(End):
         max_message_size: int = 262144,
         peer_max_message_size: int = 65536,
         max_buffered_amount: int = 16777216,
+        max_kept_bytes: int = 16777216,
     ):
         super().__init__(options, seed=seed)
         self._channels: dict[int, Channel] = {}
@@ -110,6 +113,7 @@ class Channels(End):
             max_message_size=max_message_size,
             peer_max_message_size=peer_max_message_size,
             max_buffered_amount=max_buffered_amount,
+            max_kept_bytes=max_kept_bytes,
         )
         check(self._library.pigeon_channels_start_sized(self._at, byref(given), sizeof(given)))
 

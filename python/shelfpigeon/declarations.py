@@ -177,6 +177,7 @@ class ChannelsOptionsStruct(Sized):
         ("max_message_size", c_uint32),
         ("peer_max_message_size", c_uint32),
         ("max_buffered_amount", c_uint32),
+        ("max_kept_bytes", c_uint32),
     ]
 
 

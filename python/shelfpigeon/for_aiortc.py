@@ -29,11 +29,13 @@ logger = logging.getLogger(__name__)
 @dataclass
 class Settings:
     """`options` are fields of `Options` that are to have another value, `max_message_size` is the a=max-message-size that is announced, by which the
-    window is twice as wide, and `max_buffered_amount` what a channel buffers before `send` raises OperationError. Messages that are sent have at most
-    `max_message_size` bytes or 262,144, whichever is more, where the peer takes them: at a longer one `send` raises ValueError."""
+    window is twice as wide, `max_buffered_amount` what a channel buffers before `send` raises OperationError, and `max_kept_bytes` is as of
+    `Channels`. Messages that are sent have at most `max_message_size` bytes or 262,144, whichever is more, where the peer takes them: at a longer one
+    `send` raises ValueError."""
 
     max_message_size: int = 262144
     max_buffered_amount: int = 16777216
+    max_kept_bytes: int = 16777216
     options: dict[str, int] = field(default_factory=dict)
 
 
@@ -92,6 +94,7 @@ class SctpTransport(RTCSctpTransport):
             max_message_size=settings.max_message_size,
             peer_max_message_size=sent_at_most(options, remoteCaps.maxMessageSize if remoteCaps else 65536),
             max_buffered_amount=settings.max_buffered_amount,
+            max_kept_bytes=settings.max_kept_bytes,
         )
         self._state_name = "connecting"
         self._driver = Driver(channels, self._send_packet, self._handle, self._ended, self._count)

@@ -186,6 +186,7 @@ class Refusal(enum.IntEnum):
     NO_CHANNEL = 5
     PAYLOAD = 6
     TOO_LONG = 7
+    NO_ROOM = 8
 
 
 class PigeonError(Exception):

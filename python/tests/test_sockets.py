@@ -336,6 +336,20 @@ def test_what_channels_refuse(channels):
     assert events.ChannelBufferedAmountLow(chat) in channels.told[a]
 
 
+def test_what_channels_keep_is_bounded():
+    with Channels(Role.CLIENT) as a, Channels(Role.SERVER, max_kept_bytes=1000) as b:
+        world = World(a, b)
+        a.connect()
+        world.settle()
+        a.open("kept")
+        a.open("x" * 2000)
+        world.settle()
+        assert events.ChannelRefused(2, Refusal.NO_ROOM) in world.told[b]
+        own = b.open("y" * 2000)
+        world.settle()
+        assert sorted(it.label for it in b) == ["kept", own.label] and not own.is_closed
+
+
 def test_an_abort_closes_the_channels(channels):
     a, b = channels.ends
     chat = a.open("chat")
