@@ -44,9 +44,9 @@ returns-then-not-has_next_stream-clause-more g c = (idle g c).more
 full : (g : _) (c : goal.Joined-then-not-can_send_data g)
     → Gives (next_turn c.args.opportunity.now (filling c.args.self.now c.args.queue.now c.args.events.now [] c.args.opportunity.max_bytes)) c.args.self.now c.args.queue.now c.args.events.now [] c.args.opportunity.max_bytes false
 full g c = elim c.then-not-can_send_data.branch [
-    then-not-can_send_data-via-then-not-can_send_data w ↦ windows_shut c.args.opportunity.now c.args.opportunity.max_bytes c.args.self.now c.args.queue.now c.args.events.now w.if-not-can_send_data.ensures
+  | then-not-can_send_data-via-then-not-can_send_data w ↦ windows_shut c.args.opportunity.now c.args.opportunity.max_bytes c.args.self.now c.args.queue.now c.args.events.now w.if-not-can_send_data.ensures
   | then-not-can_send_data-via-else-not-can_send_data+then-max_payload-eq0 w ↦ no_room c.args.opportunity.now c.args.opportunity.max_bytes c.args.self.now c.args.queue.now c.args.events.now (sym c.offered-max_payload.ensures.size ∙ w.if-max_payload-eq0.true)
-  ]
+]
 
 pub returns-then-not-can_send_data-clause-sender : goal.returns-then-not-can_send_data-clause-sender
 returns-then-not-can_send_data-clause-sender g c = (full g c).sender
