@@ -109,5 +109,3 @@ pub cuts : (p q : ℕ) (old low rest : List Run) → old ≡ low ++ rest → Beg
 cuts p q old low rest is begin reach r =
     let c = cuts_from 0 p low rest (omega arith) begin (subst (λ (t : List Run). AreRuns 0 t) is r) in
     rw (reach, is) (record { numbers = c.numbers; runs = c.runs; onward = omega arith; last = c.last })
-
-}
