@@ -151,8 +151,13 @@ settles_from (Some c) f id cs keeps =
     either (life.is_over (f c).lifecycle) cs (tell_end (f c).lifecycle id gone) (change f id cs)
     (and_then cs gone (tell_end (f c).lifecycle id gone) (forgets id cs) (tells_end (f c).lifecycle id gone)) (changes f id cs keeps)
 
+resets_from : (o : Option Channel) (id : ℕ) (cs : Channels) → IsQuiet cs (where_there o (λ c. cond c.lifecycle.is_incoming_reset cs (settle reset_incoming c id cs)) cs)
+resets_from None id cs = same cs
+resets_from (Some c) id cs =
+    either c.lifecycle.is_incoming_reset cs cs (settle reset_incoming c id cs) (same cs) (settles_from (Some c) reset_incoming id cs (λ x h. record { parts = refl; is_whole = refl }))
+
 pub resets : (id : ℕ) (cs : Channels) → IsQuiet cs (on_incoming_reset id cs)
-resets id cs = settles_from (channel_at id cs.entries) reset_incoming id cs (λ c h. record { parts = refl; is_whole = refl })
+resets id cs = resets_from (channel_at id cs.entries) id cs
 
 pub performs : (id : ℕ) (cs : Channels) → IsQuiet cs (on_reset_performed id cs)
 performs id cs = settles_from (channel_at id cs.entries) (change_lifecycle life.finish) id cs (λ c h. keeps_parts (life.finish c.lifecycle) c h)

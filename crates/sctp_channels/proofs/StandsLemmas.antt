@@ -8,7 +8,7 @@ use Rattle.std.specs.Map.{keys_of, set_value}
 use Rattle.std.specs.Ordering.{nat_cmp}
 use Rattle.sctp_channels.specs.Channel.{Channel, change_lifecycle, on_data, received}
 use Rattle.sctp_channels.specs.Lifecycle.{confirm, is_connecting, takes_data}
-use Rattle.sctp_channels.specs.Channels.{Channels, Output, Stands, change, data_from, deliver, emit, hand, on_ack, output_of, tell_closed, tell_opened, tell_refused, where_there}
+use Rattle.sctp_channels.specs.Channels.{Channels, Emits, Output, Stands, change, data_from, deliver, emit, hand, on_ack, output_of, tell_closed, tell_opened, tell_refused, where_there}
 use Rattle.sctp_channels.specs.declared.payload.PayloadProtocol.{PayloadProtocol}
 use Rattle.sctp_channels.specs.declared.output.Refusal.TheVariants.{NoChannel}
 use Rattle.sctp_channels.specs.declared.output.Output as given
@@ -81,3 +81,10 @@ pub not_taken : (id : ℕ) (protocol : PayloadProtocol) (payload : List ℕ) (c 
     → emit (tell_refused id NoChannel) cs ≡ deliver id protocol payload cs
 not_taken id protocol payload c cs found is =
     not_taken_if (takes_data c.lifecycle) id protocol payload c cs is ∙ ap (λ (o : Option Channel). data_from o id protocol payload cs) found
+
+-- one output, and what came behind it
+pub emits_then : (o : Output) (a b c : Channels) → b ≡ emit o a → Emits b c → Emits a c
+emits_then o a b c is more = (
+  o ∷ more.0,
+  more.1 ∙ ap (λ (cs : Channels). record cs { outputs = cs.outputs ++ more.0 }) is ∙ ap (λ (os : List Output). record a { outputs = os }) (append_assoc a.outputs (o ∷ []) more.0),
+)

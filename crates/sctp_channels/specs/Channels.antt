@@ -175,9 +175,14 @@ tell_end l id cs = cond (is_shown l) (emit (tell_closed id) cs) cs
 abbrev pub settle : (Channel → Channel) → Channel → ℕ → Channels → Channels
 settle f c id cs = cond (life.is_over (f c).lifecycle) (tell_end (f c).lifecycle id (with_entries (forget id cs.entries) cs)) (change f id cs)
 
--- the peer has reset its outgoing stream
+-- the peer has reset its outgoing stream, for the first time
 abbrev pub on_incoming_reset : ℕ → Channels → Channels
-on_incoming_reset id cs = where_there (channel_at id cs.entries) (λ c. settle reset_incoming c id cs) cs
+on_incoming_reset id cs = where_there (channel_at id cs.entries) (λ c. cond c.lifecycle.is_incoming_reset cs (settle reset_incoming c id cs)) cs
+
+-- the streams that the peer has not reset yet
+abbrev pub incoming_streams : Entries → List ℕ
+incoming_streams [] = []
+incoming_streams (e ∷ es) = cond e.1.lifecycle.is_incoming_reset (incoming_streams es) (e.0 ∷ incoming_streams es)
 
 -- the peer has performed a reset
 abbrev pub on_reset_performed : ℕ → Channels → Channels

@@ -1,7 +1,6 @@
 -- Channels over a socket: what becomes of them, and what their owner is told, by the socket's messages, events and answers, one after the other.
 use Rattle.std.specs.Prelude.{◌≡◌, ℕ, Option, Some, None, List, [], ◌∷◌, ◌++◌}
 use Rattle.std.specs.List.{flat_map}
-use Rattle.std.specs.Map.{keys_of}
 use Rattle.sctp_serial.specs.Messages.{Message}
 use Rattle.sctp_state.specs.Events as sockets
 use Rattle.sctp_channels.specs.Channels as table
@@ -67,9 +66,9 @@ abbrev pub each : (ℕ → Channels → Channels) → List ℕ → Channels → 
 each row [] cs = cs
 each row (id ∷ ids) cs = each row ids (row id cs)
 
--- where no stream is named all are meant
+-- where no stream is named all are meant that weren't reset yet
 abbrev pub named : List ℕ → Channels → List ℕ
-named [] cs = keys_of cs.entries
+named [] cs = table.incoming_streams cs.entries
 named ids cs = ids
 
 abbrev pub ended : DataChannels → DataChannels

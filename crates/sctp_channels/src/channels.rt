@@ -8,7 +8,7 @@ ghost use Rattle.sctp_channels.specs.Payload.{protocol_of};
 ghost use Rattle.sctp_channels.specs.Steps.{each};
 ghost use Rattle.sctp_channels.specs.Views.{open_of};
 ghost use Rattle.sctp_channels.specs.Channel.{count_received, new_channel, received_as, takes_whole, with_lifecycle};
-ghost use Rattle.sctp_channels.specs.Channels.{Emits, OnControl, OnMessage, Output as output, Stands, change, close, deliver, drain, emit, end, hand, is_denied, is_own, is_shown, negotiate, no_channels, on_ack, on_incoming_reset, on_open, on_payload, on_reset_denied, on_reset_performed, open_from, open_own, output_of, place, sent, shown_streams, take_open, tell_closed, tell_end, turn_down, with_entries};
+ghost use Rattle.sctp_channels.specs.Channels.{Emits, OnControl, OnMessage, Output as output, Stands, change, close, deliver, drain, emit, end, hand, incoming_streams, is_denied, is_own, is_shown, negotiate, no_channels, on_ack, on_incoming_reset, on_open, on_payload, on_reset_denied, on_reset_performed, open_from, open_own, output_of, place, sent, shown_streams, take_open, tell_closed, tell_end, turn_down, with_entries};
 ghost use Rattle.sctp_channels.specs.DataChannels.{IsOpenAt};
 ghost use Rattle.sctp_channels.specs.Entries.{channel_at, forget, put};
 
@@ -31,17 +31,21 @@ pub struct Channels {
     limit: usize,
     entries: BTreeMap<u16, Channel>,
     outputs: VecDeque<Output>,
+    // where it is false each channel's incoming stream was reset
+    has_incoming: bool,
     // where `free_stream` begins: behind the stream that was opened last, since a peer may still close what stands on one that was just freed
     first_candidate: u16,
 }
 
 impl Model for Channels {
-    ghost use Rattle.std.specs.Prelude.{map};
-    ghost use Rattle.sctp_channels.specs.Channels.{Channels, output_of};
+    ghost use Rattle.std.specs.Prelude.{◌≡◌, false, [], map};
+    ghost use Rattle.sctp_channels.specs.Channels.{Channels, incoming_streams, output_of};
 
     ghost Value = { Channels };
 
     ghost view = { λ c. record { is_client = c.is_client; stream_count = c.stream_count; limit = c.limit; entries = c.entries.entries; outputs = map output_of c.outputs.items } };
+
+    ghost invariant = { λ c. c.has_incoming ≡ false → incoming_streams c.entries.entries ≡ [] };
 }
 
 /// Whether this end opens channels on streams of this number.
@@ -90,6 +94,21 @@ fn stream_ids(alloc: Global, channels: &BTreeMap<u16, Channel>) -> Result<Vec<St
     Ok(ids)
 }
 
+fn incoming_ids(
+    alloc: Global,
+    channels: &BTreeMap<u16, Channel>,
+) -> Result<Vec<StreamId>, AllocError>
+    ensures { IfOk result (λ ids. map (λ id. id.0) ids.items ≡ incoming_streams channels.now.entries) }
+{
+    let mut ids = Vec::new(alloc);
+    for (id, channel) in channels {
+        if !channel.lifecycle().is_incoming_reset {
+            ids.push(StreamId(*id))?;
+        }
+    }
+    Ok(ids)
+}
+
 impl Channels {
     /// No channels. The client of DTLS opens even streams, the server odd ones, below `stream_count`. A message of more than `limit` bytes isn't
     /// taken.
@@ -103,6 +122,7 @@ impl Channels {
             limit,
             entries: BTreeMap::new(alloc),
             outputs: VecDeque::new(alloc),
+            has_incoming: false,
             first_candidate: 0,
         }
     }
@@ -187,6 +207,7 @@ impl Channels {
         ensures err { OnErr result (self.new ≡ self.old) }
     {
         let channel = Channel::new(self.alloc, lifecycle, description);
+        self.has_incoming = true;
         self.entries.insert(id.0, channel)?;
         Ok(())
     }
@@ -204,6 +225,7 @@ impl Channels {
         let priority = description.priority;
         let channel = Channel::new(self.alloc, lifecycle, description);
         self.outputs.reserve(1)?;
+        self.has_incoming = true;
         self.entries.insert(id.0, channel)?;
         if priority != 0 {
             self.outputs
@@ -216,6 +238,7 @@ impl Channels {
     fn set_lifecycle(&mut self, id: StreamId, lifecycle: Lifecycle)
         ensures { self.new ≡ change (with_lifecycle lifecycle) id.0 self.old }
     {
+        self.has_incoming = true;
         if let Some(channel) = self.entries.get_mut(&id.0) {
             channel.set_lifecycle(lifecycle);
         }
@@ -247,6 +270,7 @@ impl Channels {
     pub fn close(&mut self, id: StreamId)
         ensures { self.new ≡ close id.0 self.old }
     {
+        self.has_incoming = true;
         if let Some(channel) = self.entries.get_mut(&id.0) {
             let mut lifecycle = channel.lifecycle();
             lifecycle.close();
@@ -267,6 +291,7 @@ impl Channels {
         ensures given { OnOk result (is_ok given ≡ true) }
         ensures err { OnErr result (self.new ≡ self.old) }
     {
+        self.has_incoming = true;
         let Some(channel) = self.entries.get_mut(&id.0) else {
             return Err(SendRefusal::NoChannel);
         };
@@ -315,6 +340,7 @@ impl Channels {
         if is_shown(lifecycle) {
             self.emit(Output::Closed(id))?;
         }
+        self.has_incoming = true;
         self.entries.remove(&id.0);
         Ok(())
     }
@@ -364,7 +390,7 @@ impl Channels {
         Ok(())
     }
 
-    /// The peer has reset its outgoing stream of this number.
+    /// The peer has reset its outgoing stream of this number. One that was reset already stays as it is.
     pub fn on_incoming_reset(&mut self, id: StreamId) -> Result<(), AllocError>
         ensures ok { OnOk result (self.new ≡ on_incoming_reset id.0 self.old) }
         ensures err { OnErr result (self.new ≡ self.old) }
@@ -373,10 +399,14 @@ impl Channels {
             return Ok(());
         };
         let mut lifecycle = channel.lifecycle();
+        if lifecycle.is_incoming_reset {
+            return Ok(());
+        }
         lifecycle.stop_incoming();
         if lifecycle.is_over() {
             return self.end_one(id, lifecycle);
         }
+        self.has_incoming = true;
         if let Some(channel) = self.entries.get_mut(&id.0) {
             channel.reset_incoming();
         }
@@ -465,6 +495,7 @@ impl Channels {
         if !channel.lifecycle().takes_data() {
             return self.emit(Output::Refused(id, Refusal::NoChannel));
         }
+        self.has_incoming = true;
         let received = channel.on_data(self.alloc, self.limit, protocol, payload)?;
         self.hand(received, id)
     }
@@ -511,7 +542,11 @@ impl Channels {
         let Some(channel) = self.entries.get_mut(&id.0) else {
             return false;
         };
-        channel.count_whole(self.limit, size)
+        let counts = channel.count_whole(self.limit, size);
+        if counts {
+            self.has_incoming = true;
+        }
+        counts
     }
 
     /// Data came on the stream, and with it the news that the peer has the channel.
@@ -569,6 +604,19 @@ impl Channels {
         stream_ids(self.alloc, &self.entries)
     }
 
+    /// Those of them whose peer hasn't reset them yet. Where there were none, and no channel has changed since, none is looked at.
+    pub fn incoming_streams(&mut self) -> Result<Vec<StreamId>, AllocError>
+        ensures ids { IfOk result (λ ids. map (λ id. id.0) ids.items ≡ incoming_streams self.old.entries) }
+        ensures same { self.new ≡ self.old }
+    {
+        if !self.has_incoming {
+            return Ok(Vec::new(self.alloc));
+        }
+        let ids = incoming_ids(self.alloc, &self.entries)?;
+        self.has_incoming = !ids.is_empty();
+        Ok(ids)
+    }
+
     /// The association has ended: each channel is closed, and its stream is free.
     pub fn end(&mut self) -> Result<(), AllocError>
         ensures ok { OnOk result (self.new ≡ end self.old) }
@@ -576,6 +624,7 @@ impl Channels {
     {
         tell_all_closed(&self.entries, &mut self.outputs)?;
         self.entries.clear();
+        self.has_incoming = false;
         self.first_candidate = 0;
         Ok(())
     }

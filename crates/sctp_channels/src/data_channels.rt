@@ -500,13 +500,13 @@ impl DataChannels {
         Ok(())
     }
 
-    /// Where no stream is named all are meant.
+    /// Where no stream is named all are meant that weren't reset yet.
     fn on_incoming_resets(&mut self, ids: &[StreamId]) -> Result<(), AllocError>
         ensures row { OnOk result (self.new ≡ with_channels (each on_incoming_reset (named (numbers_of ids.now) self.old.channels) self.old.channels) self.old) }
         ensures told { self.new.events ≡ self.old.events }
     {
         if ids.is_empty() {
-            let all = self.channels.streams()?;
+            let all = self.channels.incoming_streams()?;
             return self.on_each_reset(&all);
         }
         self.on_each_reset(ids)

@@ -1,11 +1,16 @@
 use Rattle.std.proofs.Common.{◌≡◌, false, ap, map, refl, sym, ◌∙◌}
 use Rattle.sctp_channels.specs.declared.lifecycle.Lifecycle.{Lifecycle}
 use Rattle.std.proofs.lemmas.Result.{on_ok_weaker}
-use Rattle.sctp_channels.specs.Channels.{deliver, emit, output_of, tell_refused}
+use Rattle.sctp_channels.specs.Channels.{deliver, emit, incoming_streams, output_of, tell_refused}
 use Rattle.sctp_channels.specs.Lifecycle.{takes_data}
 use Rattle.sctp_channels.specs.declared.output.Refusal.TheVariants.{NoChannel}
 use Rattle.sctp_channels.proofs.StandsLemmas.{made_of, not_taken, unchanged}
 use Rattle.sctp_channels.proofs.channels.Channels.deliver.Goals as goal
+
+pub invariant_of-self-then-not-takes_data : goal.invariant_of-self-then-not-takes_data
+invariant_of-self-then-not-takes_data c =
+    let channel = c.in-Some.channel.now in
+    λ none. ap incoming_streams (unchanged c.args.id.0 channel channel c.self.inside.entries.entries _ (c.get_mut.follows.holds channel).0 c.in-Some.ensures.value refl) ∙ c.self.invariant none
 
 pub returns-then-not-takes_data-clause-ok : goal.returns-then-not-takes_data-clause-ok
 returns-then-not-takes_data-clause-ok c =
