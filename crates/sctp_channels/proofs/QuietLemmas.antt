@@ -9,8 +9,8 @@ use Rattle.std.proofs.lemmas.Grind.{flat_map-append}
 use Rattle.std.proofs.lemmas.List.{append-nil}
 use Rattle.std.proofs.lemmas.List.Elements.{All-nil}
 use Rattle.std.proofs.lemmas.Map.Views.{All-map-remove_entry, All-values-insert_entry, All-values-set_value, IfSome-lookup_from_All}
-use Rattle.sctp_channels.specs.Channel.{Channel, change_lifecycle, new_channel, reset_incoming, with_lifecycle}
-use Rattle.sctp_channels.specs.Channels.{Channels, Output, acknowledge, change, close, denied, drain, emit, end, is_denied, is_own, is_shown, no_description, on_ack, on_establishment, on_incoming_reset, on_open, on_reset_denied, on_reset_performed, open_from, place, prioritize, reopen_if, reset, settle, shown_streams, take_open, tell_closed, tell_end, tell_opened, tell_refused, turn_down, turn_down_from, weigh, where_there, with_entries}
+use Rattle.sctp_channels.specs.Channel.{Channel, change_lifecycle, kept_by, new_channel, reset_incoming, with_lifecycle}
+use Rattle.sctp_channels.specs.Channels.{Channels, Output, acknowledge, change, close, denied, drain, emit, end, has_room, is_denied, is_own, is_shown, no_description, on_ack, on_establishment, on_incoming_reset, on_open, on_reset_denied, on_reset_performed, open_from, place, prioritize, reopen_if, reset, settle, shown_streams, take_open, tell_closed, tell_end, tell_opened, tell_refused, turn_down, turn_down_from, weigh, where_there, with_entries}
 use Rattle.sctp_channels.specs.Steps.{each}
 use Rattle.sctp_channels.proofs.StandsLemmas.{confirm_from}
 use Rattle.sctp_channels.specs.Entries.{Entries, channel_at, changed_from, forget, put}
@@ -20,7 +20,7 @@ use Rattle.sctp_channels.specs.TwoEnds.{AreWhole, HasNoParts, message_in}
 use Rattle.sctp_channels.specs.Runs.{Content}
 use Rattle.sctp_channels.specs.declared.lifecycle.Lifecycle.{Lifecycle}
 use Rattle.sctp_channels.specs.declared.output.Refusal.{Refusal}
-use Rattle.sctp_channels.specs.declared.output.Refusal.TheVariants.{NoSuchStream, StreamInUse, WrongParity}
+use Rattle.sctp_channels.specs.declared.output.Refusal.TheVariants.{NoRoom, NoSuchStream, StreamInUse, WrongParity}
 
 pub record IsQuiet (old new : Channels) : Type 0 where
   pub limit : new.limit ≡ old.limit
@@ -106,14 +106,18 @@ takes_open id description l cs =
     and_then cs answered (take_open id description l cs) (emits (acknowledge id) cs refl)
     (and_then answered told (take_open id description l cs) (emits (tell_opened id) answered refl) (places l description id told))
 
-reopens_if : (b : Bool) (id : ℕ) (description : Open) (cs : Channels) → IsQuiet cs (reopen_if b id description cs)
-reopens_if true id description cs =
-    and_then cs (emit (tell_closed id) cs) (reopen_if true id description cs) (emits (tell_closed id) cs refl) (takes_open id description life.reopened (emit (tell_closed id) cs))
-reopens_if false id description cs = turns_down id StreamInUse cs
+opens_if : (room : Bool) (id : ℕ) (description : Open) (l : Lifecycle) (old cs : Channels) → IsQuiet old cs → IsQuiet old (cond room (take_open id description l cs) (turn_down id NoRoom old))
+opens_if true id description l old cs quiet = and_then old cs (take_open id description l cs) quiet (takes_open id description l cs)
+opens_if false id description l old cs quiet = turns_down id NoRoom old
+
+reopens_if : (b : Bool) (before id : ℕ) (description : Open) (cs : Channels) → IsQuiet cs (reopen_if b before id description cs)
+reopens_if true before id description cs =
+    opens_if (has_room before description cs) id description life.reopened cs (emit (tell_closed id) cs) (emits (tell_closed id) cs refl)
+reopens_if false before id description cs = turns_down id StreamInUse cs
 
 opens_from : (o : Option Channel) (id : ℕ) (description : Open) (cs : Channels) → IsQuiet cs (open_from o id description cs)
-opens_from None id description cs = takes_open id description life.negotiated cs
-opens_from (Some c) id description cs = reopens_if (life.may_reopen c.lifecycle) id description cs
+opens_from None id description cs = opens_if (has_room 0 description cs) id description life.negotiated cs cs (same cs)
+opens_from (Some c) id description cs = reopens_if (life.may_reopen c.lifecycle) (kept_by c) id description cs
 
 on_opening : (id : ℕ) (description : Open) (cs : Channels) → IsQuiet cs (on_open id description cs)
 on_opening id description cs =

@@ -6,11 +6,9 @@ use Rattle.std.proofs.lemmas.Map.Steps.{set_value_same}
 use Rattle.std.specs.BTreeMap.{is_at}
 use Rattle.std.specs.Map.{keys_of, set_value}
 use Rattle.std.specs.Ordering.{nat_cmp}
-use Rattle.sctp_channels.specs.Channel.{Channel, change_lifecycle, on_data, received}
-use Rattle.sctp_channels.specs.Lifecycle.{confirm, is_connecting, takes_data}
-use Rattle.sctp_channels.specs.Channels.{Channels, Emits, Output, Stands, change, data_from, deliver, emit, hand, on_ack, output_of, tell_closed, tell_opened, tell_refused, where_there}
-use Rattle.sctp_channels.specs.declared.payload.PayloadProtocol.{PayloadProtocol}
-use Rattle.sctp_channels.specs.declared.output.Refusal.TheVariants.{NoChannel}
+use Rattle.sctp_channels.specs.Channel.{Channel, change_lifecycle}
+use Rattle.sctp_channels.specs.Lifecycle.{confirm, is_connecting}
+use Rattle.sctp_channels.specs.Channels.{Channels, Emits, Output, Stands, change, emit, on_ack, output_of, tell_closed, tell_opened, where_there}
 use Rattle.sctp_channels.specs.declared.output.Output as given
 use Rattle.sctp_channels.specs.declared.output.Output.TheVariants as outputs
 use Rattle.sctp_serial.specs.declared.api.StreamId.{StreamId}
@@ -61,8 +59,9 @@ stands_changed f id old new is = subst (Stands old) (sym is) (record { more = []
 pub unchanged : (id : ℕ) (c d : Channel) (es fs : Entries) → fs ≡ set_value (is_at (nat_cmp id)) es d → Some c ≡ channel_at id es → d ≡ c → fs ≡ es
 unchanged id c d es fs is found same = is ∙ ap (λ (it : Channel). set_value (is_at (nat_cmp id)) es it) same ∙ set_value_same (is_at (nat_cmp id)) es c (sym found)
 
-abbrev pub made_of : Bool → (stream_count limit : ℕ) → List Output → Entries → Channels
-made_of is_client stream_count limit outputs es = record { is_client = is_client; stream_count = stream_count; limit = limit; entries = es; outputs = outputs }
+abbrev pub made_of : Bool → (stream_count limit kept_limit : ℕ) → List Output → Entries → Channels
+made_of is_client stream_count limit kept_limit outputs es =
+    record { is_client = is_client; stream_count = stream_count; limit = limit; kept_limit = kept_limit; entries = es; outputs = outputs }
 
 -- one that is told to be closed
 pub told_closed : (os new : List given.Output) (id : StreamId) (told : List Output) → new ≡ os ++ outputs.Closed id ∷ [] → map output_of new ++ told ≡ map output_of os ++ tell_closed id.0 ∷ told
@@ -70,17 +69,6 @@ told_closed os new id told is =
     ap (λ (xs : List given.Output). map output_of xs ++ told) is
     ∙ ap (λ (xs : List Output). xs ++ told) (map-append output_of os (outputs.Closed id ∷ []))
     ∙ append_assoc (map output_of os) (tell_closed id.0 ∷ []) told
-
-not_taken_if : (takes : Bool) (id : ℕ) (protocol : PayloadProtocol) (payload : List ℕ) (c : Channel) (cs : Channels) → takes ≡ false
-    → emit (tell_refused id NoChannel) cs ≡ cond takes (hand (received cs.limit protocol payload c) id (change (on_data cs.limit protocol payload) id cs)) (emit (tell_refused id NoChannel) cs)
-not_taken_if true id protocol payload c cs is = cc
-not_taken_if false id protocol payload c cs is = refl
-
--- data on a stream whose channel takes none
-pub not_taken : (id : ℕ) (protocol : PayloadProtocol) (payload : List ℕ) (c : Channel) (cs : Channels) → Some c ≡ channel_at id cs.entries → takes_data c.lifecycle ≡ false
-    → emit (tell_refused id NoChannel) cs ≡ deliver id protocol payload cs
-not_taken id protocol payload c cs found is =
-    not_taken_if (takes_data c.lifecycle) id protocol payload c cs is ∙ ap (λ (o : Option Channel). data_from o id protocol payload cs) found
 
 -- one output, and what came behind it
 pub emits_then : (o : Output) (a b c : Channels) → b ≡ emit o a → Emits b c → Emits a c

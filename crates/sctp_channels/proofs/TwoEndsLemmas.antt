@@ -9,7 +9,7 @@ use Rattle.std.proofs.lemmas.Option.{slice_get_within, unwrap_or-slice_get}
 use Rattle.sctp_serial.specs.Messages.{Message}
 use Rattle.sctp_state.specs.Events as sockets
 use Rattle.sctp_channels.specs.Channel.{Channel, Received, exceeds, message, on_data, received, take_if, taken_if}
-use Rattle.sctp_channels.specs.Channels.{Channels, OnControl, OnMessage, Output, acknowledge, change, data_from, emit, hand, on_ack, on_incoming_reset, on_reset_denied, on_reset_performed, on_payload, prioritize, reset, tell_closed, tell_message, tell_opened, tell_refused}
+use Rattle.sctp_channels.specs.Channels.{Channels, OnControl, OnMessage, Output, acknowledge, change, data_from, emit, hand, limit_of, on_ack, on_incoming_reset, on_reset_denied, on_reset_performed, on_payload, prioritize, reset, tell_closed, tell_message, tell_opened, tell_refused}
 use Rattle.sctp_channels.specs.Steps.{DataChannels, Does, Event, Gets, PassesOn, Step, answers, buffers, carries_out, closes, counts, each, gets, heard, hears, named, passed_on, passes_on, refuses, told_by, with_outputs}
 use Rattle.sctp_channels.specs.Entries.{channel_at}
 use Rattle.sctp_channels.specs.Lifecycle.{takes_data}
@@ -50,6 +50,7 @@ record Comes (old new : Channels) (xs : List Content) : Type 0 where
 
 -- where no message waits for a part, this payload is a whole message
 record IsMessage (limit : ℕ) (protocol : PayloadProtocol) (payload : List ℕ) (kind : PayloadKind) (bytes : List ℕ) : Type 0 where
+  limits : (parts : ℕ) (cs : Channels) → limit_of protocol parts cs ≡ cs.limit
   hands : (c : Channel) → HasNoParts c → received limit protocol payload c ≡ message kind bytes
   keeps : (c : Channel) → HasNoParts c → HasNoParts (on_data limit protocol payload c)
 
@@ -67,10 +68,10 @@ stays_whole : (limit : ℕ) (bytes : List ℕ) (c : Channel) → HasNoParts c �
 stays_whole limit bytes c h short = subst (λ (b : Bool). HasNoParts (take_if b bytes c)) (sym (fits limit bytes c h short)) (record { parts = refl; is_whole = h.is_whole })
 
 data_is : (limit : ℕ) (kind : PayloadKind) (bytes : List ℕ) → length bytes ≤ limit → IsMessage limit (Data kind) bytes kind bytes
-data_is limit kind bytes short = record { hands = λ c h. taken_whole limit kind bytes c h short; keeps = λ c h. stays_whole limit bytes c h short }
+data_is limit kind bytes short = record { limits = λ parts cs. refl; hands = λ c h. taken_whole limit kind bytes c h short; keeps = λ c h. stays_whole limit bytes c h short }
 
 empty_is : (limit : ℕ) (kind : PayloadKind) (payload : List ℕ) → IsMessage limit (Empty kind) payload kind []
-empty_is limit kind payload = record { hands = λ c h. taken_whole limit kind [] c h (omega arith); keeps = λ c h. stays_whole limit [] c h (omega arith) }
+empty_is limit kind payload = record { limits = λ parts cs. refl; hands = λ c h. taken_whole limit kind [] c h (omega arith); keeps = λ c h. stays_whole limit [] c h (omega arith) }
 
 refused : (id : ℕ) (x : Content) (cs : Channels) → AreWhole cs → Comes cs (emit (tell_refused id NoChannel) cs) (x ∷ [])
 refused id x cs w = record {
@@ -82,19 +83,23 @@ refused id x cs w = record {
 
 handed_on : (id : ℕ) (protocol : PayloadProtocol) (payload : List ℕ) (kind : PayloadKind) (bytes : List ℕ) (c : Channel) (cs : Channels) → IsMessage cs.limit protocol payload kind bytes
     → HasNoParts c → AreWhole cs
-    → Comes cs (hand (received cs.limit protocol payload c) id (change (on_data cs.limit protocol payload) id cs)) (record { stream = id; kind = kind; bytes = bytes } ∷ [])
+    → Comes cs (hand (received (limit_of protocol (length c.parts) cs) protocol payload c) id (change (on_data (limit_of protocol (length c.parts) cs) protocol payload) id cs))
+    (record { stream = id; kind = kind; bytes = bytes } ∷ [])
 handed_on id protocol payload kind bytes c cs is h w =
-    subst (λ (r : Received). Comes cs (hand r id (change (on_data cs.limit protocol payload) id cs)) (record { stream = id; kind = kind; bytes = bytes } ∷ [])) (sym (is.hands c h))
+    subst (λ (limit : ℕ). Comes cs (hand (received limit protocol payload c) id (change (on_data limit protocol payload) id cs)) (record { stream = id; kind = kind; bytes = bytes } ∷ []))
+    (sym (is.limits (length c.parts) cs))
+    (subst (λ (r : Received). Comes cs (hand r id (change (on_data cs.limit protocol payload) id cs)) (record { stream = id; kind = kind; bytes = bytes } ∷ [])) (sym (is.hands c h))
     (record {
       limit = refl;
       whole = (changes (on_data cs.limit protocol payload) id cs is.keeps).whole w;
       choice = true;
       told = flat_map-append message_in cs.outputs (tell_message id kind bytes ∷ []);
-    })
+    }))
 
 data_comes_if : (takes : Bool) (id : ℕ) (protocol : PayloadProtocol) (payload : List ℕ) (kind : PayloadKind) (bytes : List ℕ) (c : Channel) (cs : Channels)
     → IsMessage cs.limit protocol payload kind bytes → HasNoParts c → AreWhole cs
-    → Comes cs (cond takes (hand (received cs.limit protocol payload c) id (change (on_data cs.limit protocol payload) id cs)) (emit (tell_refused id NoChannel) cs))
+    → Comes cs (cond takes (hand (received (limit_of protocol (length c.parts) cs) protocol payload c) id (change (on_data (limit_of protocol (length c.parts) cs) protocol payload) id cs))
+    (emit (tell_refused id NoChannel) cs))
     (record { stream = id; kind = kind; bytes = bytes } ∷ [])
 data_comes_if true id protocol payload kind bytes c cs is h w = handed_on id protocol payload kind bytes c cs is h w
 data_comes_if false id protocol payload kind bytes c cs is h w = refused id (record { stream = id; kind = kind; bytes = bytes }) cs w

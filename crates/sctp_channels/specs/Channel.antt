@@ -37,6 +37,14 @@ plus count more = min (count + more) (2 ^ 64 - 1)
 abbrev pub new_channel : Lifecycle → Open → Channel
 new_channel l description = record { lifecycle = l; description = description; parts = []; is_too_long = false; statistics = record { messages_sent = 0; bytes_sent = 0; messages_received = 0; bytes_received = 0 } }
 
+-- the bytes of a label and a protocol
+abbrev pub text_bytes : Open → ℕ
+text_bytes description = length description.label + length description.protocol
+
+-- the bytes that a channel keeps
+abbrev pub kept_by : Channel → ℕ
+kept_by c = text_bytes c.description + length c.parts
+
 abbrev pub with_lifecycle : Lifecycle → Channel → Channel
 with_lifecycle l c = record c { lifecycle = l }
 

@@ -1,15 +1,15 @@
 -- The channels of an association: what each call of the owner, and each thing that the socket hands out, makes of them (RFC 8831 sections 6.5 to 6.7,
 -- RFC 8832 sections 4 and 6).
-use Rattle.std.specs.Prelude.{◌≡◌, ◌≢◌, ◌⊎◌, ℕ, ◌%◌, ◌==◌, ◌&&◌, nat_le, cond, Bool, true, false, not, Option, Some, None, List, [], ◌∷◌, ◌++◌, map}
+use Rattle.std.specs.Prelude.{◌≡◌, ◌≢◌, ◌⊎◌, ℕ, ◌+◌, ◌-◌, ◌%◌, ◌==◌, ◌&&◌, nat_le, min, cond, Bool, true, false, not, Option, Some, None, List, [], ◌∷◌, ◌++◌, length, map}
 use Rattle.std.specs.Map.{keys_of}
 use Rattle.sctp_channels.specs.declared.fault.ChannelMessageFault.{ChannelMessageFault}
 use Rattle.sctp_channels.specs.declared.fault.ChannelMessageFault.TheVariants.{Memory}
 use Rattle.sctp_channels.specs.declared.payload.PayloadKind.{PayloadKind}
 use Rattle.sctp_channels.specs.declared.payload.PayloadProtocol.{PayloadProtocol}
-use Rattle.sctp_channels.specs.declared.payload.PayloadProtocol.TheVariants.{Control}
+use Rattle.sctp_channels.specs.declared.payload.PayloadProtocol.TheVariants.{Control, Part}
 use Rattle.sctp_channels.specs.declared.reliability.Reliability.TheVariants.{Reliable}
 use Rattle.sctp_channels.specs.Message.{Establishment, Open, RefusedAs, Says, opens, acknowledges}
-use Rattle.sctp_channels.specs.Channel.{Channel, Received, change_lifecycle, count_sent, message, new_channel, nothing, on_data, received, reset_incoming, too_long}
+use Rattle.sctp_channels.specs.Channel.{Channel, Received, change_lifecycle, count_sent, kept_by, message, new_channel, nothing, on_data, received, reset_incoming, text_bytes, too_long}
 use Rattle.sctp_channels.specs.Lifecycle as life
 use Rattle.sctp_channels.specs.declared.lifecycle.Lifecycle.{Lifecycle}
 use Rattle.sctp_channels.specs.declared.lifecycle.Outgoing.{Outgoing}
@@ -17,8 +17,8 @@ use Rattle.sctp_channels.specs.declared.lifecycle.Outgoing.TheVariants.{Denied}
 use Rattle.sctp_channels.specs.declared.output.Output as given
 use Rattle.sctp_channels.specs.declared.output.Output.TheVariants as outputs
 use Rattle.sctp_channels.specs.declared.output.Refusal.{Refusal}
-use Rattle.sctp_channels.specs.declared.output.Refusal.TheVariants.{BadMessage, WrongParity, NoSuchStream, StreamInUse, NoChannel, UnknownPayloadProtocol, TooLong}
-use Rattle.sctp_channels.specs.Entries.{Entries, channel_at, changed, forget, put}
+use Rattle.sctp_channels.specs.declared.output.Refusal.TheVariants.{BadMessage, WrongParity, NoSuchStream, StreamInUse, NoRoom, NoChannel, UnknownPayloadProtocol, TooLong}
+use Rattle.sctp_channels.specs.Entries.{Entries, channel_at, changed, forget, kept_bytes, put}
 
 -- what is to be done, or is told to the owner
 pub data Output : Type 0 where
@@ -49,12 +49,15 @@ pub record Channels : Type 0 where
   pub stream_count : ℕ
   -- the longest message that this end takes
   pub limit : ℕ
+  -- the most bytes that channels keep together, as far as the peer adds to them
+  pub kept_limit : ℕ
   pub entries : Entries
   -- what is not done or taken yet, in order
   pub outputs : List Output
 
-abbrev pub no_channels : Bool → ℕ → ℕ → Channels
-no_channels is_client stream_count limit = record { is_client = is_client; stream_count = stream_count; limit = limit; entries = []; outputs = [] }
+abbrev pub no_channels : Bool → (stream_count limit kept_limit : ℕ) → Channels
+no_channels is_client stream_count limit kept_limit =
+    record { is_client = is_client; stream_count = stream_count; limit = limit; kept_limit = kept_limit; entries = []; outputs = [] }
 
 abbrev pub emit : Output → Channels → Channels
 emit o cs = record cs { outputs = cs.outputs ++ o ∷ [] }
@@ -120,14 +123,23 @@ turn_down id why cs = turn_down_from (channel_at id cs.entries) id why cs
 abbrev pub take_open : ℕ → Open → Lifecycle → Channels → Channels
 take_open id description l cs = place id l description (emit (tell_opened id) (emit (acknowledge id) cs))
 
--- the channel before is closed by the peer's word
-abbrev pub reopen_if : (may_reopen : Bool) → ℕ → Open → Channels → Channels
-reopen_if true id description cs = take_open id description life.reopened (emit (tell_closed id) cs)
-reopen_if false id description cs = turn_down id StreamInUse cs
+-- so many bytes more may be kept
+abbrev pub room : Channels → ℕ
+room cs = cs.kept_limit - kept_bytes cs.entries
+
+-- there is room for a label and a protocol, in place of so many bytes
+abbrev pub has_room : (before : ℕ) → Open → Channels → Bool
+has_room before description cs = nat_le (text_bytes description) (room cs + before)
+
+-- the channel before, which keeps so many bytes, is closed by the peer's word
+abbrev pub reopen_if : (may_reopen : Bool) → (before : ℕ) → ℕ → Open → Channels → Channels
+reopen_if true before id description cs =
+    cond (has_room before description cs) (take_open id description life.reopened (emit (tell_closed id) cs)) (turn_down id NoRoom cs)
+reopen_if false before id description cs = turn_down id StreamInUse cs
 
 abbrev pub open_from : Option Channel → ℕ → Open → Channels → Channels
-open_from None id description cs = take_open id description life.negotiated cs
-open_from (Some c) id description cs = reopen_if (life.may_reopen c.lifecycle) id description cs
+open_from None id description cs = cond (has_room 0 description cs) (take_open id description life.negotiated cs) (turn_down id NoRoom cs)
+open_from (Some c) id description cs = reopen_if (life.may_reopen c.lifecycle) (kept_by c) id description cs
 
 -- the peer opens a channel: on a stream of its own parity that there is
 abbrev pub on_open : ℕ → Open → Channels → Channels
@@ -147,10 +159,16 @@ hand nothing id cs = cs
 hand (message kind bytes) id cs = emit (tell_message id kind bytes) cs
 hand too_long id cs = emit (tell_refused id TooLong) cs
 
+-- the longest message that what came behind so many bytes may be of: a part is kept, and so has to find room
+abbrev pub limit_of : PayloadProtocol → (parts : ℕ) → Channels → ℕ
+limit_of (Part kind) parts cs = min cs.limit (parts + room cs)
+limit_of protocol parts cs = cs.limit
+
 abbrev pub data_from : Option Channel → ℕ → PayloadProtocol → List ℕ → Channels → Channels
 data_from None id protocol payload cs = emit (tell_refused id NoChannel) cs
 data_from (Some c) id protocol payload cs =
-    cond (life.takes_data c.lifecycle) (hand (received cs.limit protocol payload c) id (change (on_data cs.limit protocol payload) id cs)) (emit (tell_refused id NoChannel) cs)
+    cond (life.takes_data c.lifecycle) (hand (received (limit_of protocol (length c.parts) cs) protocol payload c) id (change (on_data (limit_of protocol (length c.parts) cs) protocol payload) id cs))
+    (emit (tell_refused id NoChannel) cs)
 
 abbrev pub deliver : ℕ → PayloadProtocol → List ℕ → Channels → Channels
 deliver id protocol payload cs = data_from (channel_at id cs.entries) id protocol payload cs

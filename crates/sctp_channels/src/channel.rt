@@ -1,12 +1,12 @@
 //! A channel: what it is, its lifecycle, and the data that came.
 
-ghost use Rattle.std.specs.Prelude.{◌≡◌, [], ◌++◌, length, option_map, true, IsTrue, IsFalse, None, IfOk, OnOk, OnErr};
+ghost use Rattle.std.specs.Prelude.{◌≡◌, ◌<◌, ◌^◌, [], ◌++◌, length, option_map, true, IsTrue, IsFalse, None, IfOk, OnOk, OnErr};
 ghost use Rattle.std.specs.Result.{is_ok};
 ghost use Rattle.std.specs.Duration.{as_nanos};
 ghost use Rattle.sctp_channels.specs.Views.{open_of};
 ghost use Rattle.sctp_channels.specs.DataChannels.{lifetime, retransmissions};
 ghost use Rattle.sctp_channels.specs.Lifecycle.{may_send};
-ghost use Rattle.sctp_channels.specs.Channel.{count_received, count_sent, exceeds, goes_unordered, keep, new_channel, nothing, on_data, received, received_as, reset_incoming, take, taken, takes_whole, with_lifecycle, with_parts};
+ghost use Rattle.sctp_channels.specs.Channel.{count_received, count_sent, exceeds, goes_unordered, keep, kept_by, new_channel, nothing, on_data, received, received_as, reset_incoming, take, taken, takes_whole, with_lifecycle, with_parts};
 
 use crate::{DataChannelOpen, Lifecycle, PayloadKind, PayloadProtocol, Reliability, SendRefusal};
 use sctp_serial::Message;
@@ -114,6 +114,22 @@ impl Channel {
         self.statistics
     }
 
+    /// The bytes that it keeps: of its label, its protocol and parts of a message whose last one did not come.
+    pub(crate) fn kept_bytes(&self) -> u128
+        ensures kept { result ≡ kept_by self.now }
+        ensures small { result < 2 ^ 66 }
+    {
+        let texts = self.description.label.len() as u128 + self.description.protocol.len() as u128;
+        texts + self.parts.len() as u128
+    }
+
+    /// The bytes of these parts.
+    pub(crate) fn parts_len(&self) -> usize
+        ensures { result ≡ length self.now.parts }
+    {
+        self.parts.len()
+    }
+
     /// Whether the next message may overtake others: on an unordered channel, once both ends have it.
     pub fn goes_unordered(&self) -> bool
         ensures { result ≡ goes_unordered self.now }
@@ -184,6 +200,7 @@ impl Channel {
         ensures { self.new ≡ with_parts [] is_too_long self.old }
     {
         self.parts.clear();
+        self.parts.shrink_to_fit();
         self.is_too_long = is_too_long;
     }
 

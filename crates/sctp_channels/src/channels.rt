@@ -8,10 +8,11 @@ ghost use Rattle.sctp_channels.specs.Payload.{protocol_of};
 ghost use Rattle.sctp_channels.specs.Steps.{each};
 ghost use Rattle.sctp_channels.specs.Views.{open_of};
 ghost use Rattle.sctp_channels.specs.Channel.{count_received, new_channel, received_as, takes_whole, with_lifecycle};
-ghost use Rattle.sctp_channels.specs.Channels.{Emits, OnControl, OnMessage, Output as output, Stands, change, close, deliver, drain, emit, end, hand, incoming_streams, is_denied, is_own, is_shown, negotiate, no_channels, on_ack, on_incoming_reset, on_open, on_payload, on_reset_denied, on_reset_performed, open_from, open_own, output_of, place, sent, shown_streams, take_open, tell_closed, tell_end, turn_down, with_entries};
+ghost use Rattle.sctp_channels.specs.Channels.{Emits, OnControl, OnMessage, Output as output, Stands, change, close, deliver, drain, emit, end, hand, has_room, incoming_streams, is_denied, is_own, is_shown, limit_of, negotiate, no_channels, on_ack, on_incoming_reset, on_open, on_payload, on_reset_denied, on_reset_performed, open_from, open_own, output_of, place, room, sent, shown_streams, take_open, tell_closed, tell_end, turn_down, with_entries};
 ghost use Rattle.sctp_channels.specs.DataChannels.{IsOpenAt};
 ghost use Rattle.sctp_channels.specs.Entries.{channel_at, forget, put};
 
+use crate::channel_map::ChannelMap;
 use crate::{
     Channel, ChannelMessage, ChannelMessageFault, DataChannelOpen, Lifecycle, Opening, Outgoing,
     Output, PayloadProtocol, Received, Refusal, Reliability, SendRefusal,
@@ -29,23 +30,20 @@ pub struct Channels {
     is_client: bool,
     stream_count: u16,
     limit: usize,
-    entries: BTreeMap<u16, Channel>,
+    max_kept_bytes: usize,
+    entries: ChannelMap,
     outputs: VecDeque<Output>,
-    // where it is false each channel's incoming stream was reset
-    has_incoming: bool,
     // where `free_stream` begins: behind the stream that was opened last, since a peer may still close what stands on one that was just freed
     first_candidate: u16,
 }
 
 impl Model for Channels {
-    ghost use Rattle.std.specs.Prelude.{◌≡◌, false, [], map};
-    ghost use Rattle.sctp_channels.specs.Channels.{Channels, incoming_streams, output_of};
+    ghost use Rattle.std.specs.Prelude.{map};
+    ghost use Rattle.sctp_channels.specs.Channels.{Channels, output_of};
 
     ghost Value = { Channels };
 
-    ghost view = { λ c. record { is_client = c.is_client; stream_count = c.stream_count; limit = c.limit; entries = c.entries.entries; outputs = map output_of c.outputs.items } };
-
-    ghost invariant = { λ c. c.has_incoming ≡ false → incoming_streams c.entries.entries ≡ [] };
+    ghost view = { λ c. record { is_client = c.is_client; stream_count = c.stream_count; limit = c.limit; kept_limit = c.max_kept_bytes; entries = c.entries; outputs = map output_of c.outputs.items } };
 }
 
 /// Whether this end opens channels on streams of this number.
@@ -84,45 +82,27 @@ fn tell_all_closed(
     Ok(())
 }
 
-fn stream_ids(alloc: Global, channels: &BTreeMap<u16, Channel>) -> Result<Vec<StreamId>, AllocError>
-    ensures { IfOk result (λ ids. map (λ id. id.0) ids.items ≡ keys_of channels.now.entries) }
-{
-    let mut ids = Vec::new(alloc);
-    for (id, _) in channels {
-        ids.push(StreamId(*id))?;
-    }
-    Ok(ids)
-}
-
-fn incoming_ids(
-    alloc: Global,
-    channels: &BTreeMap<u16, Channel>,
-) -> Result<Vec<StreamId>, AllocError>
-    ensures { IfOk result (λ ids. map (λ id. id.0) ids.items ≡ incoming_streams channels.now.entries) }
-{
-    let mut ids = Vec::new(alloc);
-    for (id, channel) in channels {
-        if !channel.lifecycle().is_incoming_reset {
-            ids.push(StreamId(*id))?;
-        }
-    }
-    Ok(ids)
-}
-
 impl Channels {
     /// No channels. The client of DTLS opens even streams, the server odd ones, below `stream_count`. A message of more than `limit` bytes isn't
-    /// taken.
-    pub fn new(alloc: Global, is_client: bool, stream_count: u16, limit: usize) -> Channels
-        ensures { result ≡ no_channels is_client stream_count limit }
+    /// taken. Of labels, protocols and parts of unfinished messages all channels keep at most `max_kept_bytes` together, as far as the peer adds
+    /// to them: what this end opens counts too, and isn't refused for it.
+    pub fn new(
+        alloc: Global,
+        is_client: bool,
+        stream_count: u16,
+        limit: usize,
+        max_kept_bytes: usize,
+    ) -> Channels
+        ensures { result ≡ no_channels is_client stream_count limit max_kept_bytes }
     {
         Channels {
             alloc,
             is_client,
             stream_count,
             limit,
-            entries: BTreeMap::new(alloc),
+            max_kept_bytes,
+            entries: ChannelMap::new(alloc),
             outputs: VecDeque::new(alloc),
-            has_incoming: false,
             first_candidate: 0,
         }
     }
@@ -207,7 +187,6 @@ impl Channels {
         ensures err { OnErr result (self.new ≡ self.old) }
     {
         let channel = Channel::new(self.alloc, lifecycle, description);
-        self.has_incoming = true;
         self.entries.insert(id.0, channel)?;
         Ok(())
     }
@@ -225,7 +204,6 @@ impl Channels {
         let priority = description.priority;
         let channel = Channel::new(self.alloc, lifecycle, description);
         self.outputs.reserve(1)?;
-        self.has_incoming = true;
         self.entries.insert(id.0, channel)?;
         if priority != 0 {
             self.outputs
@@ -238,10 +216,7 @@ impl Channels {
     fn set_lifecycle(&mut self, id: StreamId, lifecycle: Lifecycle)
         ensures { self.new ≡ change (with_lifecycle lifecycle) id.0 self.old }
     {
-        self.has_incoming = true;
-        if let Some(channel) = self.entries.get_mut(&id.0) {
-            channel.set_lifecycle(lifecycle);
-        }
+        self.entries.set_lifecycle(&id.0, lifecycle);
     }
 
     /// Opens a channel on a stream that is free, of this end's parity (`free_stream`), which is to have the channel's priority, unless that is 0.
@@ -270,11 +245,10 @@ impl Channels {
     pub fn close(&mut self, id: StreamId)
         ensures { self.new ≡ close id.0 self.old }
     {
-        self.has_incoming = true;
-        if let Some(channel) = self.entries.get_mut(&id.0) {
+        if let Some(channel) = self.entries.get(&id.0) {
             let mut lifecycle = channel.lifecycle();
             lifecycle.close();
-            channel.set_lifecycle(lifecycle);
+            self.set_lifecycle(id, lifecycle);
         }
     }
 
@@ -291,11 +265,7 @@ impl Channels {
         ensures given { OnOk result (is_ok given ≡ true) }
         ensures err { OnErr result (self.new ≡ self.old) }
     {
-        self.has_incoming = true;
-        let Some(channel) = self.entries.get_mut(&id.0) else {
-            return Err(SendRefusal::NoChannel);
-        };
-        channel.send(socket, size, given)
+        self.entries.send(socket, &id.0, size, given)
     }
 
     /// What was opened isn't taken: its stream is reset, and a channel on it is closed.
@@ -340,7 +310,6 @@ impl Channels {
         if is_shown(lifecycle) {
             self.emit(Output::Closed(id))?;
         }
-        self.has_incoming = true;
         self.entries.remove(&id.0);
         Ok(())
     }
@@ -406,10 +375,7 @@ impl Channels {
         if lifecycle.is_over() {
             return self.end_one(id, lifecycle);
         }
-        self.has_incoming = true;
-        if let Some(channel) = self.entries.get_mut(&id.0) {
-            channel.reset_incoming();
-        }
+        self.entries.reset_incoming(&id.0);
         Ok(())
     }
 
@@ -450,10 +416,17 @@ impl Channels {
         ensures err { OnErr result (Emits self.old self.new) }
     {
         let Some(channel) = self.entries.get(&id.0) else {
+            if !self.has_room(0, &description) {
+                return self.turn_down(id, Refusal::NoRoom);
+            }
             return self.take_open(id, description, Lifecycle::negotiated());
         };
         if !channel.lifecycle().may_reopen() {
             return self.turn_down(id, Refusal::StreamInUse);
+        }
+        let before = channel.kept_bytes();
+        if !self.has_room(before, &description) {
+            return self.turn_down(id, Refusal::NoRoom);
         }
         self.emit(Output::Closed(id))?;
         self.take_open(id, description, Lifecycle::reopened())
@@ -478,6 +451,30 @@ impl Channels {
         }
     }
 
+    /// How many bytes more the channels may keep.
+    fn room(&self) -> usize
+        ensures { result ≡ room self.now }
+    {
+        (self.max_kept_bytes as u128).saturating_sub(self.entries.kept_bytes()) as usize
+    }
+
+    /// Whether there is room for a label and a protocol, in place of so many bytes.
+    fn has_room(&self, before: u128, description: &DataChannelOpen) -> bool
+        ensures { result ≡ has_room before (open_of description.now) self.now }
+    {
+        description.text_bytes() <= (self.room() as u128).saturating_add(before)
+    }
+
+    /// The longest message that what came behind so many bytes may be of. A part is kept until the last one comes, and so has to find room.
+    fn limit_of(&self, protocol: PayloadProtocol, parts: usize) -> usize
+        ensures { result ≡ limit_of protocol parts self.now }
+    {
+        match protocol {
+            PayloadProtocol::Part(_kind) => self.limit.min(parts.saturating_add(self.room())),
+            _ => self.limit,
+        }
+    }
+
     /// What becomes of data on the stream, where its channel takes any.
     #[tactic(auto, using(crate::proofs::StandsLemmas::stands_same, crate::proofs::StandsLemmas::stands_told, crate::proofs::StandsLemmas::stands_changed))]
     fn deliver(
@@ -489,14 +486,17 @@ impl Channels {
         ensures ok { OnOk result (self.new ≡ deliver id.0 protocol payload.items self.old) }
         ensures err { OnErr result (Stands self.old self.new) }
     {
-        let Some(channel) = self.entries.get_mut(&id.0) else {
+        let Some(channel) = self.entries.get(&id.0) else {
             return self.emit(Output::Refused(id, Refusal::NoChannel));
         };
         if !channel.lifecycle().takes_data() {
             return self.emit(Output::Refused(id, Refusal::NoChannel));
         }
-        self.has_incoming = true;
-        let received = channel.on_data(self.alloc, self.limit, protocol, payload)?;
+        let parts = channel.parts_len();
+        let limit = self.limit_of(protocol, parts);
+        let received = self
+            .entries
+            .on_data(&id.0, self.alloc, limit, protocol, payload)?;
         self.hand(received, id)
     }
 
@@ -539,14 +539,7 @@ impl Channels {
         if self.outputs.len() != 0 {
             return false;
         }
-        let Some(channel) = self.entries.get_mut(&id.0) else {
-            return false;
-        };
-        let counts = channel.count_whole(self.limit, size);
-        if counts {
-            self.has_incoming = true;
-        }
-        counts
+        self.entries.count_whole(&id.0, self.limit, size)
     }
 
     /// Data came on the stream, and with it the news that the peer has the channel.
@@ -601,7 +594,7 @@ impl Channels {
     pub fn streams(&self) -> Result<Vec<StreamId>, AllocError>
         ensures { IfOk result (λ ids. map (λ id. id.0) ids.items ≡ keys_of self.now.entries) }
     {
-        stream_ids(self.alloc, &self.entries)
+        self.entries.streams(self.alloc)
     }
 
     /// Those of them whose peer hasn't reset them yet. Where there were none, and no channel has changed since, none is looked at.
@@ -609,12 +602,7 @@ impl Channels {
         ensures ids { IfOk result (λ ids. map (λ id. id.0) ids.items ≡ incoming_streams self.old.entries) }
         ensures same { self.new ≡ self.old }
     {
-        if !self.has_incoming {
-            return Ok(Vec::new(self.alloc));
-        }
-        let ids = incoming_ids(self.alloc, &self.entries)?;
-        self.has_incoming = !ids.is_empty();
-        Ok(ids)
+        self.entries.incoming_streams(self.alloc)
     }
 
     /// The association has ended: each channel is closed, and its stream is free.
@@ -622,9 +610,8 @@ impl Channels {
         ensures ok { OnOk result (self.new ≡ end self.old) }
         ensures err { OnErr result (Emits self.old self.new) }
     {
-        tell_all_closed(&self.entries, &mut self.outputs)?;
+        tell_all_closed(self.entries.as_map(), &mut self.outputs)?;
         self.entries.clear();
-        self.has_incoming = false;
         self.first_candidate = 0;
         Ok(())
     }

@@ -58,10 +58,10 @@ impl Model for DataChannels {
 }
 
 impl DataChannels {
-    /// No channels. The client of DTLS opens even streams, the server odd ones, below `stream_count`,
-    /// and once the association stands below the number that was negotiated. A message of more than
-    /// `max_message_size` bytes isn't taken, and none is sent of more than `peer_max_message_size`, as the session descriptions say, where 0 is
-    /// any; nor one by which more than `max_buffered_amount` bytes of its channel would wait.
+    /// No channels. The client of DTLS opens even streams, the server odd ones, below `stream_count`, and once the association stands below the
+    /// number that was negotiated. A message of more than `max_message_size` bytes isn't taken, and none is sent of more than
+    /// `peer_max_message_size`, as the session descriptions say, where 0 is any; nor one by which more than `max_buffered_amount` bytes of its
+    /// channel would wait. `max_kept_bytes` is as for `Channels::new`.
     pub fn new(
         alloc: Global,
         is_client: bool,
@@ -69,12 +69,19 @@ impl DataChannels {
         max_message_size: usize,
         peer_max_message_size: usize,
         max_buffered_amount: usize,
+        max_kept_bytes: usize,
     ) -> DataChannels
-        ensures { result ≡ record { channels = no_channels is_client stream_count max_message_size; peer_limit = peer_max_message_size; buffer_limit = max_buffered_amount; events = []; unanswered = [] } }
+        ensures { result ≡ record { channels = no_channels is_client stream_count max_message_size max_kept_bytes; peer_limit = peer_max_message_size; buffer_limit = max_buffered_amount; events = []; unanswered = [] } }
     {
         DataChannels {
             alloc,
-            channels: Channels::new(alloc, is_client, stream_count, max_message_size),
+            channels: Channels::new(
+                alloc,
+                is_client,
+                stream_count,
+                max_message_size,
+                max_kept_bytes,
+            ),
             events: VecDeque::new(alloc),
             unanswered: VecDeque::new(alloc),
             closing: BTreeSet::new(alloc),
@@ -194,8 +201,7 @@ impl DataChannels {
         self.settle(socket)
     }
 
-    /// Takes what the socket has handed out and emitted. Messages come before events, since those of a channel are ready before the reset that
-    /// closes it is emitted.
+    /// Takes what the socket has handed out and emitted: messages first, since a channel's are ready before the reset that closes it is emitted.
     #[tactic(auto, using(crate::proofs::FollowsLemmas::follows_then, crate::proofs::FollowsLemmas::told_then))]
     pub fn collect<S: DcSctpSocket>(&mut self, socket: &mut S) -> Result<(), CallError>
         ensures steps { OnOk result (Follows self.old self.new) }
@@ -555,8 +561,8 @@ impl DataChannels {
         self.carry_out(socket)
     }
 
-    /// Asks for the resets that are due, up to where of the streams that are next in turn none is. So what a call costs is bounded by what it asks
-    /// for, however many streams wait for a peer that takes nothing.
+    /// Asks for the resets that are due, up to where of the streams that are next in turn none is: a call costs no more than what it asks for,
+    /// however many streams wait for a peer that takes nothing.
     #[tactic(auto, using(crate::proofs::FollowsLemmas::follows_then, crate::proofs::FollowsLemmas::follows_same, crate::proofs::FollowsLemmas::told_then, crate::proofs::FollowsLemmas::told_same))]
     fn settle_in_turn<S: DcSctpSocket>(&mut self, socket: &S) -> Result<(), AllocError>
         ensures steps { OnOk result (Follows self.old self.new) }
@@ -614,8 +620,7 @@ impl DataChannels {
         Ok(ids)
     }
 
-    /// Carries out what is to be done. Where nothing is, nothing changes: what the socket refused is not tried again for an event, since each
-    /// refusal emits one.
+    /// Carries out what is to be done. Where nothing is, nothing changes: what the socket refused isn't tried again, since each refusal emits.
     #[inline(always)]
     #[tactic(auto, using(crate::proofs::FollowsLemmas::follows_then, crate::proofs::FollowsLemmas::follows_same, crate::proofs::FollowsLemmas::follows_carried, crate::proofs::FollowsLemmas::told_then, crate::proofs::FollowsLemmas::told_same, crate::proofs::FollowsLemmas::no_outputs, crate::proofs::FollowsLemmas::all_carried))]
     fn carry_out<S: DcSctpSocket>(&mut self, socket: &mut S) -> Result<(), CallError>
@@ -761,8 +766,7 @@ fn passed_on(event: SocketEvent) -> Option<ChannelEvent>
     }
 }
 
-/// Whether the association may still take an answer. Where it is shutting down it takes none any more, and its end closes the channels; a closed
-/// socket would keep it for the next association.
+/// Whether the association may still take an answer. One that shuts down takes none, and a closed socket would keep it for the next association.
 fn takes_answers<S: DcSctpSocket>(socket: &S) -> bool {
     match socket.state() {
         SocketState::Connecting | SocketState::Connected => socket.options().max_message_size != 0,

@@ -9,6 +9,7 @@
 
 mod channel;
 mod channel_laws;
+mod channel_map;
 mod channels;
 mod data_channels;
 mod event;

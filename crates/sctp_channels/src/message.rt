@@ -3,6 +3,7 @@
 ghost use Rattle.std.specs.Prelude.{◌≡◌, ◌∷◌, ◌++◌, IfOk, IfErr, OnOk, IsTrue, ◌↔◌};
 ghost use Rattle.sctp_channels.specs.Message.{Says, SaysOpen, RefusedAs, MessageFits, OpenFits, HasShortTexts, MessageHasShortTexts, header_of, message_bytes, open_bytes, parameter};
 ghost use Rattle.sctp_channels.specs.Views.{Establishment, message_of, open_of};
+ghost use Rattle.sctp_channels.specs.Channel.{text_bytes};
 
 use crate::header::Header;
 use crate::{ChannelMessageFault, Reliability};
@@ -40,6 +41,13 @@ pub enum ChannelMessage {
 }
 
 impl DataChannelOpen {
+    /// The bytes of its label and its protocol.
+    pub(crate) fn text_bytes(&self) -> u128
+        ensures { result ≡ text_bytes (open_of self.now) }
+    {
+        self.label.len() as u128 + self.protocol.len() as u128
+    }
+
     /// What is behind the message type.
     fn from_bytes(alloc: Global, bytes: &[u8]) -> Result<DataChannelOpen, ChannelMessageFault>
         ensures ok { IfOk result (λ it. SaysOpen (3 ∷ bytes.now) (open_of it)) }

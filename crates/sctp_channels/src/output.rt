@@ -14,6 +14,8 @@ pub enum Refusal {
     NoSuchStream,
     /// The peer opened a channel on a stream that has one. That channel is closed.
     StreamInUse,
+    /// The peer opened a channel for whose label and protocol there is no room left. The stream is reset.
+    NoRoom,
     /// Data came on a stream without a channel. It is dropped.
     NoChannel,
     /// A message came under a PPID that is none of those of data channels. It is dropped.

@@ -1,6 +1,6 @@
 use Rattle.std.proofs.Common.{arith}
 use Rattle.std.proofs.lemmas.Grind.{common_steps}
-use Rattle.sctp_channels.proofs.channels.stream_ids.Goals as goal
+use Rattle.sctp_channels.proofs.channel_map.stream_ids.Goals as goal
 
 pub loop-id-preserved : goal.loop-id-preserved
 loop-id-preserved c = grind (arith, common_steps)
