@@ -23,7 +23,15 @@ fn new_end<S>(rt: &HostRuntime, name: &'static str, socket: S, is_client: bool) 
         alloc: rt.alloc(),
         name,
         socket,
-        channels: DataChannels::new(rt.alloc(), is_client, 16, 65536, 65536, 1_000_000, 1_000_000),
+        channels: DataChannels::new(
+            rt.alloc(),
+            is_client,
+            16,
+            65536,
+            65536,
+            1_000_000,
+            1_000_000,
+        ),
         came: Vec::new(rt.alloc()),
         sent: Vec::new(rt.alloc()),
     }

@@ -33,7 +33,8 @@ pub struct Channels {
     max_kept_bytes: usize,
     entries: ChannelMap,
     outputs: VecDeque<Output>,
-    // where `free_stream` begins: behind the stream that was opened last, since a peer may still close what stands on one that was just freed
+    // where `free_stream` begins: behind the stream that was opened last, since a peer may still close what stands on one that was just freed, and
+    // the owner may still have to be told that it was
     first_candidate: u16,
 }
 
@@ -612,7 +613,6 @@ impl Channels {
     {
         tell_all_closed(self.entries.as_map(), &mut self.outputs)?;
         self.entries.clear();
-        self.first_candidate = 0;
         Ok(())
     }
 }

@@ -75,10 +75,7 @@ fn call(output: &mut Output, channels: &mut Channels, name: &str, first: u32, se
             channels,
             begin(output.alloc, name == "client", first, second, MANY),
         )),
-        "narrow" => drop(mem::replace(
-            channels,
-            begin(output.alloc, true, 8, first, second),
-        )),
+        "narrow" => drop(mem::replace(channels, begin(output.alloc, true, 8, first, second))),
         "close" => channels.close(id),
         "streams" => channels.set_stream_count(id.0),
         "show" => show(output, channels, id),
@@ -102,12 +99,7 @@ fn show(output: &mut Output, channels: &Channels, id: StreamId) {
 }
 
 fn list(output: &mut Output, channels: &Channels) {
-    let mut ids = Vec::new(output.alloc);
-    for id in 0..u16::MAX {
-        if channels.get(StreamId(id)).is_some() {
-            output.note(ids.push(StreamId(id)));
-        }
-    }
+    let ids = output.made(channels.streams());
     output.debug_line(&ids);
 }
 
