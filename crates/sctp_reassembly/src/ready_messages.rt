@@ -16,6 +16,9 @@ use std::marker::Model;
 // So many buffers are kept at most.
 const SPARE_BUFFERS: usize = 64;
 
+// An empty list gives its memory back where it has room for more.
+const MOST_SPARE_PLACES: usize = 1_024;
+
 /// Messages in the order in which they became ready, and how many bytes they have. Buffers that their fragments left are kept.
 #[derive(Drop)]
 pub struct ReadyMessages {
@@ -125,6 +128,9 @@ impl ReadyMessages {
     {
         let message = self.messages.pop_front()?;
         self.bytes -= message.payload.len();
+        if self.messages.is_empty() && self.messages.capacity() > MOST_SPARE_PLACES {
+            self.messages.shrink_to_fit();
+        }
         Some(message)
     }
 }
