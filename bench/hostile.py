@@ -118,6 +118,12 @@ def sack(tsn, window, gaps=(), again=()):
     return chunk(3, 0, be32(tsn) + be32(window) + be16(len(gaps)) + be16(len(again)) + blocks + b"".join(map(be32, again)))
 
 
+def cookie_echo(peer_tag, my_tag, peer_tsn, my_tsn):
+    """A cookie that can be read (docs/FORMATS.md), of an end that announced a window of 131,072 bytes, 65,535 streams and no more."""
+    numbers = be32(peer_tag) + be32(my_tag) + be32(peer_tsn) + be32(my_tsn) + be32(131_072)
+    return chunk(10, 0, b"dcSCTPr0" + numbers + bytes(8) + bytes(8) + be16(65_535) + be16(65_535))
+
+
 def forward(tsn, skipped=()):
     return chunk(192, 0, be32(tsn) + b"".join(be16(stream) + be16(ssn) for stream, ssn in skipped))
 
