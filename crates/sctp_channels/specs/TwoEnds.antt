@@ -71,8 +71,7 @@ chosen (is ∷ choice) [] = []
 chosen (true ∷ choice) (x ∷ xs) = x ∷ chosen choice xs
 chosen (false ∷ choice) (x ∷ xs) = chosen choice xs
 
--- The owner is told, in this order and of the same kind, what the other end accepted: some of the contents at these places, each once. The others came
--- where no channel takes data.
+-- the owner is told, in this order and of the same kind, what the other end accepted: some of the contents at these places, each once
 abbrev pub WhatIsToldWasAccepted : Type 0
 WhatIsToldWasAccepted =
     (steps : List Step) (d e : DataChannels) → Runs steps d e → AreWhole d.channels → (offers : List Offer) (places : List ℕ) → All (IsShort d.channels.limit) offers

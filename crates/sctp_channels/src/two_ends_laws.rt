@@ -7,7 +7,7 @@ ghost use Rattle.sctp_channels.specs.TwoEnds.{AreAccepted, AreWhole, IsShort, Of
 
 /// Whatever happens to the channels of an end, and in whichever order: where its socket hands out messages that the other end accepted at some places,
 /// as the law of delivery has it of two sockets, the owner is told some of the contents at these places, in their order, byte for byte and of the
-/// same kind. The others came on a stream without a channel that takes data.
+/// same kind.
 ///
 /// So it is with what a `collect` or a `close` leaves for `next_event`, of the messages that it got.
 pub fn what_is_told_was_accepted()
