@@ -1,11 +1,11 @@
 //! Intervals in the order of their keys: maximal runs of fragments without a message's border inside.
 
 ghost use Rattle.std.specs.Prelude.{◌≡◌, ◌==◌, ◌+◌, ◌<◌, ◌≤◌, ◌^◌, ◌++◌, ◌∷◌, [], not, List, true, false, length, option_map, IfOk, OnOk, OnErr, IfSome, IfNone};
-ghost use Rattle.sctp_fragments.specs.Runs.{is_held, with_item};
+ghost use Rattle.sctp_fragments.specs.Runs.{is_held, with_item, from_rank};
 ghost use Rattle.sctp_fragments.specs.Held.{rank_of, bytes_of, IsPlaced};
 ghost use Rattle.sctp_fragments.specs.ReassemblyKey.{rank_at};
-ghost use Rattle.sctp_fragments.specs.Interval.{as_held, held_of};
-ghost use Rattle.sctp_reassembly.specs.ListState.{held_in, IsListState, IsLeft};
+ghost use Rattle.sctp_fragments.specs.Interval.{as_held, held_of, entries_of};
+ghost use Rattle.sctp_reassembly.specs.ListState.{held_in, IsListState, IsLeft, IsLone};
 
 use crate::interval_map::IntervalMap;
 use crate::places::has_key;
@@ -62,6 +62,14 @@ fn narrow<K: ReassemblyKey>(state: &mut ListState<K>)
     }
     let left = map.take_few();
     *state = left;
+}
+
+/// Whether a single fragment is before the key.
+fn is_below<K: ReassemblyKey>(interval: &Interval<K>, key: K) -> bool
+    ensures gone { IsLone K.number K.index interval.now → result ≡ true → from_rank rank_of (rank_at K.number K.index key) (entries_of (held_of K.number K.index) (interval.now ∷ [])) ≡ [] }
+    ensures same { IsLone K.number K.index interval.now → result ≡ false → from_rank rank_of (rank_at K.number K.index key) (entries_of (held_of K.number K.index) (interval.now ∷ [])) ≡ entries_of (held_of K.number K.index) (interval.now ∷ []) }
+{
+    is_before(interval.first().key, key)
 }
 
 impl<K: ReassemblyKey> IntervalList<K> {
@@ -263,16 +271,17 @@ impl<K: ReassemblyKey> IntervalList<K> {
         ensures bytes { bytes_of self.new ≤ bytes_of self.old }
         ensures fragments { length self.new ≤ length self.old }
     {
-        if let ListState::Many(map) = &mut self.state {
-            map.retain(key);
-            narrow(&mut self.state);
-            return;
+        match &mut self.state {
+            ListState::Empty => {}
+            ListState::Lone(interval) => {
+                if is_below(interval, key) {
+                    self.state = ListState::Empty;
+                }
+            }
+            ListState::Many(map) => {
+                map.retain(key);
+                narrow(&mut self.state);
+            }
         }
-        let mut map = IntervalMap::of(
-            self.alloc,
-            std::mem::replace(&mut self.state, ListState::Empty),
-        );
-        map.retain(key);
-        self.state = map.take_few();
     }
 }
