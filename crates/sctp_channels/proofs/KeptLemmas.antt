@@ -1,6 +1,6 @@
 -- How many bytes channels keep where one is changed, placed or forgotten.
 use Rattle.std.proofs.Common.{◌≡◌, ℕ, ◌+◌, ◌-◌, ◌*◌, ◌^◌, ◌<◌, ◌≤◌, min, cond, Bool, true, false, Option, Some, None, Result, Ok, Err, List, [], ◌∷◌, length, refl, sym, ap, subst, ◌∙◌, arith}
-use Rattle.std.specs.Prelude.{All, IfSome}
+use Rattle.std.specs.Prelude.{All, IfSome, IsFalse, IsTrue}
 use Rattle.std.specs.BTreeMap.{is_at}
 use Rattle.std.specs.List.{AllByRecursion}
 use Rattle.std.specs.List.Sorted.{IsStrictlySortedBy}
@@ -152,5 +152,6 @@ pub either_way : {T E : Type 0} (r : Result T E) {P : Type 0} → OnOk r P → O
 either_way (Ok x) ok err = ok
 either_way (Err e) ok err = err
 
-pub has_some : {A : Type 0} → true ≡ false → A
-has_some e = absurd cc
+pub either_answer : (b : Bool) {P : Type 0} → (IsTrue b → P) → (IsFalse b → P) → P
+either_answer true held failed = held refl
+either_answer false held failed = failed refl

@@ -1,6 +1,7 @@
 pub mod AnswerLemmas
 pub mod DataLemmas
 pub mod FollowsLemmas
+pub mod IncomingLemmas
 pub mod KeptLemmas
 pub mod MessageLemmas
 pub mod QuietLemmas

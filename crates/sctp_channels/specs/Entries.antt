@@ -3,6 +3,7 @@ use Rattle.std.specs.Prelude.{◌≡◌, ℕ, ◌+◌, ◌^◌, ◌<◌, Option,
 use Rattle.std.specs.BTreeMap.{insert_entry, is_at}
 use Rattle.std.specs.Map.{keys_of, lookup, remove_entry, set_value, values_of}
 use Rattle.std.specs.Ordering.{nat_cmp}
+use Rattle.sctp_channels.specs.declared.lifecycle.Lifecycle.{Lifecycle}
 use Rattle.sctp_channels.specs.declared.payload.PayloadProtocol.{PayloadProtocol}
 use Rattle.sctp_channels.specs.Channel.{Channel, Received, kept_by, nothing, received}
 
@@ -31,6 +32,10 @@ changed f id es = changed_from (channel_at id es) f id es
 abbrev pub received_at : Option Channel → ℕ → PayloadProtocol → List ℕ → Received
 received_at None limit protocol payload = nothing
 received_at (Some c) limit protocol payload = received limit protocol payload c
+
+-- whether the peer has reset its stream is in this lifecycle as in the channel's
+abbrev pub KeepsIncoming : Lifecycle → Channel → Type 0
+KeepsIncoming l c = l.is_incoming_reset ≡ c.lifecycle.is_incoming_reset
 
 -- ---- bytes that are kept
 

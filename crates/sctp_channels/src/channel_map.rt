@@ -1,18 +1,18 @@
 //! Channels by the numbers of their streams, and how many bytes they keep.
 
-ghost use Rattle.std.specs.Prelude.{◌≡◌, ◌+◌, ◌-◌, ◌^◌, min, map, true, IfOk, OnOk, OnErr, IsTrue, IsFalse, is_some, option_copied, option_map, Some, []};
+ghost use Rattle.std.specs.Prelude.{◌≡◌, ◌+◌, ◌-◌, ◌^◌, min, map, true, IfOk, OnOk, OnErr, IsTrue, IsFalse, IfSome, false, is_some, option_copied, option_map, Some, []};
 ghost use Rattle.std.specs.Result.{is_ok};
 ghost use Rattle.std.specs.Map.{keys_of};
 ghost use Rattle.sctp_channels.specs.Channel.{count_received, count_sent, on_data, received_as, reset_incoming, takes_whole, with_lifecycle};
 ghost use Rattle.sctp_channels.specs.Channels.{incoming_streams};
 ghost use Rattle.sctp_channels.specs.DataChannels.{IsOpenAt};
-ghost use Rattle.sctp_channels.specs.Entries.{changed, channel_at, forget, kept_at, kept_bytes, put, received_at};
+ghost use Rattle.sctp_channels.specs.Entries.{KeepsIncoming, changed, channel_at, forget, kept_at, kept_bytes, put, received_at};
 
 use crate::{Channel, Lifecycle, PayloadProtocol, Received, SendRefusal};
 use sctp_state::DcSctpSocket;
 use sctp_wire::{Message, StreamId};
 use std::alloc::{AllocError, Global};
-use std::collections::BTreeMap;
+use std::collections::{BTreeMap, BTreeSet};
 use std::marker::Model;
 
 /// The channels, each on its stream.
@@ -21,12 +21,12 @@ pub(crate) struct ChannelMap {
     entries: BTreeMap<u16, Channel>,
     // the bytes of labels, protocols and parts
     kept: u128,
-    // where it is false each channel's incoming stream was reset
-    has_incoming: bool,
+    // the streams that the peer has not reset yet
+    incoming: BTreeSet<u16>,
 }
 
 impl Model for ChannelMap {
-    ghost use Rattle.std.specs.Prelude.{◌≡◌, false, []};
+    ghost use Rattle.std.specs.Prelude.{◌≡◌};
     ghost use Rattle.sctp_channels.specs.Channels.{incoming_streams};
     ghost use Rattle.sctp_channels.specs.Entries.{AreCounted, Entries};
 
@@ -34,7 +34,7 @@ impl Model for ChannelMap {
 
     ghost view = { λ m. m.entries.entries };
 
-    ghost invariant = { λ m. AreCounted m.kept m.entries.entries × (m.has_incoming ≡ false → incoming_streams m.entries.entries ≡ []) };
+    ghost invariant = { λ m. AreCounted m.kept m.entries.entries × (m.incoming.keys ≡ incoming_streams m.entries.entries) };
 }
 
 /// The count, where a channel kept so many bytes before, and keeps so many now.
@@ -54,17 +54,12 @@ fn stream_ids(alloc: Global, channels: &BTreeMap<u16, Channel>) -> Result<Vec<St
     Ok(ids)
 }
 
-fn incoming_ids(
-    alloc: Global,
-    channels: &BTreeMap<u16, Channel>,
-) -> Result<Vec<StreamId>, AllocError>
-    ensures { IfOk result (λ ids. map (λ id. id.0) ids.items ≡ incoming_streams channels.now.entries) }
+fn ids_of(alloc: Global, streams: &BTreeSet<u16>) -> Result<Vec<StreamId>, AllocError>
+    ensures { IfOk result (λ ids. map (λ id. id.0) ids.items ≡ streams.now.keys) }
 {
     let mut ids = Vec::new(alloc);
-    for (id, channel) in channels {
-        if !channel.lifecycle().is_incoming_reset {
-            ids.push(StreamId(*id))?;
-        }
+    for id in streams {
+        ids.push(StreamId(*id))?;
     }
     Ok(ids)
 }
@@ -76,7 +71,7 @@ impl ChannelMap {
         ChannelMap {
             entries: BTreeMap::new(alloc),
             kept: 0,
-            has_incoming: false,
+            incoming: BTreeSet::new(alloc),
         }
     }
 
@@ -115,16 +110,20 @@ impl ChannelMap {
         }
     }
 
-    /// A channel that is new, or in place of another one.
+    /// A channel that is new, or in place of another one. The peer has not reset its stream.
     pub(crate) fn insert(&mut self, id: u16, channel: Channel) -> Result<(), AllocError>
+        requires { channel.lifecycle.is_incoming_reset ≡ false }
         ensures ok { OnOk result (self.new ≡ put id channel self.old) }
         ensures err { OnErr result (self.new ≡ self.old) }
     {
         let before = self.kept_at(&id);
         let after = channel.kept_bytes();
-        self.entries.insert(id, channel)?;
+        self.incoming.insert(id)?;
+        if let Err(refused) = self.entries.insert(id, channel) {
+            self.incoming.remove(&id);
+            return Err(refused.into());
+        }
         self.kept = recounted(self.kept, before, after);
-        self.has_incoming = true;
         Ok(())
     }
 
@@ -132,27 +131,30 @@ impl ChannelMap {
         ensures { self.new ≡ forget id.now self.old }
     {
         let before = self.kept_at(id);
+        // (that the streams ascend is known once the map is read)
+        let _count = self.entries.len();
         self.entries.remove(id);
+        self.incoming.remove(id);
         self.kept = recounted(self.kept, before, 0);
-        self.has_incoming = true;
     }
 
     pub(crate) fn clear(&mut self)
         ensures { self.new ≡ [] }
     {
         self.entries.clear();
+        self.incoming.clear();
         self.kept = 0;
-        self.has_incoming = false;
     }
 
-    /// Goes on with this lifecycle on a stream that has a channel.
+    /// Goes on with this lifecycle on a stream that has a channel. Whether the peer has reset its stream stays as it is.
     pub(crate) fn set_lifecycle(&mut self, id: &u16, lifecycle: Lifecycle)
+        requires { IfSome (channel_at id.now self.old) (KeepsIncoming lifecycle) }
         ensures { self.new ≡ changed (with_lifecycle lifecycle) id.now self.old }
     {
-        if let Some(channel) = self.entries.get_mut(id) {
-            self.has_incoming = true;
-            channel.set_lifecycle(lifecycle);
-        }
+        let Some(channel) = self.entries.get_mut(id) else {
+            return;
+        };
+        channel.set_lifecycle(lifecycle);
     }
 
     /// The peer has reset its outgoing stream.
@@ -160,9 +162,9 @@ impl ChannelMap {
         ensures { self.new ≡ changed reset_incoming id.now self.old }
     {
         if let Some(channel) = self.entries.get_mut(id) {
-            self.has_incoming = true;
             let before = channel.kept_bytes();
             channel.reset_incoming();
+            self.incoming.remove(id);
             self.kept = recounted(self.kept, before, channel.kept_bytes());
         }
     }
@@ -183,7 +185,6 @@ impl ChannelMap {
         let Some(channel) = self.entries.get_mut(id) else {
             return Ok(Received::Nothing);
         };
-        self.has_incoming = true;
         let before = channel.kept_bytes();
         let received = channel.on_data(alloc, limit, protocol, payload)?;
         self.kept = recounted(self.kept, before, channel.kept_bytes());
@@ -206,7 +207,6 @@ impl ChannelMap {
         let Some(channel) = self.entries.get_mut(id) else {
             return Err(SendRefusal::NoChannel);
         };
-        self.has_incoming = true;
         channel.send(socket, size, given)
     }
 
@@ -219,11 +219,7 @@ impl ChannelMap {
         let Some(channel) = self.entries.get_mut(id) else {
             return false;
         };
-        let counts = channel.count_whole(limit, size);
-        if counts {
-            self.has_incoming = true;
-        }
-        counts
+        channel.count_whole(limit, size)
     }
 
     /// The streams that have a channel, ascending.
@@ -233,16 +229,10 @@ impl ChannelMap {
         stream_ids(alloc, &self.entries)
     }
 
-    /// Those of them that weren't reset yet. Where there were none, and no channel has changed since, none is looked at.
-    pub(crate) fn incoming_streams(&mut self, alloc: Global) -> Result<Vec<StreamId>, AllocError>
-        ensures ids { IfOk result (λ ids. map (λ id. id.0) ids.items ≡ incoming_streams self.old) }
-        ensures same { self.new ≡ self.old }
+    /// Those of them that weren't reset yet: no other one is looked at.
+    pub(crate) fn incoming_streams(&self, alloc: Global) -> Result<Vec<StreamId>, AllocError>
+        ensures { IfOk result (λ ids. map (λ id. id.0) ids.items ≡ incoming_streams self.now) }
     {
-        if !self.has_incoming {
-            return Ok(Vec::new(alloc));
-        }
-        let ids = incoming_ids(alloc, &self.entries)?;
-        self.has_incoming = !ids.is_empty();
-        Ok(ids)
+        ids_of(alloc, &self.incoming)
     }
 }

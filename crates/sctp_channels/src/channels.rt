@@ -1,6 +1,6 @@
 //! The channels of an association.
 
-ghost use Rattle.std.specs.Prelude.{◌≡◌, ◌<◌, ◌≤◌, ◌++◌, [], true, List, None, Some, IfSome, IfNone, IsSome, IsTrue, IsFalse, IfOk, OnOk, OnErr, ℕ, length, map, option_copied, option_map, option_to_list};
+ghost use Rattle.std.specs.Prelude.{◌≡◌, ◌<◌, ◌≤◌, ◌++◌, [], true, false, List, None, Some, IfSome, IfNone, IsSome, IsTrue, IsFalse, IfOk, OnOk, OnErr, ℕ, length, map, option_copied, option_map, option_to_list};
 ghost use Rattle.std.specs.Result.{is_ok};
 ghost use Rattle.std.specs.Map.{keys_of};
 ghost use Rattle.sctp_state.specs.Events.{numbers_of};
@@ -10,12 +10,12 @@ ghost use Rattle.sctp_channels.specs.Views.{open_of};
 ghost use Rattle.sctp_channels.specs.Channel.{count_received, new_channel, received_as, takes_whole, with_lifecycle};
 ghost use Rattle.sctp_channels.specs.Channels.{Emits, OnControl, OnMessage, Output as output, Stands, change, close, deliver, drain, emit, end, hand, has_room, incoming_streams, is_denied, is_own, is_shown, limit_of, negotiate, no_channels, on_ack, on_incoming_reset, on_open, on_payload, on_reset_denied, on_reset_performed, open_from, open_own, output_of, place, room, sent, shown_streams, take_open, tell_closed, tell_end, turn_down, with_entries};
 ghost use Rattle.sctp_channels.specs.DataChannels.{IsOpenAt};
-ghost use Rattle.sctp_channels.specs.Entries.{channel_at, forget, put};
+ghost use Rattle.sctp_channels.specs.Entries.{KeepsIncoming, channel_at, forget, put};
 
 use crate::channel_map::ChannelMap;
 use crate::{
     Channel, ChannelMessage, ChannelMessageFault, DataChannelOpen, Lifecycle, Opening, Outgoing,
-    Output, PayloadProtocol, Received, Refusal, Reliability, SendRefusal,
+    Output, PayloadProtocol, Received, Refusal, Reliability, SendRefusal, take_first,
 };
 use sctp_state::DcSctpSocket;
 use sctp_wire::{Message, StreamId};
@@ -127,7 +127,7 @@ impl Channels {
         ensures taken { self.old ≡ record self.new { outputs = option_to_list (option_map output_of result) ++ self.new.outputs } }
         ensures none { IfNone result (self.old.outputs ≡ []) }
     {
-        self.outputs.pop_front()
+        take_first(&mut self.outputs)
     }
 
     /// How many outputs are not taken yet.
@@ -184,6 +184,7 @@ impl Channels {
         lifecycle: Lifecycle,
         description: DataChannelOpen,
     ) -> Result<(), AllocError>
+        requires { lifecycle.is_incoming_reset ≡ false }
         ensures ok { OnOk result (self.new ≡ with_entries (put id.0 (new_channel lifecycle (open_of description)) self.old.entries) self.old) }
         ensures err { OnErr result (self.new ≡ self.old) }
     {
@@ -199,6 +200,7 @@ impl Channels {
         lifecycle: Lifecycle,
         description: DataChannelOpen,
     ) -> Result<(), AllocError>
+        requires { lifecycle.is_incoming_reset ≡ false }
         ensures ok { OnOk result (self.new ≡ place id.0 lifecycle (open_of description) self.old) }
         ensures err { OnErr result (self.new ≡ self.old) }
     {
@@ -213,8 +215,9 @@ impl Channels {
         Ok(())
     }
 
-    /// Goes on with this lifecycle on a stream that has a channel.
+    /// Goes on with this lifecycle on a stream that has a channel. Whether the peer has reset its stream stays as it is.
     fn set_lifecycle(&mut self, id: StreamId, lifecycle: Lifecycle)
+        requires { IfSome (channel_at id.0 self.old.entries) (KeepsIncoming lifecycle) }
         ensures { self.new ≡ change (with_lifecycle lifecycle) id.0 self.old }
     {
         self.entries.set_lifecycle(&id.0, lifecycle);
@@ -295,6 +298,7 @@ impl Channels {
         description: DataChannelOpen,
         lifecycle: Lifecycle,
     ) -> Result<(), AllocError>
+        requires { lifecycle.is_incoming_reset ≡ false }
         ensures ok { OnOk result (self.new ≡ take_open id.0 (open_of description) lifecycle self.old) }
         ensures err { OnErr result (Emits self.old self.new) }
     {
@@ -598,7 +602,7 @@ impl Channels {
         self.entries.streams(self.alloc)
     }
 
-    /// Those of them whose peer hasn't reset them yet. Where there were none, and no channel has changed since, none is looked at.
+    /// Those of them whose peer hasn't reset them yet: no other one is looked at.
     pub fn incoming_streams(&mut self) -> Result<Vec<StreamId>, AllocError>
         ensures ids { IfOk result (λ ids. map (λ id. id.0) ids.items ≡ incoming_streams self.old.entries) }
         ensures same { self.new ≡ self.old }

@@ -13,7 +13,7 @@ ghost use Rattle.sctp_channels.specs.Steps.{DataChannels, Follows, Gets, StaysTo
 
 use crate::{
     CONTROL_PPID, Channel, ChannelEvent, ChannelMessage, Channels, DataChannelOpen, OpenError,
-    Outgoing, Output, PayloadKind, PayloadProtocol, SendRefusal, data_message,
+    Outgoing, Output, PayloadKind, PayloadProtocol, SendRefusal, data_message, take_first,
 };
 use sctp_serial::{Message, StreamId};
 use sctp_state::{
@@ -103,7 +103,7 @@ impl DataChannels {
         ensures taken { self.old ≡ record self.new { events = option_to_list (option_map event_of result) ++ self.new.events } }
         ensures none { IfNone result (self.old.events ≡ []) }
     {
-        self.events.pop_front()
+        take_first(&mut self.events)
     }
 
     /// Opens a channel. Messages may be sent on it at once; `Opened` tells when the peer has it. Its stream has its priority once the next call

@@ -20,6 +20,7 @@ mod message;
 mod message_laws;
 mod output;
 mod payload;
+mod queue;
 mod reliability;
 mod two_ends_laws;
 
@@ -37,5 +38,6 @@ pub use message::{ChannelMessage, DataChannelOpen};
 pub use message_laws::{one_answer, one_message, one_payload, read_back, written_alike};
 pub use output::{Output, Refusal};
 pub use payload::{CONTROL_PPID, PayloadKind, PayloadProtocol, data_message};
+pub(crate) use queue::take_first;
 pub use reliability::Reliability;
 pub use two_ends_laws::what_is_told_was_accepted;
