@@ -12,6 +12,7 @@ pub mod AbandonedItemsLemmas
 pub mod LossesLemmas
 pub mod MessagesLemmas
 pub mod PointLemmas
+pub mod QuietLemmas
 pub mod RecordLemmas
 pub mod RoomLemmas
 pub mod SackLemmas

@@ -1,5 +1,5 @@
 -- Missing reports pass over the items that blocks cover.
-use Rattle.std.proofs.Common.{◌≡◌, ℕ, zero, suc, ◌+◌, ◌-◌, ◌≤◌, ◌||◌, ◌&&◌, Bool, true, false, cond, List, [], ◌∷◌, ◌++◌, refl, ap, sym, subst, ◌∙◌, arith, IsTrue}
+use Rattle.std.proofs.Common.{◌≡◌, ℕ, zero, suc, ◌+◌, ◌-◌, ◌≤◌, ◌||◌, Bool, true, false, cond, List, [], ◌∷◌, ◌++◌, refl, ap, sym, subst, ◌∙◌, arith, IsTrue}
 use Rattle.std.specs.Prelude.{Option, Some, None, unwrap_or, option_map, slice_get}
 use Rattle.sctp_chunk.specs.Chunk.{FragmentTree}
 use Rattle.sctp_chunk.specs.declared.sack.GapAckBlock.{GapAckBlock}
@@ -7,13 +7,14 @@ use Rattle.sctp_chunk.specs.Covered.{is_covered, AreRuns}
 use Rattle.sctp_state.specs.Events.{Emitted}
 use Rattle.sctp_state.specs.declared.api.GivenUpCause.TheVariants.{Retransmissions}
 use Rattle.sctp_tx_outstanding.specs.declared.kept.Change.TheVariants as changes
-use Rattle.sctp_tx_outstanding.specs.Item.{Item, is_in_flight, ack, nack, is_lost, is_used_up}
-use Rattle.sctp_tx_outstanding.specs.OutstandingData.{Items, Outstanding, change_at, last_of}
+use Rattle.sctp_tx_outstanding.specs.Item.{Item, ack, nack}
+use Rattle.sctp_tx_outstanding.specs.OutstandingData.{Items, Outstanding, last_of}
 use Rattle.sctp_tx_outstanding.specs.Losses.{Step, first_step, placeholder, placeholders, abandon_with_record, is_to_be_abandoned, loses, change_items, nack_item, nack_at, nack_below}
 use Rattle.sctp_tx_outstanding.specs.Passes.{IsWalk, AreCovered}
 use Rattle.sctp_tx_outstanding.specs.LastBlocks.{Rests, Rest}
-use Rattle.sctp_tx_outstanding.proofs.ReceivedLemmas.{still, state_of_lem, nack_still, rest_changed, rest_laid, cursor_later, cursor_begin}
-use Rattle.sctp_tx_outstanding.proofs.LossesLemmas.{or_false}
+use Rattle.sctp_tx_outstanding.proofs.ReceivedLemmas.{still, state_of_lem, rest_changed, rest_laid, cursor_later, cursor_begin}
+use Rattle.sctp_tx_outstanding.specs.Quiet.{flies_at, NoneFlies}
+use Rattle.sctp_tx_outstanding.proofs.QuietLemmas.{passed}
 
 -- ---- blocks
 
@@ -31,59 +32,19 @@ covered_less bs place count next le h = λ p from less. h p from (omega (arith, 
 pub none_covered : (bs : List GapAckBlock) (place count : ℕ) → count ≤ place → AreCovered bs place count
 none_covered bs place count le = λ p from less. absurd (omega (arith, le, from, less))
 
--- ---- what isn't in flight is passed over
+-- ---- what they cover isn't outstanding
 
-abbrev Stays : Option Item → Type 0
-Stays None = Unit {0}
-Stays (Some i) = is_in_flight i.state ≡ false
-
-stays_at : (bs : List GapAckBlock) (k offset next : ℕ) (is : List Item) → next ≡ k + offset → Rest bs offset is → is_covered bs next ≡ true → Stays (slice_get is k)
-stays_at bs zero offset next [] e h c = tt
-stays_at bs (suc k) offset next [] e h c = tt
-stays_at bs zero offset next (i ∷ is) e h c =
+quiet_at : (bs : List GapAckBlock) (k offset next : ℕ) (is : List Item) → next ≡ k + offset → Rest bs offset is → is_covered bs next ≡ true → flies_at k is ≡ false
+quiet_at bs zero offset next [] e h c = refl
+quiet_at bs (suc k) offset next [] e h c = refl
+quiet_at bs zero offset next (i ∷ is) e h c =
     let at : next ≡ offset = omega (arith, e) in
     let here : is_covered bs offset ≡ true = subst (λ n. is_covered bs n ≡ true) at c in
     still i.state (state_of_lem (ack i) i (subst (λ b. Rests b i) here h.0))
-stays_at bs (suc k) offset next (i ∷ is) e h c = stays_at bs k (suc offset) next is (omega (arith, e)) h.1 c
+quiet_at bs (suc k) offset next (i ∷ is) e h c = quiet_at bs k (suc offset) next is (omega (arith, e)) h.1 c
 
-stays_same : (fast : Bool) (k : ℕ) (is : List Item) → Stays (slice_get is k) → change_at k (nack false fast) is ≡ is
-stays_same fast zero [] h = refl
-stays_same fast (suc k) [] h = refl
-stays_same fast zero (i ∷ is) h = ap (λ (j : Item). j ∷ is) (nack_still false fast i h)
-stays_same fast (suc k) (i ∷ is) h = ap (λ js. i ∷ js) (stays_same fast k is h)
-
-module _ {P : Type 0} (fast : Bool) where
-  pass_item : (k : ℕ) (x : Step P) (i : Item) → is_in_flight i.state ≡ false → change_at k (nack false fast) x.items.kept ≡ x.items.kept → nack_item false fast k i x ≡ x
-  pass_item k x i h same =
-      let no : is_to_be_abandoned x.items.is_partial false i ≡ false = ap (λ b. (b && is_lost false i) && (x.items.is_partial && is_used_up i)) h in
-      let quiet : (x.is_lossy || loses false i) ≡ x.is_lossy = ap (λ b. x.is_lossy || (b && is_lost false i)) h ∙ sym (or_false x.is_lossy) in
-      ap (λ b. cond b (abandon_with_record i.number (Retransmissions (i.sent - 1)) x) (record x { items = change_items k (nack false fast) x.items; is_lossy = x.is_lossy || loses false i })) no
-      ∙ (λ j. record { items = record x.items { kept = same j }; emitted = x.emitted; is_lossy = quiet j })
-
-  pass_option : (k : ℕ) (x : Step P) (o : Option Item) → Stays o → change_at k (nack false fast) x.items.kept ≡ x.items.kept
-      → unwrap_or (option_map (λ i. nack_item false fast k i x) o) x ≡ x
-  pass_option k x None h same = refl
-  pass_option k x (Some i) h same = pass_item k x i h same
-
-  pass_at : (bs : List GapAckBlock) (k : ℕ) (x : Step P) → Rest bs 1 x.items.kept → is_covered bs (k + 1) ≡ true → nack_at false fast k x ≡ x
-  pass_at bs k x h c =
-      let s = stays_at bs k 1 (k + 1) x.items.kept refl h c in
-      pass_option k x (slice_get x.items.kept k) s (stays_same fast k x.items.kept s)
-
-  pass_more : (bs : List GapAckBlock) (x : Step P) (more place next : ℕ) → next ≡ more + place → Rest bs 1 (nack_below false fast place x).items.kept → AreCovered bs place next
-      → nack_below false fast next x ≡ nack_below false fast place x
-  pass_more bs x zero place next e h c =
-      let same : next ≡ place = omega (arith, e) in
-      ap (λ n. nack_below false fast n x) same
-  pass_more bs x (suc more) place next e h c =
-      let is_next : next ≡ suc (more + place) = omega (arith, e) in
-      let ih = pass_more bs x more place (more + place) refl h (λ p le less. c p le (omega (arith, e, less))) in
-      let here : is_covered bs (more + place + 1) ≡ true = c (more + place) (omega arith) (omega (arith, e)) in
-      ap (λ n. nack_below false fast n x) is_next ∙ ap (λ (y : Step P). nack_at false fast (more + place) y) ih ∙ pass_at bs (more + place) (nack_below false fast place x) h here
-
-  pub passed : (bs : List GapAckBlock) (x : Step P) (place next : ℕ) → place ≤ next → Rest bs 1 (nack_below false fast place x).items.kept → AreCovered bs place next
-      → nack_below false fast next x ≡ nack_below false fast place x
-  passed bs x place next le h c = pass_more bs x (next - place) place next (omega (arith, le)) h c
+pub covered_quiet : (bs : List GapAckBlock) (place next : ℕ) (is : List Item) → Rest bs 1 is → AreCovered bs place next → NoneFlies place next is
+covered_quiet bs place next is h c = λ k le less. quiet_at bs k 1 (k + 1) is refl h (c k le less)
 
 -- ---- reports leave the items as the blocks say
 
@@ -134,7 +95,7 @@ module _ {P : Type 0} (fast : Bool) (bs : List GapAckBlock) where
 module _ {P : Type 0} (fast : Bool) (bs : List GapAckBlock) (s : Items) (emitted : Emitted P) (place next : ℕ) (le : place ≤ next)
     (rest : Rest bs 1 (nack_below false fast place (first_step s emitted)).items.kept) (covered : AreCovered bs place next) where
   same : nack_below false fast next (first_step s emitted) ≡ nack_below false fast place (first_step s emitted)
-  same = passed fast bs (first_step s emitted) place next le rest covered
+  same = passed false fast (first_step s emitted) place next le (covered_quiet bs place next (nack_below false fast place (first_step s emitted)).items.kept rest covered)
 
   pub passed_items : (d now : Outstanding) → now ≡ record d { items = (nack_below false fast place (first_step s emitted)).items } → now ≡ record d { items = (nack_below false fast next (first_step s emitted)).items }
   passed_items d now is_now = is_now ∙ ap (λ (y : Step P). record d { items = y.items }) (sym same)

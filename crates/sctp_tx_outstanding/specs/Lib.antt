@@ -14,6 +14,7 @@ pub mod Losses
 pub mod Messages
 pub mod Passes
 pub mod Point
+pub mod Quiet
 pub mod Records
 pub mod Resending
 pub mod Sack

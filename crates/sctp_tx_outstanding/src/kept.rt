@@ -12,6 +12,7 @@ ghost use Rattle.sctp_tx_outstanding.specs.Views.{last_tree};
 ghost use Rattle.sctp_tx_outstanding.specs.LastBlocks.{Rest, RestBelow, RestFrom};
 ghost use Rattle.sctp_tx_outstanding.specs.Sack.{all_leaving_events};
 ghost use Rattle.sctp_tx_outstanding.specs.Messages.{Finds, NoneIsOf};
+ghost use Rattle.sctp_tx_outstanding.specs.Quiet.{flies_at};
 ghost use Rattle.sctp_tx_outstanding.specs.Waiting.{NoneWaits};
 ghost use Rattle.sctp_state.specs.Events.{emit_events, Grown};
 
@@ -296,6 +297,16 @@ impl Kept {
         ensures { option_map (λ i. i.now) result ≡ slice_get self.now.items place }
     {
         self.items.get(place)
+    }
+
+    /// Whether the item at the place is in flight or missing.
+    pub(crate) fn flies(&self, place: usize) -> bool
+        ensures { result ≡ flies_at place self.now.items }
+    {
+        match self.items.get(place) {
+            Some(item) => item.is_outstanding(),
+            None => false,
+        }
     }
 
     /// The bytes of the chunks in flight or missing, with their headers and padding.

@@ -338,6 +338,9 @@ impl OutstandingData {
         ensures err { OnErr result (self.new ≡ self.old) }
         ensures silent { OnErr result (events.new ≡ events.old) }
     {
+        if !self.kept.flies(place) {
+            return Ok(false);
+        }
         let Some(loss) = self.loss_at(place, at_once) else {
             return Ok(false);
         };
