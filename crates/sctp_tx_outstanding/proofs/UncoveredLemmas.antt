@@ -1,5 +1,6 @@
 -- Missing reports pass over the items that blocks cover.
-use Rattle.std.proofs.Common.{◌≡◌, ℕ, zero, suc, ◌+◌, ◌-◌, ◌≤◌, ◌||◌, Bool, true, false, cond, List, [], ◌∷◌, ◌++◌, refl, ap, sym, subst, ◌∙◌, arith, IsTrue}
+use Rattle.std.proofs.lemmas.Bool.{cases_lt}
+use Rattle.std.proofs.Common.{inl, inr, ◌≡◌, ℕ, zero, suc, ◌+◌, ◌-◌, ◌≤◌, ◌||◌, Bool, true, false, cond, List, [], ◌∷◌, ◌++◌, refl, ap, sym, subst, ◌∙◌, arith, IsTrue}
 use Rattle.std.specs.Prelude.{Option, Some, None, unwrap_or, option_map, slice_get}
 use Rattle.sctp_chunk.specs.Chunk.{FragmentTree}
 use Rattle.sctp_chunk.specs.declared.sack.GapAckBlock.{GapAckBlock}
@@ -26,12 +27,6 @@ pub walk_past : (b : Bool) (bs : List GapAckBlock) (o p from : ℕ) → o ≤ p 
 walk_past true bs o p from le h = cursor_later bs o p from le h
 walk_past false bs o p from le h = tt
 
-pub covered_less : (bs : List GapAckBlock) (place count next : ℕ) → count ≤ next → AreCovered bs place next → AreCovered bs place count
-covered_less bs place count next le h = λ p from less. h p from (omega (arith, le, less))
-
-pub none_covered : (bs : List GapAckBlock) (place count : ℕ) → count ≤ place → AreCovered bs place count
-none_covered bs place count le = λ p from less. absurd (omega (arith, le, from, less))
-
 -- ---- what they cover isn't outstanding
 
 quiet_at : (bs : List GapAckBlock) (k offset next : ℕ) (is : List Item) → next ≡ k + offset → Rest bs offset is → is_covered bs next ≡ true → flies_at k is ≡ false
@@ -45,6 +40,23 @@ quiet_at bs (suc k) offset next (i ∷ is) e h c = quiet_at bs k (suc offset) ne
 
 pub covered_quiet : (bs : List GapAckBlock) (place next : ℕ) (is : List Item) → Rest bs 1 is → AreCovered bs place next → NoneFlies place next is
 covered_quiet bs place next is h c = λ k le less. quiet_at bs k 1 (k + 1) is refl h (c k le less)
+
+-- a walk over those from `from` on goes on to `uncovered`, and from there to `flight`
+pub quiet_on : (bs : List GapAckBlock) (place from uncovered flight : ℕ) (is js : List Item) → js ≡ is → Rest bs 1 is → NoneFlies place from is → AreCovered bs from uncovered → NoneFlies uncovered flight js
+    → NoneFlies place flight is
+quiet_on bs place from uncovered flight is js same rest none covered more k begin end = elim (cases_lt k from) [
+  | inl before ↦ none k begin before
+  | inr le ↦ elim (cases_lt k uncovered) [
+    | inl within ↦ covered_quiet bs from uncovered is rest covered k le within
+    | inr behind ↦ subst (λ xs. flies_at k xs ≡ false) same (more k behind end)
+  ]
+]
+
+pub quiet_less : (place count next : ℕ) (is : List Item) → count ≤ next → NoneFlies place next is → NoneFlies place count is
+quiet_less place count next is le h = λ k from less. h k from (omega (arith, le, less))
+
+pub quiet_nowhere : (place count : ℕ) (is : List Item) → count ≤ place → NoneFlies place count is
+quiet_nowhere place count is le = λ k from less. absurd (omega (arith, le, from, less))
 
 -- ---- reports leave the items as the blocks say
 
@@ -90,12 +102,12 @@ module _ {P : Type 0} (fast : Bool) (bs : List GapAckBlock) where
       let one : suc k ≡ k + 1 = omega arith in
       subst (λ n. Rest bs 1 (nack_below false fast n x).items.kept) one (rest_at k (nack_below false fast k x) h)
 
--- ---- the walk goes on behind covered items
+-- ---- the walk goes on behind items that aren't outstanding
 
 module _ {P : Type 0} (fast : Bool) (bs : List GapAckBlock) (s : Items) (emitted : Emitted P) (place next : ℕ) (le : place ≤ next)
-    (rest : Rest bs 1 (nack_below false fast place (first_step s emitted)).items.kept) (covered : AreCovered bs place next) where
+    (rest : Rest bs 1 (nack_below false fast place (first_step s emitted)).items.kept) (none : NoneFlies place next (nack_below false fast place (first_step s emitted)).items.kept) where
   same : nack_below false fast next (first_step s emitted) ≡ nack_below false fast place (first_step s emitted)
-  same = passed false fast (first_step s emitted) place next le (covered_quiet bs place next (nack_below false fast place (first_step s emitted)).items.kept rest covered)
+  same = passed false fast (first_step s emitted) place next le none
 
   pub passed_items : (d now : Outstanding) → now ≡ record d { items = (nack_below false fast place (first_step s emitted)).items } → now ≡ record d { items = (nack_below false fast next (first_step s emitted)).items }
   passed_items d now is_now = is_now ∙ ap (λ (y : Step P). record d { items = y.items }) (sym same)

@@ -4,8 +4,11 @@ ghost use Rattle.std.specs.Prelude.{◌≡◌, ◌-◌, ◌∷◌, [], Bool, Lis
 ghost use Rattle.sctp_tx_outstanding.specs.Item.{Item};
 ghost use Rattle.sctp_tx_outstanding.specs.Change.{apply_change};
 ghost use Rattle.sctp_tx_outstanding.specs.OutstandingData.{change_at};
+ghost use Rattle.sctp_tx_outstanding.specs.declared.totals.Totals.{Totals};
+ghost use Rattle.sctp_tx_outstanding.specs.declared.kept.Change.{Change};
 ghost use Rattle.sctp_tx_outstanding.specs.Totals.{Exchanges};
 ghost use Rattle.sctp_tx_outstanding.specs.Waiting.{HasSize, Lists};
+ghost use Rattle.sctp_tx_outstanding.specs.Quiet.{IsQuiet};
 ghost use Rattle.sctp_tx_outstanding.specs.Indexes.{AreIndexes};
 
 use crate::expiries::Expiries;
@@ -13,6 +16,7 @@ use crate::item::Item;
 use crate::kept::Change;
 use crate::last_blocks::LastBlocks;
 use crate::messages::Messages;
+use crate::quiet::Quiet;
 use crate::totals::Totals;
 use crate::waiting::Waiting;
 use std::alloc::Global;
@@ -27,6 +31,7 @@ pub struct Indexes {
     pub waiting: Waiting,
     pub messages: Messages,
     pub expiries: Expiries,
+    pub quiet: Quiet,
 }
 
 /// The bytes of the payload of the item at the place.
@@ -57,6 +62,17 @@ fn follow_waiting(
     waiting.follow(place, size, old.queued > 0, new.queued > 0);
 }
 
+/// The item at the place changed, and adds this to the totals now: it may be outstanding.
+fn follow_quiet(quiet: &mut Quiet, place: usize, new: Totals)
+    ensures { (m : Bool) (how : Change) (is : List Item) (old : Totals) → Exchanges m place how is old new
+        → IsQuiet quiet.old is → IsQuiet quiet.new (change_at place (apply_change how) is) }
+{
+    if new.flights == 0 {
+        return;
+    }
+    quiet.stir(place);
+}
+
 impl Indexes {
     /// Of no items. Takes no memory.
     pub(crate) fn new(alloc: Global) -> Indexes
@@ -68,6 +84,7 @@ impl Indexes {
             waiting: Waiting::new(alloc),
             messages: Messages::new(alloc),
             expiries: Expiries::new(alloc),
+            quiet: Quiet::new(alloc),
         }
     }
 
@@ -91,6 +108,7 @@ impl Indexes {
         );
         self.messages.add(item.message_id(), place);
         self.expiries.renew(place, u128::MAX, part.earliest);
+        self.quiet.stir(place);
     }
 
     /// The first item has left, before the others.
@@ -106,6 +124,7 @@ impl Indexes {
         self.waiting.pass(item.should_be_retransmitted());
         self.messages.leave(item.message_id());
         self.expiries.leave(part.earliest);
+        self.quiet.pass();
     }
 
     /// The item at the place changed, by which one part of the totals came for another.
@@ -127,5 +146,6 @@ impl Indexes {
         follow_waiting(&mut self.waiting, items, place, old, new);
         self.waiting.count(self.totals.queued);
         self.expiries.renew(place, old.earliest, new.earliest);
+        follow_quiet(&mut self.quiet, place, new);
     }
 }

@@ -12,7 +12,7 @@ ghost use Rattle.sctp_tx_outstanding.specs.Views.{last_tree};
 ghost use Rattle.sctp_tx_outstanding.specs.LastBlocks.{Rest, RestBelow, RestFrom};
 ghost use Rattle.sctp_tx_outstanding.specs.Sack.{all_leaving_events};
 ghost use Rattle.sctp_tx_outstanding.specs.Messages.{Finds, NoneIsOf};
-ghost use Rattle.sctp_tx_outstanding.specs.Quiet.{flies_at};
+ghost use Rattle.sctp_tx_outstanding.specs.Quiet.{flies_at, NoneFlies};
 ghost use Rattle.sctp_tx_outstanding.specs.Waiting.{NoneWaits};
 ghost use Rattle.sctp_state.specs.Events.{emit_events, Grown};
 
@@ -24,6 +24,7 @@ use crate::indexes::Indexes;
 use crate::item::{Item, header_size};
 use crate::last_blocks::{alike, reach};
 use crate::messages::Messages;
+use crate::quiet::flies;
 use crate::sack::highest_end;
 use crate::totals::Totals;
 use sctp_chunk::{Data, GapAckBlock, are_runs};
@@ -303,10 +304,16 @@ impl Kept {
     pub(crate) fn flies(&self, place: usize) -> bool
         ensures { result ≡ flies_at place self.now.items }
     {
-        match self.items.get(place) {
-            Some(item) => item.is_outstanding(),
-            None => false,
-        }
+        flies(&self.items, place)
+    }
+
+    /// A place from this one on up to which no item is in flight or missing, and at which one may be.
+    pub(crate) fn next_flight(&mut self, place: usize) -> usize
+        ensures same { self.new ≡ self.old }
+        ensures onward { place ≤ result }
+        ensures none { NoneFlies place result self.old.items }
+    {
+        self.indexes.quiet.next_flight(&self.items, place)
     }
 
     /// The bytes of the chunks in flight or missing, with their headers and padding.

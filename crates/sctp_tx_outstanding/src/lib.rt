@@ -10,6 +10,7 @@ mod last_blocks;
 pub mod laws;
 mod messages;
 pub mod outstanding_data;
+mod quiet;
 pub mod sack;
 pub mod skips;
 pub mod totals;

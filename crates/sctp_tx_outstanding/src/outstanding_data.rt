@@ -21,12 +21,13 @@ ghost use Rattle.sctp_tx_outstanding.specs.Sack.{sample, is_in_range, is_valid, 
 ghost use Rattle.sctp_state.specs.Events.{first_of};
 
 mod handover;
+mod idle;
 mod resending;
 
 use crate::expiries::Due;
 use crate::item::Item;
 use crate::kept::{Change, Kept, placeholder};
-use crate::sack::{AckInfo, highest_end, pass_covered, settle_all, take_out};
+use crate::sack::{AckInfo, highest_end, settle_all, take_out};
 use crate::skips::{SkipEntry, chunk_size_with, mid_skips, put_if, ssn_skips};
 use sctp_chunk::{
     Data, ForwardTsnChunk, GapAckBlock, IForwardTsnChunk, SackChunk, SpareBuffers, are_runs,
@@ -374,7 +375,8 @@ impl OutstandingData {
         Ok(is_lossy)
     }
 
-    /// The same of a SACK, by whose blocks the items stand: those that a block covers are passed over.
+    /// The same of a SACK, by whose blocks the items stand: those that a block covers, and others that aren't outstanding, are
+    /// passed over.
     fn nack_uncovered(
         &mut self,
         count: usize,
@@ -393,7 +395,7 @@ impl OutstandingData {
         let mut from = 0;
         let mut place = 0;
         while place < count {
-            let (block, next) = pass_covered(blocks, is_in_runs, from, place);
+            let (block, next) = self.pass_idle(blocks, is_in_runs, from, place, count);
             if count <= next {
                 return Ok(is_lossy);
             }

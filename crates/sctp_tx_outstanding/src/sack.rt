@@ -8,6 +8,7 @@ ghost use Rattle.sctp_tx_outstanding.specs.OutstandingData.{change_at};
 ghost use Rattle.sctp_tx_outstanding.specs.Sack.{open_size, departing_part, ack_or_uncover_all, newly_acked, below_highest, ack_or_uncover, new_bytes_at, is_new_at, highest_end};
 ghost use Rattle.sctp_tx_outstanding.specs.LastBlocks.{Rest};
 ghost use Rattle.sctp_tx_outstanding.specs.Passes.{IsCursor, IsWalk, AreCovered};
+ghost use Rattle.sctp_tx_outstanding.specs.Quiet.{NoneFlies};
 
 use crate::item::Item;
 use crate::kept::{Change, Kept};
@@ -111,6 +112,36 @@ pub(crate) fn pass_covered(
         return (block, blocks[block].end as usize);
     }
     (block, place)
+}
+
+/// The same over items that aren't outstanding, covered or not, up to one that may be or to `count`.
+pub(crate) fn pass_idle(
+    kept: &mut Kept,
+    blocks: &[GapAckBlock],
+    is_in_runs: bool,
+    from: usize,
+    place: usize,
+    count: usize,
+) -> (usize, usize)
+    requires rest { Rest blocks.now 1 kept.old.items }
+    requires cursor { IsWalk is_in_runs blocks.now (place + 1) from }
+    ensures same { kept.new ≡ kept.old }
+    ensures cursor { IsWalk is_in_runs blocks.now (result.1 + 1) result.0 }
+    ensures onward { place ≤ result.1 }
+    ensures none { NoneFlies place result.1 kept.old.items }
+{
+    let mut block = from;
+    let mut next = place;
+    while next < count {
+        let (later, uncovered) = pass_covered(blocks, is_in_runs, block, next);
+        let flight = kept.next_flight(uncovered);
+        block = later;
+        if flight == next {
+            return (block, next);
+        }
+        next = flight;
+    }
+    (block, next)
 }
 
 /// What blocks newly acknowledged.

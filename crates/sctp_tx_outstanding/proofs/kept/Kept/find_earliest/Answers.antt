@@ -18,4 +18,5 @@ invariant_of-self c =
       waiting = before.waiting;
       messages = before.messages;
       expiries = c.expect_all.ensures;
+      quiet = before.quiet;
     }

@@ -1,7 +1,8 @@
-use Rattle.std.proofs.Common.{◌+◌, ◌≤◌, refl, arith, false}
-use Rattle.sctp_tx_outstanding.specs.Passes.{AreCovered}
+use Rattle.std.proofs.Common.{subst, ◌∙◌, ◌+◌, ◌≤◌, refl, arith, false}
+use Rattle.sctp_tx_outstanding.specs.OutstandingData.{Outstanding}
+use Rattle.sctp_tx_outstanding.specs.Quiet.{NoneFlies}
 use Rattle.sctp_tx_outstanding.proofs.LossesLemmas.{nack_next_items, nack_next_emitted, nack_next_lossy}
-use Rattle.sctp_tx_outstanding.proofs.UncoveredLemmas.{walk_begin, walk_past, covered_less, none_covered, passed_items, passed_emitted, passed_lossy, passed_rest}
+use Rattle.sctp_tx_outstanding.proofs.UncoveredLemmas.{walk_begin, walk_past, quiet_less, quiet_nowhere, passed_items, passed_emitted, passed_lossy, passed_rest}
 use Rattle.sctp_tx_outstanding.proofs.outstanding_data.OutstandingData.nack_uncovered.Goals as goal
 
 pub loop-place-init : goal.loop-place-init
@@ -21,51 +22,60 @@ loop-place-preserved c =
     let s = c.args.self.now.items in
     let emitted = c.args.events.now in
     let k = c.loop-place.place in
-    let n = c.pass_covered-block.result.1 in
-    let le : k ≤ n = c.pass_covered-block.ensures.onward in
-    let covered : AreCovered bs k n = c.pass_covered-block.ensures.covered in
+    let n = c.pass_idle-block.result.1 in
+    let le : k ≤ n = c.pass_idle-block.ensures.onward in
+    let none = subst (λ (d : Outstanding). NoneFlies k n d.items.kept) c.loop-place.invariant.items c.pass_idle-block.ensures.none in
     let rest = c.loop-place.invariant.rest in
-    let items = passed_items fast bs s emitted k n le rest covered c.args.self.now c.loop-place.self c.loop-place.invariant.items in
-    let events = passed_emitted fast bs s emitted k n le rest covered c.loop-place.events c.loop-place.invariant.emitted in
-    let lossy = passed_lossy fast bs s emitted k n le rest covered c.loop-place.is_lossy c.loop-place.invariant.lossy in
+    let items = passed_items fast bs s emitted k n le rest none c.args.self.now c.loop-place.self c.loop-place.invariant.items in
+    let events = passed_emitted fast bs s emitted k n le rest none c.loop-place.events c.loop-place.invariant.emitted in
+    let lossy = passed_lossy fast bs s emitted k n le rest none c.loop-place.is_lossy c.loop-place.invariant.lossy in
     record {
       within = omega (arith, c.if-count-next.false);
-      cursor = walk_past c.are_runs-is_in_runs.result bs (n + 1) (n + 1 + 1) c.pass_covered-block.result.0 (omega arith) c.pass_covered-block.ensures.cursor;
-      items = nack_next_items false fast n s emitted c.loop-place.self c.loop-place.events c.args.self.now items events c.nack_item.new.self c.in_ok-is_lost.ensures.items;
-      emitted = nack_next_emitted false fast n s emitted c.loop-place.self c.loop-place.events c.args.self.now items events c.nack_item.new.events c.in_ok-is_lost.ensures.emitted;
-      lossy = nack_next_lossy false fast n s emitted c.loop-place.self c.loop-place.events c.args.self.now items events c.loop-place.is_lossy c.in_ok-is_lost.is_lost _ lossy c.in_ok-is_lost.ensures.lossy refl;
-      rest = passed_rest fast bs s emitted k n le rest covered;
+      cursor = walk_past c.are_runs-is_in_runs.result bs (n + 1) (n + 1 + 1) c.pass_idle-block.result.0 (omega arith) c.pass_idle-block.ensures.cursor;
+      items = nack_next_items false fast n s emitted c.pass_idle-block.new.self c.loop-place.events c.args.self.now (c.pass_idle-block.ensures.same ∙ items) events c.nack_item.new.self c.in_ok-is_lost.ensures.items;
+      emitted = nack_next_emitted false fast n s emitted c.pass_idle-block.new.self c.loop-place.events c.args.self.now (c.pass_idle-block.ensures.same ∙ items) events c.nack_item.new.events c.in_ok-is_lost.ensures.emitted;
+      lossy = nack_next_lossy false fast n s emitted c.pass_idle-block.new.self c.loop-place.events c.args.self.now (c.pass_idle-block.ensures.same ∙ items) events c.loop-place.is_lossy c.in_ok-is_lost.is_lost _ lossy c.in_ok-is_lost.ensures.lossy refl;
+      rest = passed_rest fast bs s emitted k n le rest none;
     }
 
 pub returns-then-count-next-clause-items : goal.returns-then-count-next-clause-items
 returns-then-count-next-clause-items c =
-    let covered = covered_less c.args.blocks.now c.loop-place.place c.args.count c.pass_covered-block.result.1 c.if-count-next.true c.pass_covered-block.ensures.covered in
-    passed_items c.args.fast c.args.blocks.now c.args.self.now.items c.args.events.now c.loop-place.place c.args.count c.loop-place.invariant.within c.loop-place.invariant.rest covered
-    c.args.self.now c.loop-place.self c.loop-place.invariant.items
+    let k = c.loop-place.place in
+    let none = quiet_less k c.args.count c.pass_idle-block.result.1 _ c.if-count-next.true (subst (λ (d : Outstanding). NoneFlies k c.pass_idle-block.result.1 d.items.kept) c.loop-place.invariant.items c.pass_idle-block.ensures.none) in
+    passed_items c.args.fast c.args.blocks.now c.args.self.now.items c.args.events.now k c.args.count c.loop-place.invariant.within c.loop-place.invariant.rest none
+    c.args.self.now c.pass_idle-block.new.self (c.pass_idle-block.ensures.same ∙ c.loop-place.invariant.items)
 
 pub returns-then-count-next-clause-emitted : goal.returns-then-count-next-clause-emitted
 returns-then-count-next-clause-emitted c =
-    let covered = covered_less c.args.blocks.now c.loop-place.place c.args.count c.pass_covered-block.result.1 c.if-count-next.true c.pass_covered-block.ensures.covered in
-    passed_emitted c.args.fast c.args.blocks.now c.args.self.now.items c.args.events.now c.loop-place.place c.args.count c.loop-place.invariant.within c.loop-place.invariant.rest covered
+    let k = c.loop-place.place in
+    let none = quiet_less k c.args.count c.pass_idle-block.result.1 _ c.if-count-next.true (subst (λ (d : Outstanding). NoneFlies k c.pass_idle-block.result.1 d.items.kept) c.loop-place.invariant.items c.pass_idle-block.ensures.none) in
+    passed_emitted c.args.fast c.args.blocks.now c.args.self.now.items c.args.events.now k c.args.count c.loop-place.invariant.within c.loop-place.invariant.rest none
     c.loop-place.events c.loop-place.invariant.emitted
 
 pub returns-then-count-next-clause-lossy : goal.returns-then-count-next-clause-lossy
 returns-then-count-next-clause-lossy c =
-    let covered = covered_less c.args.blocks.now c.loop-place.place c.args.count c.pass_covered-block.result.1 c.if-count-next.true c.pass_covered-block.ensures.covered in
-    passed_lossy c.args.fast c.args.blocks.now c.args.self.now.items c.args.events.now c.loop-place.place c.args.count c.loop-place.invariant.within c.loop-place.invariant.rest covered
+    let k = c.loop-place.place in
+    let none = quiet_less k c.args.count c.pass_idle-block.result.1 _ c.if-count-next.true (subst (λ (d : Outstanding). NoneFlies k c.pass_idle-block.result.1 d.items.kept) c.loop-place.invariant.items c.pass_idle-block.ensures.none) in
+    passed_lossy c.args.fast c.args.blocks.now c.args.self.now.items c.args.events.now k c.args.count c.loop-place.invariant.within c.loop-place.invariant.rest none
     c.loop-place.is_lossy c.loop-place.invariant.lossy
 
 pub returns-clause-items : goal.returns-clause-items
 returns-clause-items c =
-    passed_items c.args.fast c.args.blocks.now c.args.self.now.items c.args.events.now c.loop-place.place c.args.count c.loop-place.invariant.within c.loop-place.invariant.rest
-    (none_covered c.args.blocks.now c.loop-place.place c.args.count (omega arith)) c.args.self.now c.loop-place.self c.loop-place.invariant.items
+    let k = c.loop-place.place in
+    let none = quiet_nowhere k c.args.count _ (omega arith) in
+    passed_items c.args.fast c.args.blocks.now c.args.self.now.items c.args.events.now k c.args.count c.loop-place.invariant.within c.loop-place.invariant.rest none
+    c.args.self.now c.loop-place.self c.loop-place.invariant.items
 
 pub returns-clause-emitted : goal.returns-clause-emitted
 returns-clause-emitted c =
-    passed_emitted c.args.fast c.args.blocks.now c.args.self.now.items c.args.events.now c.loop-place.place c.args.count c.loop-place.invariant.within c.loop-place.invariant.rest
-    (none_covered c.args.blocks.now c.loop-place.place c.args.count (omega arith)) c.loop-place.events c.loop-place.invariant.emitted
+    let k = c.loop-place.place in
+    let none = quiet_nowhere k c.args.count _ (omega arith) in
+    passed_emitted c.args.fast c.args.blocks.now c.args.self.now.items c.args.events.now k c.args.count c.loop-place.invariant.within c.loop-place.invariant.rest none
+    c.loop-place.events c.loop-place.invariant.emitted
 
 pub returns-clause-lossy : goal.returns-clause-lossy
 returns-clause-lossy c =
-    passed_lossy c.args.fast c.args.blocks.now c.args.self.now.items c.args.events.now c.loop-place.place c.args.count c.loop-place.invariant.within c.loop-place.invariant.rest
-    (none_covered c.args.blocks.now c.loop-place.place c.args.count (omega arith)) c.loop-place.is_lossy c.loop-place.invariant.lossy
+    let k = c.loop-place.place in
+    let none = quiet_nowhere k c.args.count _ (omega arith) in
+    passed_lossy c.args.fast c.args.blocks.now c.args.self.now.items c.args.events.now k c.args.count c.loop-place.invariant.within c.loop-place.invariant.rest none
+    c.loop-place.is_lossy c.loop-place.invariant.lossy
