@@ -1,4 +1,5 @@
 pub mod Again
+pub mod Breaks
 pub mod Change
 pub mod Entries
 pub mod Expiries

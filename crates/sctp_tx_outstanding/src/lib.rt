@@ -1,6 +1,7 @@
 //! Fragments that have their TSN and wait for the peer's acknowledgement.
 #![tactic(auto)]
 
+mod breakpoints;
 mod emitting;
 mod expiries;
 mod indexes;

@@ -24,6 +24,7 @@ mod handover;
 mod idle;
 mod resending;
 
+use crate::breakpoints::Breakpoints;
 use crate::expiries::Due;
 use crate::item::Item;
 use crate::kept::{Change, Kept, placeholder};
@@ -56,7 +57,7 @@ pub struct OutstandingData {
     first: Tsn,
     acked: u64,
     kept: Kept,
-    breakpoints: VecDeque<u128>,
+    breakpoints: Breakpoints,
     discards: VecDeque<Discarded>,
     is_partial: bool,
 }
@@ -69,7 +70,7 @@ impl Model for OutstandingData {
 
     ghost Value = { Outstanding };
 
-    ghost view = { λ d. record { first = d.first.0; items = record { acked = d.acked; kept = d.kept.items; breaks = d.breakpoints.items; discards = map discard_of d.discards.items; is_partial = d.is_partial; is_interleaved = d.kept.is_interleaved } } };
+    ghost view = { λ d. record { first = d.first.0; items = record { acked = d.acked; kept = d.kept.items; breaks = d.breakpoints.numbers; discards = map discard_of d.discards.items; is_partial = d.is_partial; is_interleaved = d.kept.is_interleaved } } };
 
     ghost invariant = { λ d. (origin ≤ d.acked + 1) × (d.acked < 2 ^ 63) };
 }
@@ -102,7 +103,7 @@ impl OutstandingData {
             first: initial_tsn,
             acked: (1 << 32) - 1,
             kept: Kept::new(alloc, message_interleaving),
-            breakpoints: VecDeque::new(alloc),
+            breakpoints: Breakpoints::new(alloc),
             discards: VecDeque::new(alloc),
             is_partial: partial_reliability,
         }
@@ -255,10 +256,10 @@ impl OutstandingData {
         ensures err { OnErr result (self.new ≡ self.old) }
     {
         let number = self.next_number();
-        if is_last(&self.breakpoints, number) {
+        if self.breakpoints.is_last(number) {
             return Ok(());
         }
-        self.breakpoints.push_back(number)?;
+        self.breakpoints.push(number)?;
         Ok(())
     }
 
@@ -558,7 +559,7 @@ impl OutstandingData {
         }
         let bytes = take_out(&mut self.kept, count, spares);
         self.acked = number;
-        forget_passed(&mut self.breakpoints, number);
+        self.breakpoints.forget_passed(number);
         Ok(bytes)
     }
 
@@ -627,7 +628,9 @@ impl OutstandingData {
         ensures end { result < length self.now.items.kept → stops result self.now.items ≡ true }
     {
         let first = self.acked as u128 + 1;
-        let next = next_break(&self.breakpoints, first, first + self.kept.len() as u128);
+        let next = self
+            .breakpoints
+            .next(first, first + self.kept.len() as u128);
         (next - first) as usize
     }
 
@@ -750,39 +753,4 @@ struct Filling {
 struct ForwardPoint {
     count: usize,
     entries: Vec<SkipEntry>,
-}
-
-/// Whether the number is the last breakpoint.
-fn is_last(breakpoints: &VecDeque<u128>, number: u128) -> bool
-    ensures { result ≡ is_last number breakpoints.now.items }
-{
-    match breakpoints.back() {
-        Some(last) => *last == number,
-        None => false,
-    }
-}
-
-/// The least breakpoint above the number, or the end, if none is below that.
-fn next_break(breakpoints: &VecDeque<u128>, number: u128, end: u128) -> u128
-    requires { number ≤ end }
-    ensures onward { number ≤ result }
-    ensures within { result ≤ end }
-    ensures before { (n : ℕ) → number < n → n < result → list_any (λ b. b == n) breakpoints.now.items ≡ false }
-    ensures end { result < end → nat_lt number result && list_any (λ b. b == result) breakpoints.now.items ≡ true }
-{
-    let mut next = end;
-    for breakpoint in breakpoints.iter() {
-        if number < *breakpoint {
-            next = next.min(*breakpoint);
-        }
-    }
-    next
-}
-
-/// Leaves the breakpoints above the number.
-fn forget_passed(breakpoints: &mut VecDeque<u128>, number: u64)
-    ensures { breakpoints.new.items ≡ filter (λ b. nat_lt number b) breakpoints.old.items }
-{
-    let number = number as u128;
-    breakpoints.retain(|breakpoint| number < *breakpoint);
 }

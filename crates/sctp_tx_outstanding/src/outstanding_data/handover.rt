@@ -49,7 +49,7 @@ impl OutstandingData {
         let next = Tsn(state.tx.last_cumulative_tsn_ack) + 1;
         self.acked = (1 << 32) - 1 + next.steps_from(self.first);
         self.kept = kept;
-        self.breakpoints = VecDeque::new(self.alloc);
+        self.breakpoints.clear();
         self.discards = VecDeque::new(self.alloc);
         Ok(())
     }

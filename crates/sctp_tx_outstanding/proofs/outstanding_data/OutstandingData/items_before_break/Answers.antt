@@ -5,5 +5,5 @@ use Rattle.sctp_tx_outstanding.proofs.outstanding_data.OutstandingData.items_bef
 
 pub returns-clause-before : goal.returns-clause-before
 returns-clause-before c =
-    none_stops c.args.self.now.items c.self.inside.acked c.self.inside.breakpoints.items c.next_break-next.result (ap (λ (d : Outstanding). d.items.acked) c.self.view_is)
-    (ap (λ (d : Outstanding). d.items.breaks) c.self.view_is) c.next_break-next.ensures.before
+    none_stops c.args.self.now.items c.self.inside.acked c.self.inside.breakpoints.numbers c.next-next.result (ap (λ (d : Outstanding). d.items.acked) c.self.view_is)
+    (ap (λ (d : Outstanding). d.items.breaks) c.self.view_is) c.next-next.ensures.before

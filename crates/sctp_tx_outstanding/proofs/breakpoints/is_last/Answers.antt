@@ -1,6 +1,6 @@
 use Rattle.std.proofs.Common.{◌≡◌, ◌-◌, ◌<◌, length, nat_eq, slice_index_or, ap, sym, ◌∙◌, rules, arith}
 use Rattle.sctp_tx_outstanding.proofs.BreakLemmas.{last_is}
-use Rattle.sctp_tx_outstanding.proofs.outstanding_data.is_last.Goals as goal
+use Rattle.sctp_tx_outstanding.proofs.breakpoints.is_last.Goals as goal
 
 pub returns-in-Some : goal.returns-in-Some
 returns-in-Some c =
