@@ -109,6 +109,24 @@ impl Quiet {
         }
     }
 
+    /// The first run from this one on of which that isn't known.
+    fn next_unknown(&self, run: usize) -> usize
+        ensures { (n : ℕ) → run ≤ n → n < result → is_quiet_run self.now.runs.items n ≡ true }
+    {
+        let mut next = run;
+        while next < self.runs.len() && self.is_quiet(next) {
+            next += 1;
+        }
+        next
+    }
+
+    /// The place of the run's first item, at most `usize::MAX`.
+    fn begin_of(&self, run: usize) -> usize
+        ensures { (k : ℕ) → k < result → run_of self.now.offset k < run }
+    {
+        run.saturating_mul(64).saturating_sub(self.offset as usize)
+    }
+
     /// The place behind the run of the item at the place.
     fn end_of(&self, place: usize) -> usize
         requires { place < 2 ^ 62 }
@@ -138,7 +156,7 @@ impl Quiet {
         *is_quiet = true;
     }
 
-    /// A place from this one on up to which none is outstanding: that of the next one that is, or the end of the run.
+    /// A place from this one on up to which none is outstanding: that of the next one that is, or one where a run ends.
     pub fn next_flight(&mut self, items: &VecDeque<Item>, place: usize) -> usize
         requires { IsQuiet self.old items.now.items }
         ensures kept { IsQuiet self.new items.now.items }
@@ -149,10 +167,10 @@ impl Quiet {
             return place;
         }
         let run = self.run_of(place);
-        let end = self.end_of(place);
         if self.is_quiet(run) {
-            return end;
+            return self.begin_of(self.next_unknown(run)).max(place);
         }
+        let end = self.end_of(place);
         let next = first_flight(items, place, end);
         if next < end || !self.begins(place) {
             return next;
