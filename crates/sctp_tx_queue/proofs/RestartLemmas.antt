@@ -1,11 +1,23 @@
 -- A new association, a stream at a time.
-use Rattle.std.proofs.Common.{◌≡◌, ℕ, zero, suc, ◌+◌, ◌<◌, List, [], ◌∷◌, length, take, drop, get_or, refl, ap, sym, ◌∙◌, arith, add-one}
-use Rattle.std.specs.Prelude.{map}
+use Rattle.std.proofs.Common.{◌≡◌, ℕ, zero, suc, ◌+◌, ◌<◌, ◌==◌, Bool, true, false, cond, List, [], ◌∷◌, Option, Some, None, length, take, drop, get_or, refl, ap, sym, ◌∙◌, arith, add-one}
+use Rattle.std.specs.Prelude.{map, not, is_some, ◌&&◌}
+use Rattle.std.specs.Map.{lookup, remove_entry}
+use Rattle.std.specs.Ordering.{nat_cmp}
+use Rattle.std.specs.BTreeMap.{is_at}
+use Rattle.std.proofs.lemmas.Bool.{eqb-true, and_parts}
 use Rattle.std.proofs.Math.Seq.{drop-cons}
 use Rattle.sctp_serial.specs.declared.api.StreamId.{StreamId}
-use Rattle.sctp_tx_queue.specs.SendQueue.{Queue, Queued, stream}
-use Rattle.sctp_tx_queue.specs.Restarted.{whole_front, restart, restarted_one, each_restarted, numbers_on, NumbersGoOn}
+use Rattle.sctp_serial.specs.Unwrapped.{origin}
+use Rattle.sctp_stream_scheduler.specs.StreamScheduler.{Times, Scheduler, finish_time, is_active, finish_now, leave, enter, set_bytes_remaining}
+use Rattle.sctp_tx_queue.specs.declared.send_queue.message.MessageNumbers.{MessageNumbers}
+use Rattle.sctp_tx_queue.specs.declared.send_queue.stream.PauseState.{PauseState}
+use Rattle.sctp_tx_queue.specs.declared.send_queue.stream.PauseState.TheVariants.{NotPaused, Pending, Paused, Resetting}
+use Rattle.sctp_tx_queue.specs.SendQueue.{Queue, Queued, Stream, Streams, stream, put_stream, sendable, set_sendable}
+use Rattle.sctp_tx_queue.specs.Readiness.{waits, has_reset_pending}
+use Rattle.sctp_tx_queue.specs.Settings.{begun_without}
+use Rattle.sctp_tx_queue.specs.Restarted.{whole, whole_front, restart, restarted_one, each_restarted, is_unbegun, is_front_unbegun, has_first_numbers, is_restarted, is_in_line, is_kept, numbers_on, NumbersGoOn}
 use Rattle.sctp_tx_queue.proofs.InOrderLemmas.{each_put}
+use Rattle.sctp_tx_queue.proofs.StreamsLemmas.{put_nowhere, put_same, stream_there}
 
 pub restart_each : (ids : List StreamId) (i : ℕ) (none : StreamId) (q r : Queue) → i < length ids → r ≡ restarted_one (get_or ids i none).0 q
     → each_restarted (map (λ id. id.0) (drop (i + 1) ids)) r ≡ each_restarted (map (λ id. id.0) (drop i ids)) q
@@ -45,3 +57,79 @@ restarted_numbers (id ∷ ids) q =
     let first = one_numbers id q in
     let rest = restarted_numbers ids (restarted_one id q) in
     record { next = rest.next ∙ first.next; waiting = λ k. rest.waiting k ∙ first.waiting k }
+
+-- ---- where nothing is to be done
+
+front_whole : (ms : List Queued) → is_front_unbegun ms ≡ true → whole_front ms ≡ ms
+front_whole [] h = refl
+front_whole (m ∷ rest) h = ap (λ (x : Queued). x ∷ rest) (all m h)
+  where
+    none_of : (o : Option MessageNumbers) → not (is_some o) ≡ true → None ≡ o
+    none_of None h = refl
+    none_of (Some n) h = absurd (cc)
+
+    all : (m : Queued) → is_unbegun m ≡ true → whole m ≡ m
+    all m h =
+        let a = and_parts (m.offset == 0) (not (is_some m.numbers) && (m.fsn == 0)) h in
+        let b = and_parts (not (is_some m.numbers)) (m.fsn == 0) a.1 in
+        ap (λ o. let r : Queued = record m { offset = o; numbers = None; fsn = 0 } in r) (sym (eqb-true m.offset 0 a.0))
+        ∙ ap (λ n. let r : Queued = record m { numbers = n; fsn = 0 } in r) (none_of m.numbers b.0)
+        ∙ ap (λ f. let r : Queued = record m { fsn = f } in r) (sym (eqb-true m.fsn 0 b.1))
+
+flows : (s : Stream) (p : PauseState) → not (waits p) ≡ true → NotPaused ≡ p
+flows s NotPaused h = refl
+flows s Pending h = absurd (cc)
+flows s Paused h = absurd (cc)
+flows s Resetting h = absurd (cc)
+
+restart_same : (s : Stream) → is_restarted s ≡ true → restart s ≡ s
+restart_same s h =
+    let a = and_parts (not (has_reset_pending s)) (has_first_numbers s && is_front_unbegun s.messages) h in
+    let b = and_parts (has_first_numbers s) (is_front_unbegun s.messages) a.1 in
+    let c = and_parts (s.next_ssn == origin) ((s.next_ordered_mid == origin) && (s.next_unordered_mid == origin)) b.0 in
+    let d = and_parts (s.next_ordered_mid == origin) (s.next_unordered_mid == origin) c.1 in
+    ap (λ ms. let r : Stream = record s { messages = ms; pause = NotPaused; next_ssn = origin; next_ordered_mid = origin; next_unordered_mid = origin } in r) (front_whole s.messages b.1)
+    ∙ ap (λ p. let r : Stream = record s { pause = p; next_ssn = origin; next_ordered_mid = origin; next_unordered_mid = origin } in r) (flows s s.pause a.0)
+    ∙ ap (λ n. let r : Stream = record s { next_ssn = n; next_ordered_mid = origin; next_unordered_mid = origin } in r) (sym (eqb-true s.next_ssn origin c.0))
+    ∙ ap (λ n. let r : Stream = record s { next_ordered_mid = n; next_unordered_mid = origin } in r) (sym (eqb-true s.next_ordered_mid origin d.0))
+    ∙ ap (λ n. let r : Stream = record s { next_unordered_mid = n } in r) (sym (eqb-true s.next_unordered_mid origin d.1))
+
+put_back : (id : ℕ) (ss : Streams) → put_stream id (stream id ss) ss ≡ ss
+put_back id ss = go (lookup (is_at (nat_cmp id)) ss.entries) refl
+  where
+    go : (o : Option Stream) → lookup (is_at (nat_cmp id)) ss.entries ≡ o → put_stream id (stream id ss) ss ≡ ss
+    go None e = put_nowhere id (stream id ss) ss (sym e)
+    go (Some s) e = put_same id (stream id ss) ss (ap (λ t. Some t) (stream_there id s ss (sym e)) ∙ sym e)
+
+never_there : (id : ℕ) (ts : Times) → is_some (finish_time id ts) ≡ false → remove_entry (is_at (nat_cmp id)) ts ≡ ts
+never_there id [] h = refl
+never_there id (e ∷ es) h = pick (is_at (nat_cmp id) e.0) h (never_there id es)
+  where
+    pick : (b : Bool) → is_some (cond b (Some e.1) (finish_time id es)) ≡ false → (is_some (finish_time id es) ≡ false → remove_entry (is_at (nat_cmp id)) es ≡ es) → cond b es (e ∷ remove_entry (is_at (nat_cmp id)) es) ≡ e ∷ es
+    pick true h ih = absurd (cc)
+    pick false h ih = ap (λ xs. e ∷ xs) (ih h)
+
+line_same : (id bytes priority : ℕ) (sch : Scheduler) → is_in_line id bytes sch ≡ true → set_bytes_remaining id bytes priority sch ≡ sch
+line_same id bytes priority sch h = go (bytes == 0) h
+  where
+    not_true : (b : Bool) → not b ≡ true → b ≡ false
+    not_true true h = absurd (cc)
+    not_true false h = refl
+
+    go : (b : Bool) → cond b (not (is_active id sch)) (is_active id sch) ≡ true → cond b (leave id sch) (cond (is_active id sch) sch (enter id (finish_now bytes priority sch) sch)) ≡ sch
+    go true h = ap (λ (ts : Times). let r : Scheduler = record sch { times = ts } in r) (never_there id sch.times (not_true (is_active id sch) h))
+    go false h = ap (λ a. cond a sch (enter id (finish_now bytes priority sch) sch)) h
+
+pub kept_same : (id : ℕ) (q : Queue) → is_kept id q ≡ true → restarted_one id q ≡ q
+kept_same id q h =
+    let s : Stream = stream id q.streams in
+    let a = and_parts (not (is_some q.begun)) (is_restarted s && is_in_line id (sendable s) q.scheduler) h in
+    let b = and_parts (is_restarted s) (is_in_line id (sendable s) q.scheduler) a.1 in
+    let streams : put_stream id (restart s) q.streams ≡ q.streams = ap (λ t. put_stream id t q.streams) (restart_same s b.0) ∙ put_back id q.streams in
+    ap (λ (ss : Streams). let r : Queue = record q { streams = ss; scheduler = set_sendable id (stream id ss) q.scheduler; begun = begun_without id q.begun } in r) streams
+    ∙ ap (λ (sch : Scheduler). let r : Queue = record q { scheduler = sch; begun = begun_without id q.begun } in r) (line_same id (sendable s) s.priority q.scheduler b.1)
+    ∙ ap (λ b. let r : Queue = record q { begun = b } in r) (none_left q.begun a.0)
+  where
+    none_left : (o : Option ℕ) → not (is_some o) ≡ true → begun_without id o ≡ o
+    none_left None h = refl
+    none_left (Some n) h = absurd (cc)

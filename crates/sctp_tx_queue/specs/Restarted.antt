@@ -1,9 +1,11 @@
 -- A new association: what waits is sent from its beginning, under numbers that begin again.
-use Rattle.std.specs.Prelude.{◌≡◌, ℕ, None, List, [], ◌∷◌, map, take}
+use Rattle.std.specs.Prelude.{◌≡◌, ℕ, ◌==◌, ◌&&◌, Bool, true, false, not, if◌then◌else◌, ⊤, None, is_some, List, [], ◌∷◌, map, take}
 use Rattle.std.specs.Map.{keys_of}
 use Rattle.sctp_serial.specs.Unwrapped.{origin}
+use Rattle.sctp_stream_scheduler.specs.StreamScheduler.{Scheduler, is_active}
 use Rattle.sctp_tx_queue.specs.declared.send_queue.stream.PauseState.TheVariants.{NotPaused}
-use Rattle.sctp_tx_queue.specs.SendQueue.{Queued, Stream, Streams, Queue, stream, put_stream, set_sendable}
+use Rattle.sctp_tx_queue.specs.SendQueue.{Queued, Stream, Streams, Queue, stream, put_stream, sendable, set_sendable}
+use Rattle.sctp_tx_queue.specs.Readiness.{has_reset_pending}
 use Rattle.sctp_tx_queue.specs.Settings.{begun_without}
 
 abbrev pub whole : Queued → Queued
@@ -37,6 +39,35 @@ reset q = unbegun (each_restarted (keys_of q.streams.entries) q)
 -- what is left without memory: the first of the streams restarted, or none of them, and the others not
 abbrev pub SomeRestarted : Queue → Queue → Type 0
 SomeRestarted q after = (count : ℕ) × (after ≡ each_restarted (take count (keys_of q.streams.entries)) q)
+
+-- ---- whether anything is to be done
+
+abbrev pub is_unbegun : Queued → Bool
+is_unbegun m = (m.offset == 0) && (not (is_some m.numbers) && (m.fsn == 0))
+
+abbrev pub is_front_unbegun : List Queued → Bool
+is_front_unbegun [] = true
+is_front_unbegun (m ∷ rest) = is_unbegun m
+
+abbrev pub has_first_numbers : Stream → Bool
+has_first_numbers s = (s.next_ssn == origin) && ((s.next_ordered_mid == origin) && (s.next_unordered_mid == origin))
+
+-- it is as a restart leaves it
+abbrev pub is_restarted : Stream → Bool
+is_restarted s = not (has_reset_pending s) && (has_first_numbers s && is_front_unbegun s.messages)
+
+-- it is active where it has something to send
+abbrev pub is_in_line : ℕ → ℕ → Scheduler → Bool
+is_in_line id bytes sch = if bytes == 0 then not (is_active id sch) else is_active id sch
+
+-- a restart of this stream leaves all as it is
+abbrev pub is_kept : ℕ → Queue → Bool
+is_kept id q = not (is_some q.begun) && (is_restarted (stream id q.streams) && is_in_line id (sendable (stream id q.streams)) q.scheduler)
+
+-- where so it is known, a reset leaves all as it is
+abbrev pub ResetKeeps : Bool → Queue → Type 0
+ResetKeeps false q = ⊤
+ResetKeeps true q = reset q ≡ q
 
 -- ---- numbers of messages
 

@@ -1,6 +1,6 @@
 //! Messages that wait to be sent.
 
-ghost use Rattle.std.specs.Prelude.{◌≡◌, ℕ, ◌<◌, ◌^◌, ◌==◌, ◌||◌, [], length, not, is_some, None, Some, IsSome, IfOk, OnOk, OnErr, option_map, map, take};
+ghost use Rattle.std.specs.Prelude.{◌≡◌, ℕ, ◌<◌, ◌^◌, ◌==◌, ◌||◌, true, [], length, not, is_some, None, Some, IsSome, IfOk, OnOk, OnErr, option_map, map, take};
 ghost use Rattle.std.specs.List.{list_any};
 ghost use Rattle.std.specs.List.Sorted.{IsStrictlySortedBy};
 ghost use Rattle.std.specs.Map.{lookup, keys_of, values_of};
@@ -19,7 +19,7 @@ ghost use Rattle.sctp_tx_queue.specs.Interrupted.{Same, Freed, Stopped, Interrup
 ghost use Rattle.sctp_state.specs.Handover.{handover_state_of};
 ghost use Rattle.sctp_tx_queue.specs.Handover.{write_handover};
 ghost use Rattle.sctp_tx_queue.specs.Readiness.{readiness};
-ghost use Rattle.sctp_tx_queue.specs.Restarted.{reset, restarted_one, each_restarted, SomeRestarted, NumbersGoOn};
+ghost use Rattle.sctp_tx_queue.specs.Restarted.{reset, restarted_one, each_restarted, is_kept, is_in_line, SomeRestarted, NumbersGoOn};
 ghost use Rattle.sctp_tx_queue.specs.Emptied.{empty, emptied_one, each_emptied};
 ghost use Rattle.sctp_tx_queue.specs.Views.{produced_of, queued_of};
 
@@ -53,15 +53,20 @@ pub struct SendQueue {
     next_message_id: OutgoingMessageId,
     // without interleaving, the stream whose message is partly sent
     begun: Option<StreamId>,
+    // whether a reset is known to change nothing
+    is_restarted: bool,
 }
 
 impl Model for SendQueue {
     ghost use Rattle.std.specs.Prelude.{option_map};
     ghost use Rattle.sctp_tx_queue.specs.SendQueue.{Queue};
+    ghost use Rattle.sctp_tx_queue.specs.Restarted.{ResetKeeps};
 
     ghost Value = { Queue };
 
     ghost view = { λ q. record { streams = q.streams; scheduler = q.scheduler; next_number = q.next_message_id.0; begun = option_map (λ id. id.0) q.begun } };
+
+    ghost invariant = { λ q. ResetKeeps q.is_restarted (record { streams = q.streams; scheduler = q.scheduler; next_number = q.next_message_id.0; begun = option_map (λ id. id.0) q.begun }) };
 }
 
 /// Emits that a message was dropped, and sets what its stream has to send then. Without memory nothing changes.
@@ -112,6 +117,7 @@ impl SendQueue {
             scheduler: StreamScheduler::new(alloc, options.mtu.saturating_sub(32)),
             next_message_id: OutgoingMessageId(0),
             begun: None,
+            is_restarted: false,
         }
     }
 
@@ -152,6 +158,7 @@ impl SendQueue {
         ensures err { OnErr result (self.new ≡ self.old) }
     {
         let id = message.stream_id;
+        self.is_restarted = false;
         let message_id = self.next_message_id;
         let message = QueuedMessage::new(self.alloc, message_id, now, message, options)?;
         let demand = self.streams.demand_with(id, &message);
@@ -199,6 +206,7 @@ impl SendQueue {
         if !self.streams.is_stale(id, now) {
             return Ok(());
         }
+        self.is_restarted = false;
         let mark = events.mark();
         if self.streams.emit_stale(id, now, events).is_err() {
             events.roll_back(mark);
@@ -220,6 +228,7 @@ impl SendQueue {
         ensures made { IfOk result (λ found. option_map produced_of found ≡ (turn_from turn.id.0 turn.size self.old.streams self.old events.old).made) }
         ensures err { OnErr result (Same self.old events.old self.new events.new) }
     {
+        self.is_restarted = false;
         let is_interleaved = self.scheduler.is_interleaved();
         let made = self
             .streams
@@ -352,6 +361,7 @@ impl SendQueue {
         ensures emitted { OnOk result (events.new ≡ (set_low_threshold id.0 bytes self.old events.old).emitted) }
         ensures err { OnErr result (Same self.old events.old self.new events.new) }
     {
+        self.is_restarted = false;
         let mark = events.mark();
         let is_low = self.streams.is_low_at(id, bytes);
         if emit_low(events, id, is_low).is_err() {
@@ -378,6 +388,7 @@ impl SendQueue {
         ensures ok { OnOk result (self.new ≡ set_priority id.0 priority self.old) }
         ensures err { OnErr result (self.new ≡ self.old) }
     {
+        self.is_restarted = false;
         self.streams.open(id)?;
         self.streams.change(id, StreamChange::Priority(priority));
         Ok(())
@@ -394,6 +405,7 @@ impl SendQueue {
     pub fn enable_message_interleaving(&mut self, is_interleaved: bool)
         ensures { self.new ≡ set_mode is_interleaved self.old }
     {
+        self.is_restarted = false;
         self.scheduler.enable_message_interleaving(is_interleaved);
     }
 
@@ -409,6 +421,7 @@ impl SendQueue {
         ensures emitted { OnOk result (events.new ≡ (discard id.0 message_id.0 self.old events.old).emitted) }
         ensures err { OnErr result (Same self.old events.old self.new events.new) }
     {
+        self.is_restarted = false;
         let Some(discarded) = self.streams.front_discarded(id, message_id) else {
             self.streams.change(id, StreamChange::Discard(message_id));
             return Ok(());
@@ -437,6 +450,7 @@ impl SendQueue {
         let bytes = self.streams.sendable_prepared(id);
         match self.emit_and_open(id, bytes, events) {
             Ok(()) => {
+                self.is_restarted = false;
                 self.streams.change(id, StreamChange::Prepare);
                 Ok(())
             }
@@ -462,6 +476,7 @@ impl SendQueue {
         ensures err { OnErr result (self.new ≡ self.old) }
         ensures grown { OnErr result (Grown events.old events.new) }
     {
+        self.is_restarted = false;
         self.streams.emit_waiting(id, events)?;
         let priority = self.streams.priority(id);
         self.streams.open(id)?;
@@ -509,20 +524,50 @@ impl SendQueue {
         ensures numbers { NumbersGoOn self.old self.new }
         ensures err { OnErr result (SomeRestarted self.old self.new) }
     {
+        if self.is_restarted {
+            return Ok(());
+        }
         let ids = self.streams.ids(self.alloc)?;
-        self.restart_all(&ids)?;
+        let is_kept = self.restart_all(&ids)?;
         self.begun = None;
+        self.is_restarted = is_kept;
         Ok(())
     }
 
-    fn restart_all(&mut self, ids: &[StreamId]) -> Result<(), AllocError>
+    /// Restarts all of these streams. The answer is whether nothing was to be done.
+    fn restart_all(&mut self, ids: &[StreamId]) -> Result<bool, AllocError>
         ensures ok { OnOk result (self.new ≡ each_restarted (map (λ id. id.0) ids.now) self.old) }
+        ensures kept { IfOk result (λ is_kept. is_kept ≡ true → (self.new ≡ self.old) × (self.old.begun ≡ None)) }
         ensures err { OnErr result ((count : ℕ) × (self.new ≡ each_restarted (take count (map (λ id. id.0) ids.now)) self.old)) }
     {
+        let mut is_kept = self.begun.is_none();
         for id in ids {
-            self.restart_one(*id)?;
+            is_kept = self.restart_in_turn(*id, is_kept)?;
         }
-        Ok(())
+        Ok(is_kept)
+    }
+
+    /// Restarts a stream, where that changes anything. The answer is whether nothing was to be done, of those before it
+    /// neither.
+    fn restart_in_turn(&mut self, id: StreamId, is_kept: bool) -> Result<bool, AllocError>
+        ensures ok { OnOk result (self.new ≡ restarted_one id.0 self.old) }
+        ensures kept { IfOk result (λ is_all_kept. is_all_kept ≡ true → (is_kept ≡ true) × (self.new ≡ self.old)) }
+        ensures err { OnErr result (self.new ≡ self.old) }
+    {
+        if self.is_kept(id) {
+            return Ok(is_kept);
+        }
+        self.restart_one(id)?;
+        Ok(false)
+    }
+
+    /// Whether a restart of a stream changes nothing.
+    fn is_kept(&self, id: StreamId) -> bool
+        ensures { result ≡ is_kept id.0 self.now }
+    {
+        self.begun.is_none()
+            && (self.streams.is_restarted(id)
+                && is_in_line(&self.scheduler, id, self.streams.sendable(id)))
     }
 
     /// A new association begins for a stream. Without memory nothing changes.
@@ -530,6 +575,7 @@ impl SendQueue {
         ensures ok { OnOk result (self.new ≡ restarted_one id.0 self.old) }
         ensures err { OnErr result (self.new ≡ self.old) }
     {
+        self.is_restarted = false;
         let demand = self.streams.demand_restarted(id);
         self.scheduler
             .set_bytes_remaining(id, demand.bytes, demand.priority)?;
@@ -545,6 +591,7 @@ impl SendQueue {
         ensures emitted { OnOk result (events.new ≡ (empty self.old events.old).emitted) }
         ensures err { OnErr result (Same self.old events.old self.new events.new) }
     {
+        self.is_restarted = false;
         let ids = self.streams.ids(self.alloc)?;
         let mark = events.mark();
         if self.streams.emit_ended(events).is_err() {
@@ -552,6 +599,7 @@ impl SendQueue {
             return Err(AllocError);
         }
         self.empty_each(&ids);
+        self.is_restarted = false;
         self.begun = None;
         Ok(())
     }
@@ -568,6 +616,7 @@ impl SendQueue {
     fn empty_one(&mut self, id: StreamId)
         ensures { self.new ≡ emptied_one id.0 self.old }
     {
+        self.is_restarted = false;
         self.scheduler.leave(id);
         self.streams.change(id, StreamChange::Empty);
     }
@@ -615,6 +664,7 @@ impl SendQueue {
         ensures ok { OnOk result (self.new ≡ apply_reset_step step id.0 self.old) }
         ensures err { OnErr result (self.new ≡ self.old) }
     {
+        self.is_restarted = false;
         let demand = self.streams.demand_stepped(id, step);
         self.scheduler
             .set_bytes_remaining(id, demand.bytes, demand.priority)?;
@@ -636,6 +686,7 @@ impl SendQueue {
     fn request_one(&mut self, id: StreamId)
         ensures { self.new ≡ apply_reset_step Requested id.0 self.old }
     {
+        self.is_restarted = false;
         self.scheduler.leave(id);
         self.streams
             .change(id, StreamChange::Step(ResetStep::Requested));
@@ -647,6 +698,17 @@ impl SendQueue {
         for id in ids {
             self.request_one(*id);
         }
+    }
+}
+
+/// Whether a stream is active where it has something to send.
+fn is_in_line(scheduler: &StreamScheduler, id: StreamId, bytes: usize) -> bool
+    ensures { result ≡ is_in_line id.0 bytes scheduler.now }
+{
+    if bytes == 0 {
+        !scheduler.is_active(id)
+    } else {
+        scheduler.is_active(id)
     }
 }
 

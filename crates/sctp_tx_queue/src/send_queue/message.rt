@@ -12,7 +12,7 @@ ghost use Rattle.sctp_serial.specs.Unwrapped.{u32_space, halves, wire};
 ghost use Rattle.sctp_state.specs.Handover.{stream_message_of};
 ghost use Rattle.sctp_tx_queue.specs.Handover.{queued_message};
 ghost use Rattle.sctp_tx_queue.specs.Restored.{numbers_from, message_from};
-ghost use Rattle.sctp_tx_queue.specs.Restarted.{whole};
+ghost use Rattle.sctp_tx_queue.specs.Restarted.{whole, is_unbegun};
 ghost use Rattle.sctp_tx_queue.specs.Views.{produced_of, queued_of};
 
 use crate::data_to_send::DataToSend;
@@ -314,6 +314,13 @@ impl QueuedMessage {
         ensures small { result < 2 ^ 32 }
     {
         self.offset as usize
+    }
+
+    /// Whether nothing of it is sent, and it has no numbers.
+    pub(crate) fn is_unbegun(&self) -> bool
+        ensures { result ≡ is_unbegun self.now }
+    {
+        self.offset == 0 && (self.numbers().is_none() && self.next_fsn().0 == 0)
     }
 
     /// It is sent from its beginning again.

@@ -10,7 +10,7 @@ ghost use Rattle.sctp_tx_queue.specs.Resets.{is_partly, emit_unsent};
 ghost use Rattle.sctp_tx_queue.specs.Emptied.{emit_ended};
 ghost use Rattle.sctp_state.specs.Handover.{stream_message_of};
 ghost use Rattle.sctp_tx_queue.specs.Handover.{queued_message};
-ghost use Rattle.sctp_tx_queue.specs.Restarted.{whole_front};
+ghost use Rattle.sctp_tx_queue.specs.Restarted.{whole_front, is_front_unbegun};
 ghost use Rattle.sctp_tx_queue.specs.Whole.{front_ended};
 ghost use Rattle.sctp_tx_queue.specs.Views.{produced_of};
 
@@ -482,6 +482,16 @@ impl Messages {
         match &mut self.room {
             Some(room) => make_front_whole(room),
             None => 0,
+        }
+    }
+
+    /// Whether the message at the front, if there is one, isn't begun.
+    pub(crate) fn is_front_unbegun(&self) -> bool
+        ensures { result ≡ is_front_unbegun self.now }
+    {
+        match self.front() {
+            Some(message) => message.is_unbegun(),
+            None => true,
         }
     }
 

@@ -93,6 +93,7 @@ impl SendQueue {
             &streams,
             &tx.streams,
         )?;
+        self.is_restarted = false;
         self.streams = streams;
         self.scheduler = scheduler;
         self.next_message_id = OutgoingMessageId((tx.next_outgoing_message_id % (1 << 32)) as u32);

@@ -12,7 +12,7 @@ ghost use Rattle.sctp_state.specs.Handover.{stream_message_of};
 ghost use Rattle.sctp_tx_queue.specs.Change.{changed};
 ghost use Rattle.sctp_tx_queue.specs.Handover.{messages_of, outgoing_stream};
 ghost use Rattle.sctp_tx_queue.specs.Readiness.{has_reset_pending};
-ghost use Rattle.sctp_tx_queue.specs.Restarted.{restart};
+ghost use Rattle.sctp_tx_queue.specs.Restarted.{restart, has_first_numbers, is_restarted};
 ghost use Rattle.sctp_tx_queue.specs.Restored.{stream_from};
 ghost use Rattle.sctp_tx_queue.specs.Whole.{is_front_whole, front_ended, front_lifecycle};
 ghost use Rattle.sctp_tx_queue.specs.Views.{produced_of};
@@ -563,6 +563,21 @@ impl Stream {
         self.next_ssn = 1 << 32;
         self.next_ordered_mid = 1 << 32;
         self.next_unordered_mid = 1 << 32;
+    }
+
+    fn has_first_numbers(&self) -> bool
+        ensures { result ≡ has_first_numbers self.now }
+    {
+        let first = 1 << 32;
+        self.next_ssn == first
+            && (self.next_ordered_mid == first && self.next_unordered_mid == first)
+    }
+
+    /// Whether it is as a restart leaves it.
+    pub(crate) fn is_restarted(&self) -> bool
+        ensures { result ≡ is_restarted self.now }
+    {
+        !self.is_waiting() && (self.has_first_numbers() && self.messages.is_front_unbegun())
     }
 
     /// Changes it.

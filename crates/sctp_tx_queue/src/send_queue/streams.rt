@@ -18,7 +18,7 @@ ghost use Rattle.sctp_tx_queue.specs.Handover.{outgoing_streams, queued_messages
 ghost use Rattle.sctp_tx_queue.specs.Readiness.{has_reset_pending};
 ghost use Rattle.sctp_tx_queue.specs.Bounded.{one};
 ghost use Rattle.sctp_tx_queue.specs.Change.{changed};
-ghost use Rattle.sctp_tx_queue.specs.Restarted.{restart};
+ghost use Rattle.sctp_tx_queue.specs.Restarted.{restart, is_restarted};
 ghost use Rattle.sctp_tx_queue.specs.Emptied.{emit_all_ended};
 ghost use Rattle.sctp_state.specs.Validity.{are_valid_messages, queued_bytes, outgoing_ids, rises_from};
 ghost use Rattle.sctp_state.specs.Handover.{transmission_of};
@@ -408,6 +408,16 @@ impl Streams {
                 priority: stream.priority(),
             },
             None => self.no_demand(),
+        }
+    }
+
+    /// Whether a stream is as a restart leaves it.
+    pub(crate) fn is_restarted(&self, id: StreamId) -> bool
+        ensures { result ≡ is_restarted (stream id.0 self.now) }
+    {
+        match self.streams.get(&id.0) {
+            Some(stream) => stream.is_restarted(),
+            None => true,
         }
     }
 

@@ -8,15 +8,15 @@ pub returns-clause-numbers : goal.returns-clause-numbers
 returns-clause-numbers c =
     let q = c.args.self.now in
     let ids : List ℕ = map (λ id. id.0) c.deref.result.now in
-    let is : c.restart_all.new.self ≡ each_restarted ids q = c.in_ok-restart_all.ensures.ok in
+    let is : c.restart_all.new.self ≡ each_restarted ids q = c.in_ok-is_kept.ensures.ok in
     let h : NumbersGoOn q c.restart_all.new.self = subst (λ (t : Queue). NumbersGoOn q t) (sym is) (restarted_numbers ids q) in
     let k = rw (← c.self-2.view_is) at h in
     record { next = k.next; waiting = k.waiting }
 
-pub returns-in_err-restart_all-clause-numbers : goal.returns-in_err-restart_all-clause-numbers
-returns-in_err-restart_all-clause-numbers c =
+pub returns-in_err-is_kept-clause-numbers : goal.returns-in_err-is_kept-clause-numbers
+returns-in_err-is_kept-clause-numbers c =
     let q = c.args.self.now in
-    let some = c.in_err-restart_all.ensures.err in
+    let some = c.in_err-is_kept.ensures.err in
     subst (λ (t : Queue). NumbersGoOn q t) (sym some.1) (restarted_numbers (take some.0 (map (λ id. id.0) c.deref.result.now)) q)
 
 pub returns-in_err-ids-clause-numbers : goal.returns-in_err-ids-clause-numbers

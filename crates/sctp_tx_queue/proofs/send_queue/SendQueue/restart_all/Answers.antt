@@ -7,12 +7,16 @@ use Rattle.sctp_tx_queue.proofs.send_queue.SendQueue.restart_all.Goals as goal
 pub loop-id-preserved : goal.loop-id-preserved
 loop-id-preserved c = record {
   rest =
-      restart_each c.args.ids.now c.loop-id.id-index (record { 0 = 0 }) c.loop-id.self c.restart_one.new.self c.loop-id-test.true c.in_ok-restart_one.ensures.ok
+      restart_each c.args.ids.now c.loop-id.id-index (record { 0 = 0 }) c.loop-id.self c.restart_in_turn.new.self c.loop-id-test.true c.in_ok-is_kept.ensures.ok
       ∙ c.loop-id.invariant.rest;
-  done = restarted_more c.args.ids.now c.loop-id.id-index (record { 0 = 0 }) c.args.self.now c.loop-id.self c.restart_one.new.self c.loop-id-test.true c.loop-id.invariant.done c.in_ok-restart_one.ensures.ok;
+  done = restarted_more c.args.ids.now c.loop-id.id-index (record { 0 = 0 }) c.args.self.now c.loop-id.self c.restart_in_turn.new.self c.loop-id-test.true c.loop-id.invariant.done c.in_ok-is_kept.ensures.ok;
+  kept = λ h. (
+    (c.in_ok-is_kept.ensures.kept h).1 ∙ (c.loop-id.invariant.kept (c.in_ok-is_kept.ensures.kept h).0).0,
+    (c.loop-id.invariant.kept (c.in_ok-is_kept.ensures.kept h).0).1,
+  );
 }
 
-pub returns-in_err-restart_one-clause-err : goal.returns-in_err-restart_one-clause-err
-returns-in_err-restart_one-clause-err c =
-    let some : (count : ℕ) × (c.restart_one.new.self ≡ each_restarted (take count (map (λ id. id.0) c.args.ids.now)) c.args.self.now) = (c.loop-id.id-index, c.in_err-restart_one.ensures.err ∙ c.loop-id.invariant.done) in
+pub returns-in_err-is_kept-clause-err : goal.returns-in_err-is_kept-clause-err
+returns-in_err-is_kept-clause-err c =
+    let some : (count : ℕ) × (c.restart_in_turn.new.self ≡ each_restarted (take count (map (λ id. id.0) c.args.ids.now)) c.args.self.now) = (c.loop-id.id-index, c.in_err-is_kept.ensures.err ∙ c.loop-id.invariant.done) in
     search (rules, some)

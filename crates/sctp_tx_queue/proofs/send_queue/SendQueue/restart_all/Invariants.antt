@@ -1,4 +1,4 @@
-use Rattle.std.proofs.Common.{◌≡◌, drop, take}
+use Rattle.std.proofs.Common.{◌≡◌, true, None, drop, take}
 use Rattle.std.specs.Prelude.{map}
 use Rattle.sctp_tx_queue.specs.Restarted.{each_restarted}
 use Rattle.sctp_tx_queue.proofs.send_queue.SendQueue.restart_all.Given as goal
@@ -7,4 +7,5 @@ abbrev pub invariant-loop-id : goal.invariant-loop-id
 invariant-loop-id l = record {
   rest : each_restarted (map (λ id. id.0) (drop l.id-index l.ids)) l.self ≡ each_restarted (map (λ id. id.0) l.ids) l.initial.self;
   done : l.self ≡ each_restarted (take l.id-index (map (λ id. id.0) l.ids)) l.initial.self;
+  kept : l.is_kept ≡ true → (l.self ≡ l.initial.self) × (l.initial.self.begun ≡ None);
 }
