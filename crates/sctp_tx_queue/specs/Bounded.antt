@@ -1,6 +1,6 @@
 -- No sum of bytes overflows, also once each message is whole: there are at most 2^32 messages, each of less than 2^32 bytes,
 -- and something of each is left. What is counted beside the streams is what a walk over them would find.
-use Rattle.std.specs.Prelude.{◌≡◌, ℕ, ◌^◌, ◌≤◌, ◌&&◌, nat_lt, Bool, true, if◌then◌else◌, length, sum_by}
+use Rattle.std.specs.Prelude.{◌≡◌, ℕ, ◌^◌, ◌≤◌, ◌&&◌, ◌||◌, not, nat_lt, nat_le, Bool, true, if◌then◌else◌, [], ◌∷◌, length, sum_by}
 use Rattle.std.specs.List.{list_all}
 use Rattle.std.specs.Map.{values_of}
 use Rattle.sctp_tx_queue.specs.SendQueue.{Queued, Stream, Entries, total_of}
@@ -27,8 +27,17 @@ one b = if b then 1 else 0
 abbrev pub ready_count : Entries → ℕ
 ready_count es = sum_by (λ s. one (is_ready s)) (values_of es)
 
--- the amount is that of all streams, which are bounded, and so many of them can be reset
-pub record IsCounted (amount count : ℕ) (es : Entries) : Type 0 where
+-- no stream below this one can be reset and is in no request
+abbrev pub is_ready_from : ℕ → ℕ × Stream → Bool
+is_ready_from first e = nat_le first e.0 || not (is_ready e.1)
+
+abbrev pub are_ready_from : ℕ → Entries → Bool
+are_ready_from first [] = true
+are_ready_from first (e ∷ es) = is_ready_from first e && are_ready_from first es
+
+-- the amount is that of all streams, which are bounded, and so many of them can be reset, none of them below `first`
+pub record IsCounted (amount count first : ℕ) (es : Entries) : Type 0 where
   pub counted : amount ≡ total_of es
   pub few : AreFew es
   pub ready : count ≡ ready_count es
+  pub from : are_ready_from first es ≡ true

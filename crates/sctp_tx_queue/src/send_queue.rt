@@ -635,8 +635,7 @@ impl SendQueue {
         ensures queue { OnOk result (self.new ≡ request_resets most self.old) }
         ensures err { OnErr result (self.new ≡ self.old) }
     {
-        let mut ids = self.streams.ready(self.alloc)?;
-        ids.truncate(most);
+        let ids = self.streams.ready(self.alloc, most)?;
         self.request(&ids);
         Ok(ids)
     }

@@ -1,6 +1,6 @@
 //! The streams that were named, and what is left on all of them.
 
-ghost use Rattle.std.specs.Prelude.{◌≡◌, ◌+◌, ◌<◌, ◌≤◌, ◌^◌, ◌==◌, [], None, Some, IsTrue, IsSome, IfOk, OnOk, OnErr, option_map, map};
+ghost use Rattle.std.specs.Prelude.{◌≡◌, ◌+◌, ◌<◌, ◌≤◌, ◌^◌, ◌==◌, true, [], None, Some, IsTrue, IsSome, IfOk, OnOk, OnErr, option_map, map, take};
 ghost use Rattle.std.specs.Map.{lookup, keys_of, values_of};
 ghost use Rattle.std.specs.List.{list_all, list_any};
 ghost use Rattle.std.specs.List.Sorted.{IsStrictlySortedBy};
@@ -16,7 +16,7 @@ ghost use Rattle.sctp_tx_queue.specs.Resets.{is_ready, after_step, ready, prepar
 ghost use Rattle.sctp_state.specs.Handover.{stream_message_of};
 ghost use Rattle.sctp_tx_queue.specs.Handover.{outgoing_streams, queued_messages};
 ghost use Rattle.sctp_tx_queue.specs.Readiness.{has_reset_pending};
-ghost use Rattle.sctp_tx_queue.specs.Bounded.{one};
+ghost use Rattle.sctp_tx_queue.specs.Bounded.{one, are_ready_from};
 ghost use Rattle.sctp_tx_queue.specs.Change.{changed};
 ghost use Rattle.sctp_tx_queue.specs.Restarted.{restart, is_restarted};
 ghost use Rattle.sctp_tx_queue.specs.Emptied.{emit_all_ended};
@@ -42,12 +42,13 @@ use std::collections::BTreeMap;
 use std::marker::Model;
 
 /// The streams by id. `total` counts the bytes on all of them that are not sent, `ready_count` the streams that can be
-/// reset and are in no request.
+/// reset and are in no request: none of them is below `first_ready`.
 #[derive(Drop)]
 pub struct Streams {
     streams: BTreeMap<u16, Stream>,
     total: ThresholdWatcher,
     ready_count: usize,
+    first_ready: u16,
     default_threshold: usize,
     default_priority: u16,
     spare_rooms: SpareRooms,
@@ -61,7 +62,7 @@ impl Model for Streams {
 
     ghost view = { λ s. record { entries = s.streams.entries; total_threshold = s.total.low_threshold; default_threshold = s.default_threshold; default_priority = s.default_priority } };
 
-    ghost invariant = { λ s. IsCounted s.total.amount s.ready_count s.streams.entries };
+    ghost invariant = { λ s. IsCounted s.total.amount s.ready_count s.first_ready s.streams.entries };
 }
 
 /// The bytes that a stream has to send, and its priority.
@@ -80,6 +81,7 @@ impl Streams {
             streams: BTreeMap::new(alloc),
             total: ThresholdWatcher::new(options.total_buffered_amount_low_threshold),
             ready_count: 0,
+            first_ready: 0,
             default_threshold: options.default_stream_buffered_amount_low_threshold,
             default_priority: options.default_stream_priority,
             spare_rooms: SpareRooms::new(alloc),
@@ -117,6 +119,7 @@ impl Streams {
             streams,
             total: ThresholdWatcher::new(self.total.low_threshold()),
             ready_count: 0,
+            first_ready: 0,
             default_threshold: self.default_threshold,
             default_priority: self.default_priority,
             spare_rooms: SpareRooms::new(alloc),
@@ -293,7 +296,9 @@ impl Streams {
         let made = send_from(counted, spares, stream, scheduler, events)?;
         stream.leave_room_to(&mut self.spare_rooms);
         self.total.decrease(before - stream.amount());
-        self.ready_count = ready_count_after(self.ready_count, was_ready, stream.is_ready());
+        let is_ready = stream.is_ready();
+        self.ready_count = ready_count_after(self.ready_count, was_ready, is_ready);
+        self.first_ready = first_ready_after(self.first_ready, turn.id, is_ready);
         Ok(made)
     }
 
@@ -311,7 +316,9 @@ impl Streams {
         stream.change(change);
         self.total.decrease(before);
         self.total.increase(stream.amount());
-        self.ready_count = ready_count_after(self.ready_count, was_ready, stream.is_ready());
+        let is_ready = stream.is_ready();
+        self.ready_count = ready_count_after(self.ready_count, was_ready, is_ready);
+        self.first_ready = first_ready_after(self.first_ready, id, is_ready);
     }
 
     pub(crate) fn low_threshold(&self, id: StreamId) -> usize
@@ -472,14 +479,22 @@ impl Streams {
         stream_ids(alloc, &self.streams)
     }
 
-    /// The streams that can be reset and are in no request, by ascending id.
-    pub(crate) fn ready(&self, alloc: Global) -> Result<Vec<StreamId>, AllocError>
-        ensures { IfOk result (λ ids. map (λ id. id.0) ids.items ≡ ready self.now.entries) }
+    /// The first streams that can be reset and are in no request, by ascending id and at most `most`. Those below them
+    /// are not looked at again.
+    pub(crate) fn ready(&mut self, alloc: Global, most: usize) -> Result<Vec<StreamId>, AllocError>
+        ensures ids { IfOk result (λ ids. map (λ id. id.0) ids.items ≡ take most (ready self.old.entries)) }
+        ensures same { self.new ≡ self.old }
     {
+        // (read for its clause: the ids ascend)
+        let _count = self.streams.len();
         if self.ready_count == 0 {
             return Ok(Vec::new(alloc));
         }
-        ready_streams(alloc, &self.streams)
+        let ids = ready_streams(alloc, &self.streams, self.first_ready, most)?;
+        if let Some(first) = ids.first() {
+            self.first_ready = first.0;
+        }
+        Ok(ids)
     }
 
     /// Whether a reset of a stream waits, or is to be answered.
@@ -505,14 +520,29 @@ fn ready_count_after(count: usize, was_ready: bool, is_ready: bool) -> usize
     count + usize::from(is_ready) - usize::from(was_ready)
 }
 
+/// The stream below which none is ready after a change of one.
+fn first_ready_after(first: u16, id: StreamId, is_ready: bool) -> u16
+    ensures less { result ≤ first }
+    ensures id { is_ready ≡ true → result ≤ id.0 }
+{
+    if is_ready { first.min(id.0) } else { first }
+}
+
+/// The first ready streams, at most `most`, where none is ready below `first`.
 fn ready_streams(
     alloc: Global,
     streams: &BTreeMap<u16, Stream>,
+    first: u16,
+    most: usize,
 ) -> Result<Vec<StreamId>, AllocError>
-    ensures { IfOk result (λ ids. map (λ id. id.0) ids.items ≡ ready streams.now.entries) }
+    requires { IsTrue (are_ready_from first streams.now.entries) }
+    ensures { IfOk result (λ ids. map (λ id. id.0) ids.items ≡ take most (ready streams.now.entries)) }
 {
     let mut ids = Vec::new(alloc);
-    for (id, stream) in streams {
+    for (id, stream) in streams.range(first..) {
+        if ids.len() >= most {
+            return Ok(ids);
+        }
         if stream.is_ready() {
             ids.push(StreamId(*id))?;
         }
