@@ -405,6 +405,9 @@ impl SendQueue {
     pub fn enable_message_interleaving(&mut self, is_interleaved: bool)
         ensures { self.new ≡ set_mode is_interleaved self.old }
     {
+        if is_interleaved == self.scheduler.is_interleaved() {
+            return;
+        }
         self.is_restarted = false;
         self.scheduler.enable_message_interleaving(is_interleaved);
     }
