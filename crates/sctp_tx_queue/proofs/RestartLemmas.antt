@@ -1,7 +1,7 @@
 -- A new association, a stream at a time.
 use Rattle.std.proofs.Common.{◌≡◌, ℕ, zero, suc, ◌+◌, ◌<◌, ◌==◌, Bool, true, false, cond, List, [], ◌∷◌, Option, Some, None, length, take, drop, get_or, refl, ap, sym, ◌∙◌, arith, add-one}
 use Rattle.std.specs.Prelude.{map, not, is_some, ◌&&◌}
-use Rattle.std.specs.Map.{lookup, remove_entry}
+use Rattle.std.specs.Map.{lookup, remove_entry, keys_of}
 use Rattle.std.specs.Ordering.{nat_cmp}
 use Rattle.std.specs.BTreeMap.{is_at}
 use Rattle.std.proofs.lemmas.Bool.{eqb-true, and_parts}
@@ -14,8 +14,8 @@ use Rattle.sctp_tx_queue.specs.declared.send_queue.stream.PauseState.{PauseState
 use Rattle.sctp_tx_queue.specs.declared.send_queue.stream.PauseState.TheVariants.{NotPaused, Pending, Paused, Resetting}
 use Rattle.sctp_tx_queue.specs.SendQueue.{Queue, Queued, Stream, Streams, stream, put_stream, sendable, set_sendable}
 use Rattle.sctp_tx_queue.specs.Readiness.{waits, has_reset_pending}
-use Rattle.sctp_tx_queue.specs.Settings.{begun_without}
-use Rattle.sctp_tx_queue.specs.Restarted.{whole, whole_front, restart, restarted_one, each_restarted, is_unbegun, is_front_unbegun, has_first_numbers, is_restarted, is_in_line, is_kept, numbers_on, NumbersGoOn}
+use Rattle.sctp_tx_queue.specs.Settings.{begun_without, set_mode}
+use Rattle.sctp_tx_queue.specs.Restarted.{whole, whole_front, restart, restarted_one, each_restarted, is_unbegun, is_front_unbegun, has_first_numbers, is_restarted, is_in_line, is_kept, are_kept, reset, unbegun, ResetKeeps, numbers_on, NumbersGoOn}
 use Rattle.sctp_tx_queue.proofs.InOrderLemmas.{each_put}
 use Rattle.sctp_tx_queue.proofs.StreamsLemmas.{put_nowhere, put_same, stream_there}
 
@@ -133,3 +133,32 @@ kept_same id q h =
     none_left : (o : Option ℕ) → not (is_some o) ≡ true → begun_without id o ≡ o
     none_left None h = refl
     none_left (Some n) h = absurd (cc)
+
+-- ---- where a reset changes nothing
+
+pub more_kept : (ids : List StreamId) (i : ℕ) (none : StreamId) (q : Queue) → i < length ids → is_kept (get_or ids i none).0 q ≡ true → are_kept (map (λ id. id.0) (drop (i + 1) ids)) q ≡ true → are_kept (map (λ id. id.0) (drop i ids)) q ≡ true
+more_kept ids i none q more here h =
+    ap (λ (xs : List StreamId). are_kept (map (λ id. id.0) xs) q) (drop-cons ids i none more)
+    ∙ ap (λ t. t && are_kept (map (λ id. id.0) (drop (suc i) ids)) q) here
+    ∙ ap (λ k. are_kept (map (λ id. id.0) (drop k ids)) q) (sym (add-one i)) ∙ h
+
+kept_each : (ids : List ℕ) (q : Queue) → are_kept ids q ≡ true → each_restarted ids q ≡ q
+kept_each [] q h = refl
+kept_each (id ∷ ids) q h =
+    let p = and_parts (is_kept id q) (are_kept ids q) h in
+    ap (λ x. each_restarted ids x) (kept_same id q p.0) ∙ kept_each ids q p.1
+
+none_begun : (q : Queue) → q.begun ≡ None → unbegun q ≡ q
+none_begun q h = ap (λ b. let r : Queue = record q { begun = b } in r) (sym h)
+
+pub reset_same : (b : Bool) (q : Queue) → b ≡ true → ResetKeeps b q → q ≡ reset q
+reset_same true q e h = sym (none_begun q h.1) ∙ ap unbegun (sym (kept_each (keys_of q.streams.entries) q h.0))
+reset_same false q e h = absurd (cc)
+
+mode_kept : (ids : List ℕ) (is_interleaved : Bool) (q : Queue) → are_kept ids (set_mode is_interleaved q) ≡ are_kept ids q
+mode_kept [] is_interleaved q = refl
+mode_kept (id ∷ ids) is_interleaved q = ap (λ t. is_kept id q && t) (mode_kept ids is_interleaved q)
+
+pub mode_keeps : (b is_interleaved : Bool) (q : Queue) → ResetKeeps b q → ResetKeeps b (set_mode is_interleaved q)
+mode_keeps false is_interleaved q h = tt
+mode_keeps true is_interleaved q h = (mode_kept (keys_of q.streams.entries) is_interleaved q ∙ h.0, h.1)

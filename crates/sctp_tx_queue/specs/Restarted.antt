@@ -64,10 +64,14 @@ is_in_line id bytes sch = if bytes == 0 then not (is_active id sch) else is_acti
 abbrev pub is_kept : ℕ → Queue → Bool
 is_kept id q = not (is_some q.begun) && (is_restarted (stream id q.streams) && is_in_line id (sendable (stream id q.streams)) q.scheduler)
 
+abbrev pub are_kept : List ℕ → Queue → Bool
+are_kept [] q = true
+are_kept (id ∷ ids) q = is_kept id q && are_kept ids q
+
 -- where so it is known, a reset leaves all as it is
 abbrev pub ResetKeeps : Bool → Queue → Type 0
 ResetKeeps false q = ⊤
-ResetKeeps true q = reset q ≡ q
+ResetKeeps true q = (are_kept (keys_of q.streams.entries) q ≡ true) × (q.begun ≡ None)
 
 -- ---- numbers of messages
 

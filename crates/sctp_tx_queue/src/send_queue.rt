@@ -19,7 +19,7 @@ ghost use Rattle.sctp_tx_queue.specs.Interrupted.{Same, Freed, Stopped, Interrup
 ghost use Rattle.sctp_state.specs.Handover.{handover_state_of};
 ghost use Rattle.sctp_tx_queue.specs.Handover.{write_handover};
 ghost use Rattle.sctp_tx_queue.specs.Readiness.{readiness};
-ghost use Rattle.sctp_tx_queue.specs.Restarted.{reset, restarted_one, each_restarted, is_kept, is_in_line, SomeRestarted, NumbersGoOn};
+ghost use Rattle.sctp_tx_queue.specs.Restarted.{reset, restarted_one, each_restarted, is_kept, are_kept, is_in_line, SomeRestarted, NumbersGoOn};
 ghost use Rattle.sctp_tx_queue.specs.Emptied.{empty, emptied_one, each_emptied};
 ghost use Rattle.sctp_tx_queue.specs.Views.{produced_of, queued_of};
 
@@ -405,10 +405,6 @@ impl SendQueue {
     pub fn enable_message_interleaving(&mut self, is_interleaved: bool)
         ensures { self.new ≡ set_mode is_interleaved self.old }
     {
-        if is_interleaved == self.scheduler.is_interleaved() {
-            return;
-        }
-        self.is_restarted = false;
         self.scheduler.enable_message_interleaving(is_interleaved);
     }
 
@@ -540,7 +536,7 @@ impl SendQueue {
     /// Restarts all of these streams. The answer is whether nothing was to be done.
     fn restart_all(&mut self, ids: &[StreamId]) -> Result<bool, AllocError>
         ensures ok { OnOk result (self.new ≡ each_restarted (map (λ id. id.0) ids.now) self.old) }
-        ensures kept { IfOk result (λ is_kept. is_kept ≡ true → (self.new ≡ self.old) × (self.old.begun ≡ None)) }
+        ensures kept { IfOk result (λ is_kept. is_kept ≡ true → (self.new ≡ self.old) × (are_kept (map (λ id. id.0) ids.now) self.old ≡ true) × (self.old.begun ≡ None)) }
         ensures err { OnErr result ((count : ℕ) × (self.new ≡ each_restarted (take count (map (λ id. id.0) ids.now)) self.old)) }
     {
         let mut is_kept = self.begun.is_none();
@@ -552,13 +548,13 @@ impl SendQueue {
 
     /// Restarts a stream, where that changes anything. The answer is whether nothing was to be done, of those before it
     /// neither.
-    fn restart_in_turn(&mut self, id: StreamId, is_kept: bool) -> Result<bool, AllocError>
+    fn restart_in_turn(&mut self, id: StreamId, so_far: bool) -> Result<bool, AllocError>
         ensures ok { OnOk result (self.new ≡ restarted_one id.0 self.old) }
-        ensures kept { IfOk result (λ is_all_kept. is_all_kept ≡ true → (is_kept ≡ true) × (self.new ≡ self.old)) }
+        ensures kept { IfOk result (λ is_all_kept. is_all_kept ≡ true → (so_far ≡ true) × (self.new ≡ self.old) × (is_kept id.0 self.old ≡ true)) }
         ensures err { OnErr result (self.new ≡ self.old) }
     {
         if self.is_kept(id) {
-            return Ok(is_kept);
+            return Ok(so_far);
         }
         self.restart_one(id)?;
         Ok(false)

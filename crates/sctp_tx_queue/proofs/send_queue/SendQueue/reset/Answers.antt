@@ -1,7 +1,8 @@
-use Rattle.std.proofs.Common.{◌≡◌, ℕ, List, [], map, take, sym, subst}
+use Rattle.std.proofs.Common.{◌≡◌, ℕ, List, [], map, take, ap, sym, subst, ◌∙◌}
+use Rattle.std.specs.Prelude.{option_map}
 use Rattle.sctp_tx_queue.specs.SendQueue.{Queue}
-use Rattle.sctp_tx_queue.specs.Restarted.{each_restarted, NumbersGoOn}
-use Rattle.sctp_tx_queue.proofs.RestartLemmas.{restarted_numbers}
+use Rattle.sctp_tx_queue.specs.Restarted.{reset, each_restarted, NumbersGoOn}
+use Rattle.sctp_tx_queue.proofs.RestartLemmas.{restarted_numbers, reset_same}
 use Rattle.sctp_tx_queue.proofs.send_queue.SendQueue.reset.Goals as goal
 
 pub returns-clause-numbers : goal.returns-clause-numbers
@@ -21,3 +22,8 @@ returns-in_err-is_kept-clause-numbers c =
 
 pub returns-in_err-ids-clause-numbers : goal.returns-in_err-ids-clause-numbers
 returns-in_err-ids-clause-numbers c = restarted_numbers [] c.args.self.now
+
+pub returns-then-self-clause-ok : goal.returns-then-self-clause-ok
+returns-then-self-clause-ok c =
+    let q : Queue = record { streams = c.self.inside.streams; scheduler = c.self.inside.scheduler; next_number = c.self.inside.next_message_id.0; begun = option_map (λ i. i.0) c.self.inside.begun } in
+    sym c.self.view_is ∙ reset_same c.self.inside.is_restarted q c.if-self.true c.self.invariant ∙ ap reset c.self.view_is
