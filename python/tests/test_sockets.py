@@ -361,8 +361,8 @@ def test_an_abort_closes_the_channels(channels):
     assert chat.is_closed and list(a) == list(b) == []
 
 
-@pytest.mark.parametrize("begin", [lambda end: end.open("new"), lambda end: end.negotiate(0, "new")])
-def test_a_number_is_another_channels_before_the_end_of_its_former_one_is_taken(channels, begin):
+@pytest.mark.parametrize("number, begin", [(2, lambda end: end.open("new")), (0, lambda end: end.negotiate(0, "new"))])
+def test_a_number_is_no_other_channels_before_the_end_of_its_former_one_is_taken(channels, number, begin):
     a, b = channels.ends
     old = a.open("old")
     channels.settle()
@@ -370,7 +370,7 @@ def test_a_number_is_another_channels_before_the_end_of_its_former_one_is_taken(
     for packet in [it.data for it in b.events() if isinstance(it, events.Packet)]:
         a.handle_input(packet)
     new = begin(a)
-    assert (old.id, old.label, old.is_closed) == (0, "old", True) and (new.id, new.label, new.is_closed) == (0, "new", False)
+    assert (old.id, old.label, old.is_closed) == (0, "old", True) and (new.id, new.label, new.is_closed) == (number, "new", False)
     told = list(a.events())
     assert told.count(events.ChannelClosed(old)) == 1 and any(isinstance(it, events.Aborted) for it in told)
     new.buffered_amount_low_threshold = 100
