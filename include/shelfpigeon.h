@@ -43,7 +43,8 @@ extern "C" {
 #define PIGEON_VERSION "0.1.0"
 #define PIGEON_VERSION_NUMBER 100
 
-/* The number of the library's version. Below 1.0 one library serves headers that have its second number. */
+/* The number of the library's version. Below 1.0 it serves headers that have its second number and aren't later than it: a header's third number
+ * rises with each field, flag or event that it appends. */
 uint32_t pigeon_version(void);
 
 /* A socket, or none where the pointer is zero. */
@@ -525,7 +526,7 @@ static inline uint32_t pigeon_borrow_event(pigeon_socket *socket, pigeon_event *
  * it is told as of the old channels, then all of these are closed, also one that it opened. What the old ones had queued goes out all the same.
  *
  * Each of these calls answers PIGEON_NO_CHANNELS where there are none, and PIGEON_INVALID_STREAM for a number above 65,535. PIGEON_MEMORY: channels
- * and socket have failed, and the socket is to be freed.
+ * have failed, or the socket and they, and the socket is to be freed; later calls need not say so.
  */
 
 /* Who opens which: the client of DTLS (a=setup:active) even streams, the server (a=setup:passive) odd ones. */
@@ -540,9 +541,10 @@ typedef struct pigeon_channels_options {
     uint32_t max_buffered_amount;   /* a message by which more than this would wait on its channel isn't taken */
     uint32_t max_kept_bytes;        /* of labels, protocols and unfinished messages that all channels keep: an opening by the peer beyond it
                                        is refused, and a part of a message beyond it drops that; what this end opens counts and is taken */
+    uint32_t reserved;              /* 0: the place of a later field */
 } pigeon_channels_options;
 
-#define PIGEON_CHANNELS_OPTIONS {sizeof(pigeon_channels_options), PIGEON_ROLE_CLIENT, 262144, 65536, 16777216, 16777216}
+#define PIGEON_CHANNELS_OPTIONS {sizeof(pigeon_channels_options), PIGEON_ROLE_CLIENT, 262144, 65536, 16777216, 16777216, 0}
 
 /* Switches channels on: after pigeon_new, before the socket connects and before a packet comes. The socket's own max_message_size bounds what is
  * sent beside peer_max_message_size. PIGEON_INVALID_SIZE, PIGEON_INVALID_ARGUMENT (a role that there isn't), PIGEON_HAS_CHANNELS: nothing changes. */
@@ -567,7 +569,8 @@ typedef struct pigeon_channel_options {
 
 /* Opens a channel, and hands out its number. Messages may be sent at once; PIGEON_CHANNEL_OPENED tells when the peer has it. Label and protocol are
  * UTF-8, without a zero byte at their end. Advance the time first. PIGEON_INVALID_SIZE, PIGEON_INVALID_ARGUMENT (flags or a priority that there
- * aren't), PIGEON_NOT_UTF8, PIGEON_TEXT_TOO_LONG, PIGEON_NO_FREE_STREAM, PIGEON_NOT_TAKEN, PIGEON_NO_ROOM: nothing changes. */
+ * aren't), PIGEON_NOT_UTF8, PIGEON_TEXT_TOO_LONG, PIGEON_NO_FREE_STREAM, PIGEON_NOT_TAKEN (by which PIGEON_ON_ERROR is emitted), PIGEON_NO_ROOM:
+ * nothing else changes. */
 uint32_t pigeon_channel_open_sized(pigeon_socket *socket, const void *options, size_t size, const uint8_t *label, size_t label_length,
                                    const uint8_t *protocol, size_t protocol_length, uint32_t *channel);
 static inline uint32_t pigeon_channel_open(pigeon_socket *socket, const pigeon_channel_options *options, const char *label, const char *protocol,

@@ -1,5 +1,5 @@
 # SPDX-License-Identifier: Apache-2.0
-"""Puts the library into the wheel: the one that SHELFPIGEON_LIBRARY names, or build/libshelfpigeon.so.0 of the repository."""
+"""Puts the library into the wheel: the one that SHELFPIGEON_LIBRARY names, or build/libshelfpigeon.so.0.1 of the repository."""
 import os
 import shutil
 from pathlib import Path
@@ -13,7 +13,7 @@ try:
 except ImportError:  # before setuptools 70.1
     from wheel.bdist_wheel import bdist_wheel
 
-NAME = "libshelfpigeon.so.0"
+NAME = "libshelfpigeon.so.0.1"
 
 
 class BuildWithLibrary(build_py):

@@ -15,8 +15,8 @@ import logging
 import socket
 import time
 from collections import deque
-from collections.abc import AsyncIterator, Callable
-from contextlib import suppress
+from collections.abc import AsyncIterator, Callable, Iterator
+from contextlib import contextmanager, suppress
 from typing import Optional, Protocol, Union
 
 from . import events
@@ -45,8 +45,9 @@ def sent_at_most(options: OptionsStruct, peer_max_message_size: int) -> int:
 
 
 def size_of(message: Union[str, bytes]) -> int:
-    """What a message that came counts: an empty one takes memory too."""
-    return len(message) + 64
+    """What a message that came counts: an empty one takes memory too, and text up to four bytes a character."""
+    is_bytewise = isinstance(message, bytes) or message.isascii()
+    return len(message) * (1 if is_bytewise else 4) + 64
 
 
 class Driver:
@@ -71,8 +72,19 @@ class Driver:
         self._planned = self._turning = self._stopped = False
 
     def advance(self) -> None:
-        """Advances the time: before each call that sends, opens or closes. Behind it comes `soon`."""
+        """Advances the time."""
         self.channels.advance_time(time.monotonic_ns() - self._start)
+
+    @contextmanager
+    def calls(self) -> Iterator[Channels]:
+        """Around calls that send, open or close: the time comes first, and behind them a turn comes soon. Where one fails for want of memory all ends."""
+        try:
+            self.advance()
+            yield self.channels
+        except SocketFailed:
+            self._fail()
+            raise
+        self.soon()
 
     def receive(self, packet: bytes) -> None:
         """Takes a packet, and what it brings."""
@@ -213,12 +225,11 @@ class Channel:
             self._connection._held_back.add(self)
             await self._room.wait()
             self._alive()
-        self._connection._driver.advance()
         try:
-            self._channel.send(message)
+            with self._connection._driver.calls():
+                self._channel.send(message)
         except NoChannel:
             raise self._gone() from None
-        self._connection._driver.soon()
 
     async def receive(self) -> Union[str, bytes]:
         """The next message. ChannelClosed: none comes any more."""
@@ -242,10 +253,8 @@ class Channel:
         """Closes the channel, behind what was sent. What came and wasn't received is dropped, and so is what still comes. To be called also where the
         peer has closed it, unless all that came is received: what isn't counts against `read_limit` as long as the channel is kept."""
         if not self._closed.is_set():
-            self._connection._driver.advance()
-            with suppress(NoChannel):  # the association has ended, which is still to be told
+            with self._connection._driver.calls(), suppress(NoChannel):  # the association has ended, which is still to be told
                 self._channel.close()
-            self._connection._driver.soon()
         self._left = True
         self._connection._read(self._let_go())
 
@@ -274,7 +283,7 @@ class Connection:
     """An association with data channels over a wire. `packet_received` takes what comes by it.
 
     Each channel buffers `high_water` bytes, then `Channel.send` waits. With `read_limit` bytes that came and weren't received, where each message
-    counts 64 more, the wire is told to pause: what it then drops the peer sends again, and slower. So the channels that the peer opens are to be
+    counts 64 more, and of text that isn't ASCII each character four, the wire is told to pause: what it then drops the peer sends again, and slower. So the channels that the peer opens are to be
     accepted, and those that aren't read any more closed. While 1,024 wait to be accepted the next ones are closed.
 
     Without `options` the window is twice `max_message_size`, which is what the peer may send, and as long a message may be sent, 262,144 bytes at
@@ -318,9 +327,8 @@ class Connection:
     async def connect(self) -> None:
         """Opens the association; both ends may. ConnectionError: it could not be."""
         if self.socket.state == State.CLOSED:
-            self._driver.advance()
-            self.socket.connect()
-            self._driver.soon()
+            with self._driver.calls() as channels:
+                channels.connect()
         await self.connected()
 
     async def connected(self) -> None:
@@ -336,15 +344,14 @@ class Connection:
     def open(self, label: str, protocol: str = "", **kind) -> Channel:
         """Opens a channel; `kind` is as of `Channels.open`. Messages may be sent at once."""
         self._alive()
-        self._driver.advance()
-        channel = self._channel_of(self.socket.open(label, protocol, **kind))
-        self._driver.soon()
-        return channel
+        with self._driver.calls() as channels:
+            return self._channel_of(channels.open(label, protocol, **kind))
 
     def negotiate(self, id: int, label: str = "", protocol: str = "", **kind) -> Channel:
         """A channel that both ends have agreed on."""
         self._alive()
-        channel = self._channel_of(self.socket.negotiate(id, label, protocol, **kind))
+        with self._driver.calls() as channels:
+            channel = self._channel_of(channels.negotiate(id, label, protocol, **kind))
         channel._opened.set()
         return channel
 
@@ -377,8 +384,8 @@ class Connection:
     def abort(self) -> None:
         """Ends the association at once."""
         if not self._closed.is_set():
-            self._driver.advance()
-            self.socket.close()
+            with self._driver.calls() as channels:
+                channels.close()
             self._driver.turn()
             self._end()
 

@@ -10,7 +10,7 @@ from pathlib import Path
 
 from .names import RAISED, Answer, InvalidArgument, PigeonError, Text
 
-NAME = "libshelfpigeon.so.0"
+NAME = "libshelfpigeon.so.0.1"
 VERSION = (0, 1)
 SEED_SIZE = 32
 UNLIMITED = 2**32 - 1
@@ -178,6 +178,7 @@ class ChannelsOptionsStruct(Sized):
         ("peer_max_message_size", c_uint32),
         ("max_buffered_amount", c_uint32),
         ("max_kept_bytes", c_uint32),
+        ("reserved", c_uint32),
     ]
 
 

@@ -110,8 +110,8 @@ class SctpTransport(RTCSctpTransport):
     async def stop(self) -> None:
         """Ends the association by an ABORT, at which browsers close their channels."""
         if self._driver and self._state_name != "closed":
-            self._driver.advance()
-            self._driver.channels.close()
+            with self._driver.calls() as channels:
+                channels.close()
             self._driver.turn()
             await self._flush()
         self._ended()
@@ -119,8 +119,8 @@ class SctpTransport(RTCSctpTransport):
     async def shutdown(self) -> None:
         """Ends the association once nothing is in flight. Browsers leave their channels open then."""
         if self._driver and self._state_name == "connected":
-            self._driver.advance()
-            self._driver.channels.shutdown()
+            with self._driver.calls() as channels:
+                channels.shutdown()
             self._driver.turn()
             await self._flush()
 
@@ -241,9 +241,8 @@ class SctpTransport(RTCSctpTransport):
         if self._driver is None:
             self._waiting.append(mine)
             return
-        self._driver.advance()
-        self._begin(mine)
-        self._driver.soon()
+        with self._driver.calls():
+            self._begin(mine)
 
     def _data_channel_add_negotiated(self, mine: RTCDataChannel) -> None:
         self._data_channel_open(mine)
@@ -252,10 +251,9 @@ class SctpTransport(RTCSctpTransport):
         channel = self._plain.get(mine)
         if channel is None:
             raise InvalidStateError
-        driver = self._driven()
-        driver.advance()
         try:
-            channel.send(data)
+            with self._driven().calls():
+                channel.send(data)
         except NoChannel:
             raise InvalidStateError from None
         except MessageTooLarge as fault:
@@ -264,7 +262,6 @@ class SctpTransport(RTCSctpTransport):
             raise OperationError(str(fault)) from None
         mine._addBufferedAmount(len(data) if isinstance(data, bytes) else len(data.encode()))
         self._buffering.add(mine)
-        driver.soon()
 
     def _data_channel_close(self, mine: RTCDataChannel, transmit: bool = True) -> None:
         if mine.readyState in ("closing", "closed"):
@@ -275,10 +272,8 @@ class SctpTransport(RTCSctpTransport):
             mine._setReadyState("closed")
             return
         mine._setReadyState("closing")
-        self._driven().advance()
-        with suppress(NoChannel):  # the association has ended, which is still to be told
+        with self._driven().calls(), suppress(NoChannel):  # the association has ended, which is still to be told
             channel.close()
-        self._driven().soon()
 
 
 def kind_of(mine: RTCDataChannel) -> dict:

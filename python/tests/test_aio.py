@@ -5,7 +5,8 @@ import random
 
 import pytest
 
-from shelfpigeon import Options, Role, State, aio, events
+from shelfpigeon import Options, Role, SocketFailed, State, aio, events
+from shelfpigeon.names import Answer
 
 
 class Memory:
@@ -351,3 +352,24 @@ async def test_a_turn_goes_on_where_the_owner_fails():
     driver.turn()
     assert told == ["packet", "packet", "turned"] and channels.left == 0 and driver._timer is not None
     driver.stop()
+
+
+@run
+async def test_where_a_call_finds_too_little_memory_all_ends():
+    a, b = await pair()
+    channel = a.open("chat")
+
+    def fails():
+        raise SocketFailed(Answer.MEMORY, "too little memory")
+
+    a._driver.advance = fails
+    with pytest.raises(SocketFailed):
+        await channel.send("hello")
+    await a.wait_closed()
+    with pytest.raises(ConnectionError):
+        a.open("again")
+    await b.close(timeout=0)
+
+
+def test_what_a_message_counts():
+    assert [aio.size_of(it) for it in (b"", "abc", b"abc", "é\U0001f426")] == [64, 67, 67, 72]
