@@ -146,7 +146,7 @@ fn leave<C: Checksum>(state: &mut State, context: &mut Context<C>) -> Result<(),
     Ok(())
 }
 
-/// The record is written, and the association has left here; its heartbeat timers run on.
+/// The record is written, and an association that stood has left here; its heartbeat timers run on.
 #[tactic(auto, using(sctp_endpoint::proofs::GoesOnLemmas::goes_on_same, sctp_endpoint::proofs::GoesOnLemmas::goes_on_through))]
 pub fn hand_over<C: Checksum>(
     state: &mut State,

@@ -4,6 +4,7 @@ ghost use Rattle.std.specs.Prelude.{◌≡◌, ℕ, List, [], ◌∷◌, ◌++�
 ghost use Rattle.sctp_state.specs.Events.{Event, event_of, first_of};
 
 use crate::api::{GivenUp, SocketEvent};
+use crate::queue::take_first;
 use std::alloc::{AllocError, Global};
 use std::collections::VecDeque;
 use std::marker::Model;
@@ -31,7 +32,7 @@ pub struct EventMark {
     pub given_up: usize,
 }
 
-/// A list of events and a list of records, each first in, first out.
+/// A list of events and a list of records, each first in, first out. One that was long and is empty keeps little room.
 #[derive(Drop)]
 pub struct Events {
     events: VecDeque<SocketEvent>,
@@ -74,7 +75,7 @@ impl Events {
         ensures first { option_map event_of result ≡ first_of self.old.events }
         ensures rest { self.new ≡ record self.old { events = drop 1 self.old.events } }
     {
-        self.events.pop_front()
+        take_first(&mut self.events)
     }
 
     /// Adds the record of a message given up. Without memory for it nothing changes.
@@ -91,7 +92,7 @@ impl Events {
         ensures first { option_map given_up_of result ≡ first_of self.old.given_up }
         ensures rest { self.new ≡ record self.old { given_up = drop 1 self.old.given_up } }
     {
-        self.given_up.pop_front()
+        take_first(&mut self.given_up)
     }
 
     /// How much waits now.

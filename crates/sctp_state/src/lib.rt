@@ -3,6 +3,7 @@
 
 pub mod api;
 pub mod events;
+pub mod queue;
 pub mod retransmission_timeout;
 pub mod threshold_watcher;
 pub mod timer;
@@ -14,6 +15,7 @@ pub use api::{
     SctpImplementation, SendError, SendOptions, SocketEvent, SocketHandoverState, SocketState,
 };
 pub use events::{EventMark, EventSink, Events};
+pub use queue::take_first;
 pub use retransmission_timeout::RetransmissionTimeout;
 pub use threshold_watcher::ThresholdWatcher;
 pub use timer::{BackoffAlgorithm, MAX_DURATION, MAX_RESTARTS, Timer};

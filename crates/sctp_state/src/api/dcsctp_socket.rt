@@ -10,7 +10,8 @@ use sctp_serial::{Message, SocketTime, StreamId};
 
 /// An end of an SCTP association, which makes no system call. Packets, moments and messages are handed in; events, among
 /// them packets to send, are taken out. A changing call that finds too little memory answers `Memory`, and the socket has
-/// failed: from then on changing calls answer `Failed` and change nothing, and what was emitted before can still be taken.
+/// failed: from then on changing calls but `set_max_message_size` answer `Failed` and change nothing, and what was emitted before can
+/// still be taken.
 ///
 /// All calls go by the moment to which the time was advanced last, so a turn begins with `advance_time`, and ends with
 /// `poll_timeout`.

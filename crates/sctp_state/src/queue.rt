@@ -1,0 +1,22 @@
+//! Queues that give their room back.
+
+ghost use Rattle.std.specs.Prelude.{◌≡◌, ◌++◌, [], drop, IfNone, option_to_list, slice_get};
+
+use std::collections::VecDeque;
+
+/// A queue that became empty keeps at most so many places.
+const MOST_SPARE_PLACES: usize = 1_024;
+
+/// Takes the first of a queue. Where none is left the room of more than 1,024 is given back.
+pub fn take_first<T>(queue: &mut VecDeque<T>) -> Option<T>
+    ensures first { result ≡ slice_get queue.old.items 0 }
+    ensures rest { queue.new.items ≡ drop 1 queue.old.items }
+    ensures taken { queue.old.items ≡ option_to_list result ++ queue.new.items }
+    ensures none { IfNone result (queue.old.items ≡ []) }
+{
+    let first = queue.pop_front();
+    if queue.is_empty() && queue.capacity() > MOST_SPARE_PLACES {
+        queue.shrink_to_fit();
+    }
+    first
+}
