@@ -68,6 +68,34 @@ fn widen<K: Copy>(entries: &mut Entries<K>, room: VecDeque<Entry<K>>)
     }
 }
 
+/// Gives room back where there is clearly more than twice what is taken, and leaves a sixteenth more than is. So an entry that is
+/// taken out or added moves some sixteen others at most, over all of them. Without memory the room stays.
+fn give_room_back<K: Copy>(entries: &mut VecDeque<Entry<K>>)
+    ensures { entries.new.items ≡ entries.old.items }
+{
+    let wanted = entries.len() + entries.len() / 16;
+    if wanted < entries.capacity() / 2 {
+        entries.shrink_to(wanted);
+    }
+}
+
+/// Takes no more room than what is left needs.
+fn narrow<K: Copy>(entries: &mut Entries<K>)
+    ensures { items_of entries.new ≡ items_of entries.old }
+{
+    let Entries::Many(many) = entries else {
+        return;
+    };
+    if many.len() != 1 {
+        give_room_back(many);
+        return;
+    }
+    let alloc = *many.allocator();
+    if let Some(entry) = many.pop_front() {
+        drop(std::mem::replace(entries, Entries::One(alloc, entry)));
+    }
+}
+
 impl<K: Copy> Entries<K> {
     /// One entry.
     pub fn one(alloc: Global, entry: Entry<K>) -> Result<Box<Entries<K>>, AllocError>
@@ -136,16 +164,18 @@ impl<K: Copy> Entries<K> {
         Ok(())
     }
 
-    /// Takes out the first entry, unless it is the only one.
+    /// Takes out the first entry, unless it is the only one. Room that is no more needed is given back.
     pub fn pop_front(&mut self) -> Option<Entry<K>>
         requires { 1 < length (items_of self.old) }
         ensures items { items_of self.old ≡ option_to_list result ++ items_of self.new }
         ensures some { IsSome result }
     {
-        match self {
-            Entries::One(_, _) => None,
-            Entries::Many(entries) => entries.pop_front(),
-        }
+        let Entries::Many(entries) = self else {
+            return None;
+        };
+        let first = entries.pop_front();
+        narrow(self);
+        first
     }
 
     /// The first entry, of those that are no more needed.
