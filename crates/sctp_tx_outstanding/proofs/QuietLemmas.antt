@@ -6,7 +6,7 @@ use Rattle.std.specs.Prelude.{Option, Some, None, unwrap_or, option_map, slice_g
 use Rattle.sctp_state.specs.Events.{Emitted}
 use Rattle.sctp_state.specs.declared.api.GivenUpCause.TheVariants.{Retransmissions}
 use Rattle.sctp_tx_outstanding.specs.Item.{Item, is_in_flight, nack, is_lost, is_used_up}
-use Rattle.sctp_tx_outstanding.specs.OutstandingData.{Items, Outstanding, change_at}
+use Rattle.sctp_tx_outstanding.specs.OutstandingData.{Items, Outstanding, change_at, when}
 use Rattle.sctp_tx_outstanding.specs.Losses.{Step, first_step, abandon_with_record, is_to_be_abandoned, loses, change_items, nack_item, nack_at, nack_below}
 use Rattle.sctp_tx_outstanding.specs.declared.totals.Totals.{Totals}
 use Rattle.sctp_tx_outstanding.specs.declared.kept.Change.{Change}
@@ -164,12 +164,15 @@ still_changed f zero (i ∷ is) = record { below = λ k less h. absurd (omega (a
     over (suc k) more h = h
 still_changed f (suc p) (i ∷ is) = still_behind i p is (change_at p f is) (still_changed f p is)
 
-pub landed : (m : Bool) (x : Change) (p : ℕ) (is : List Item) (old new : Totals) → Exchanges m p x is old new → new.flights ≡ 0 → (k : ℕ) → flies_at k is ≡ false → flies_at k (change_at p (apply_change x) is) ≡ false
-landed m x p [] old new e none k h = h
-landed m x zero (i ∷ is) old new e none zero h = false_from_none (is_in_flight (apply_change x i).state) (omega (arith, none, ap (λ (t : Totals). t.flights) e.1))
-landed m x zero (i ∷ is) old new e none (suc k) h = h
-landed m x (suc p) (i ∷ is) old new e none zero h = h
-landed m x (suc p) (i ∷ is) old new e none (suc k) h = landed m x p is old new e none k h
+-- one that does not become outstanding
+pub landed : (m : Bool) (x : Change) (p : ℕ) (is : List Item) (old new : Totals) → Exchanges m p x is old new → new.flights ≤ old.flights → (k : ℕ) → flies_at k is ≡ false → flies_at k (change_at p (apply_change x) is) ≡ false
+landed m x p [] old new e less k h = h
+landed m x zero (i ∷ is) old new e less zero h =
+    let none : when (is_in_flight i.state) 1 ≡ 0 = ap (λ b. when b 1) h in
+    false_from_none (is_in_flight (apply_change x i).state) (omega (arith, less, none, ap (λ (t : Totals). t.flights) e.0, ap (λ (t : Totals). t.flights) e.1))
+landed m x zero (i ∷ is) old new e less (suc k) h = h
+landed m x (suc p) (i ∷ is) old new e less zero h = h
+landed m x (suc p) (i ∷ is) old new e less (suc k) h = landed m x p is old new e less k h
 
 pub still_pushed : (is : List Item) (i : Item) (p : ℕ) → length is ≡ p → StillBut p is (is ++ i ∷ [])
 still_pushed is i p e = record { below = λ k less h. under is k (omega (arith, e, less)) h; above = λ k more h. over is k (omega (arith, e, more)) }

@@ -49,6 +49,12 @@ rests_covered i a b = λ j. record i { state = a j; reports = b j }
 rests_uncovered : (i : Item) → uncovered i.state ≡ i.state → Rests false i
 rests_uncovered i a = λ j. record i { state = a j }
 
+pub acked_rests : (i : Item) → i.state ≡ Acked → i.reports ≡ 0 → ack i ≡ i
+acked_rests i s r = rests_covered i (ap (λ z. acked z) s ∙ sym s) (ap (λ z. cond (is_given_up z) i.reports 0) s ∙ sym r)
+
+pub given_up_rests : (i : Item) → i.state ≡ GivenUp → ack i ≡ i
+given_up_rests i s = rests_covered i (ap (λ z. acked z) s ∙ sym s) (ap (λ z. cond (is_given_up z) i.reports 0) s)
+
 pub still : (s : ItemState) → acked s ≡ s → is_in_flight s ≡ false
 still InFlight h = absurd (cc)
 still Missing h = absurd (cc)
@@ -136,6 +142,9 @@ open_rests Queued h = refl
 open_rests QueuedFast h = refl
 open_rests Acked h = absurd (cc)
 open_rests GivenUp h = refl
+
+pub uncover_rests : (i : Item) → is_acked i ≡ false → uncover i ≡ i
+uncover_rests i h = rests_uncovered i (open_rests i.state h)
 
 closed_in : (s : ItemState) → acked s ≡ s → (is_in_flight s || waits s) ≡ false
 closed_in InFlight h = absurd (cc)

@@ -5,10 +5,10 @@ use Rattle.std.proofs.lemmas.List.Sums.{sum_by-cons, sum_by_push}
 use Rattle.std.proofs.lemmas.List.Elements.{All-head, All-tail, All-cons, All-nil, All-append}
 use Rattle.sctp_tx_outstanding.specs.declared.totals.Totals.{Totals}
 use Rattle.sctp_tx_outstanding.specs.declared.kept.Change.{Change}
-use Rattle.sctp_tx_outstanding.specs.Item.{Item, chunk_size, header_size, is_outstanding, should_be_retransmitted, is_fast, NotBefore, never}
+use Rattle.sctp_tx_outstanding.specs.Item.{Item, chunk_size, size_of, header_size, is_outstanding, should_be_retransmitted, is_fast, NotBefore, never}
 use Rattle.sctp_tx_outstanding.specs.Change.{apply_change}
 use Rattle.sctp_tx_outstanding.specs.OutstandingData.{change_at, when, packet_part, payload_part, flight_part, queued_part, fast_part}
-use Rattle.sctp_tx_outstanding.specs.Totals.{parts, nothing, replace_part, IsSmall, AreTotals, Exchanges}
+use Rattle.sctp_tx_outstanding.specs.Totals.{parts, nothing, replace_part, HasPart, IsSmall, AreTotals, Exchanges}
 use Rattle.sctp_tx_outstanding.proofs.EarliestLemmas.{all_sooner, earliest_changed, earliest_pushed}
 use Rattle.sctp_tx_outstanding.proofs.WaitingLemmas.{same_fragment}
 
@@ -29,16 +29,16 @@ length_change k f [] = refl
 length_change zero f (i ∷ is) = refl
 length_change (suc k) f (i ∷ is) = ap (λ n. suc n) (length_change k f is)
 
-pub exchanges_beyond : (m : Bool) (k : ℕ) (x : Change) (is : List Item) (old new : Totals) → length is ≤ k → old ≡ nothing → new ≡ nothing → Exchanges m k x is old new
-exchanges_beyond m k x [] old new h a b = (a, b)
-exchanges_beyond m zero x (i ∷ is) old new h a b = absurd (omega (arith, h))
-exchanges_beyond m (suc k) x (i ∷ is) old new h a b = exchanges_beyond m k x is old new (omega (arith, h)) a b
-
 pub exchanges_at : (m : Bool) (k : ℕ) (x : Change) (is : List Item) (i : Item) (old new : Totals) → k < length is → i ≡ slice_index_or is k i
     → old ≡ parts m i → new ≡ parts m (apply_change x i) → Exchanges m k x is old new
 exchanges_at m k x [] i old new h at a b = absurd (omega (arith, h))
 exchanges_at m zero x (y ∷ is) i old new h at a b = (a ∙ ap (λ j. parts m j) at, b ∙ ap (λ j. parts m (apply_change x j)) at)
 exchanges_at m (suc k) x (y ∷ is) i old new h at a b = exchanges_at m k x is i old new (omega (arith, h)) at a b
+
+pub change_same : (k : ℕ) (f : Item → Item) (is : List Item) (i : Item) → k < length is → i ≡ slice_index_or is k i → f i ≡ i → change_at k f is ≡ is
+change_same k f [] i h at same = refl
+change_same zero f (x ∷ is) i h at same = ap (λ y. y ∷ is) (subst (λ y. f y ≡ y) at same)
+change_same (suc k) f (x ∷ is) i h at same = ap (λ js. x ∷ js) (change_same k f is i (omega (arith, h)) at same)
 
 -- ---- sums
 
@@ -142,6 +142,42 @@ totals_changed m k x is old new t before few h =
     (moves m x queued_part (λ u. u.queued) (λ i. refl) refl k is old new h)
     (moves m x fast_part (λ u. u.fast) (λ i. refl) refl k is old new h)
     (earliest_changed m x t.earliest k is old new h before.earliest)
+
+-- the sums hold what one item adds
+same_when : (a b : Bool) (n : ℕ) → when a 1 ≡ when b 1 → when a n ≡ when b n
+same_when true true n h = refl
+same_when true false n h = absurd (omega (arith, h))
+same_when false true n h = absurd (omega (arith, h))
+same_when false false n h = refl
+
+same_bytes : (m : Bool) (k : ℕ) (x : Change) (is : List Item) (old new : Totals) → Exchanges m k x is old new → old.flights ≡ new.flights → (old.packet_bytes ≡ new.packet_bytes) × (old.payload_bytes ≡ new.payload_bytes)
+same_bytes m k x [] old new e h = (ap (λ (t : Totals). t.packet_bytes) (e.0 ∙ sym e.1), ap (λ (t : Totals). t.payload_bytes) (e.0 ∙ sym e.1))
+same_bytes m zero x (i ∷ is) old new e h =
+    let j = apply_change x i in
+    let flies : when (is_outstanding i) 1 ≡ when (is_outstanding j) 1 = sym (ap (λ (t : Totals). t.flights) e.0) ∙ (h ∙ ap (λ (t : Totals). t.flights) e.1) in (
+      ap (λ (t : Totals). t.packet_bytes) e.0 ∙ (same_when (is_outstanding i) (is_outstanding j) (chunk_size m i) flies
+          ∙ (sym (ap (λ f. when (is_outstanding j) (size_of m f)) (same_fragment x i)) ∙ sym (ap (λ (t : Totals). t.packet_bytes) e.1))),
+      ap (λ (t : Totals). t.payload_bytes) e.0 ∙ (same_when (is_outstanding i) (is_outstanding j) (length i.fragment.payload) flies
+          ∙ (sym (ap (λ f. when (is_outstanding j) (length f.payload)) (same_fragment x i)) ∙ sym (ap (λ (t : Totals). t.payload_bytes) e.1))),
+    )
+same_bytes m (suc k) x (i ∷ is) old new e h = same_bytes m k x is old new e h
+
+pub has_part : (m : Bool) (k : ℕ) (x : Change) (is : List Item) (old new t : Totals) → AreTotals m is t → Exchanges m k x is old new → HasPart old new t
+has_part m k x is old new t before h =
+    let a = moves m x (packet_part m) (λ u. u.packet_bytes) (λ i. refl) refl k is old new h in
+    let b = moves m x payload_part (λ u. u.payload_bytes) (λ i. refl) refl k is old new h in
+    let c = moves m x flight_part (λ u. u.flights) (λ i. refl) refl k is old new h in
+    let d = moves m x queued_part (λ u. u.queued) (λ i. refl) refl k is old new h in
+    let e = moves m x fast_part (λ u. u.fast) (λ i. refl) refl k is old new h in
+    record {
+      packet = omega (arith, a.1, before.packet);
+      payload = omega (arith, b.1, before.payload);
+      flights = omega (arith, c.1, before.flights);
+      queued = omega (arith, d.1, before.queued);
+      fast = omega (arith, e.1, before.fast);
+      same_packet = λ same. (same_bytes m k x is old new h same).0;
+      same_payload = λ same. (same_bytes m k x is old new h same).1;
+    }
 
 pushed : (f : Item → ℕ) (is : List Item) (i : Item) → (sum_by f (is ++ i ∷ []) + 0 ≡ sum_by f is + f i) × (0 ≤ sum_by f is)
 pushed f is i = (omega (arith, sum_by_push f is i), omega arith)

@@ -1,5 +1,5 @@
 -- Running totals over the kept items.
-use Rattle.std.specs.Prelude.{◌≡◌, ℕ, zero, suc, ◌+◌, ◌-◌, ◌^◌, ◌<◌, min, Bool, List, [], ◌∷◌, length}
+use Rattle.std.specs.Prelude.{◌≡◌, ℕ, zero, suc, ◌+◌, ◌-◌, ◌^◌, ◌<◌, ◌≤◌, min, Bool, List, [], ◌∷◌, length}
 use Rattle.std.specs.List.{sum_by, All}
 use Rattle.sctp_tx_outstanding.specs.declared.totals.Totals.{Totals}
 use Rattle.sctp_tx_outstanding.specs.declared.kept.Change.{Change}
@@ -31,6 +31,16 @@ replace_part old new t = record {
   fast = min (t.fast - old.fast + new.fast) (2 ^ 64 - 1);
   earliest = min t.earliest new.earliest;
 }
+
+-- the totals hold a part, and another that counts as many in flight or missing has as many bytes
+pub record HasPart (old new t : Totals) : Type 0 where
+  pub packet : old.packet_bytes ≤ t.packet_bytes
+  pub payload : old.payload_bytes ≤ t.payload_bytes
+  pub flights : old.flights ≤ t.flights
+  pub queued : old.queued ≤ t.queued
+  pub fast : old.fast ≤ t.fast
+  pub same_packet : old.flights ≡ new.flights → old.packet_bytes ≡ new.packet_bytes
+  pub same_payload : old.flights ≡ new.flights → old.payload_bytes ≡ new.payload_bytes
 
 abbrev pub IsSmall : Item → Type 0
 IsSmall i = length i.fragment.payload < 2 ^ 32

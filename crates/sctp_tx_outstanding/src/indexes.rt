@@ -3,7 +3,8 @@
 ghost use Rattle.std.specs.Prelude.{◌≡◌, ◌-◌, ◌∷◌, [], Bool, List, length, take};
 ghost use Rattle.sctp_tx_outstanding.specs.Item.{Item};
 ghost use Rattle.sctp_tx_outstanding.specs.Change.{apply_change};
-ghost use Rattle.sctp_tx_outstanding.specs.OutstandingData.{change_at};
+ghost use Rattle.std.specs.List.{sum_by};
+ghost use Rattle.sctp_tx_outstanding.specs.OutstandingData.{change_at, queued_part};
 ghost use Rattle.sctp_tx_outstanding.specs.declared.totals.Totals.{Totals};
 ghost use Rattle.sctp_tx_outstanding.specs.declared.kept.Change.{Change};
 ghost use Rattle.sctp_tx_outstanding.specs.Totals.{Exchanges};
@@ -44,30 +45,35 @@ fn payload_at(items: &VecDeque<Item>, place: usize) -> usize
     }
 }
 
-/// The item at the place changed, by which one part of the totals came for another: it may wait now, or no longer.
+/// The item at the place changed, by which one part of the totals came for another, and so many wait now: it may be one of
+/// them, or no longer.
+#[inline(always)]
 fn follow_waiting(
     waiting: &mut Waiting,
     items: &VecDeque<Item>,
     place: usize,
     old: Totals,
     new: Totals,
+    queued: usize,
 )
     ensures { (m : Bool) (how : Change) (is : List Item) → items.now.items ≡ change_at place (apply_change how) is → Exchanges m place how is old new
-        → Lists waiting.old is → Lists waiting.new items.now.items }
+        → queued ≡ sum_by queued_part items.now.items → Lists waiting.old is → Lists waiting.new items.now.items }
 {
     if old.queued == new.queued {
         return;
     }
     let size = payload_at(items, place);
     waiting.follow(place, size, old.queued > 0, new.queued > 0);
+    waiting.count(queued);
 }
 
-/// The item at the place changed, and adds this to the totals now: it may be outstanding.
-fn follow_quiet(quiet: &mut Quiet, place: usize, new: Totals)
-    ensures { (m : Bool) (how : Change) (is : List Item) (old : Totals) → Exchanges m place how is old new
+/// The item at the place changed, by which one part of the totals came for another: it may be outstanding now.
+#[inline(always)]
+fn follow_quiet(quiet: &mut Quiet, place: usize, old: Totals, new: Totals)
+    ensures { (m : Bool) (how : Change) (is : List Item) → Exchanges m place how is old new
         → IsQuiet quiet.old is → IsQuiet quiet.new (change_at place (apply_change how) is) }
 {
-    if new.flights == 0 {
+    if new.flights <= old.flights {
         return;
     }
     quiet.stir(place);
@@ -128,6 +134,7 @@ impl Indexes {
     }
 
     /// The item at the place changed, by which one part of the totals came for another.
+    #[inline(always)]
     pub(crate) fn follow(
         &mut self,
         items: &VecDeque<Item>,
@@ -143,9 +150,15 @@ impl Indexes {
         let (old, new) = parts;
         self.totals = self.totals.exchanged(old, new);
         self.last_blocks.see(how);
-        follow_waiting(&mut self.waiting, items, place, old, new);
-        self.waiting.count(self.totals.queued);
+        follow_waiting(
+            &mut self.waiting,
+            items,
+            place,
+            old,
+            new,
+            self.totals.queued,
+        );
         self.expiries.renew(place, old.earliest, new.earliest);
-        follow_quiet(&mut self.quiet, place, new);
+        follow_quiet(&mut self.quiet, place, old, new);
     }
 }

@@ -95,7 +95,7 @@ impl Model for Item {
 }
 
 impl Item {
-    ghost use Rattle.std.specs.Prelude.{Option};
+    ghost use Rattle.std.specs.Prelude.{Option, true};
     ghost use Rattle.sctp_tx_outstanding.specs.Item.{is_outstanding, should_be_retransmitted, is_fast, is_nacked, is_acked, is_abandoned, has_been_retransmitted, has_expired, expiry, is_used_up, ack, uncover, is_lost, nack, mark_as_retransmitted, miss_fast, abandon, rtt_from};
 
     /// A fragment that is sent now for the first time.
@@ -286,6 +286,24 @@ impl Item {
             self.reports = 0;
         }
         self.state = self.state.acked();
+    }
+
+    /// Whether an acknowledgement leaves it as it is.
+    pub(crate) fn rests_covered(&self) -> bool
+        ensures { result ≡ true → ack self.now ≡ self.now }
+    {
+        match self.state {
+            ItemState::Acked => self.reports == 0,
+            ItemState::GivenUp => true,
+            _ => false,
+        }
+    }
+
+    /// Whether it stays as it is where no block covers it.
+    pub(crate) fn rests_uncovered(&self) -> bool
+        ensures { result ≡ true → uncover self.now ≡ self.now }
+    {
+        !self.is_acked()
     }
 
     /// No block of the last SACK covers it: what was acknowledged is in flight again.

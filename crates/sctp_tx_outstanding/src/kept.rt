@@ -1,6 +1,6 @@
 //! The kept items, with their indexes.
 
-ghost use Rattle.std.specs.Prelude.{◌≡◌, ◌==◌, ◌+◌, Some, map, min, option_map, slice_get, nat_lt, sum_by, ◌<◌, ◌≤◌, ◌∷◌, ◌++◌, [], length, drop, take, OnOk, OnErr, IfSome, IfNone};
+ghost use Rattle.std.specs.Prelude.{◌≡◌, ◌==◌, ◌+◌, true, Some, map, min, option_map, slice_get, nat_lt, sum_by, ◌<◌, ◌≤◌, ◌∷◌, ◌++◌, [], length, drop, take, OnOk, OnErr, IfSome, IfNone};
 ghost use Rattle.sctp_tx_outstanding.specs.Change.{apply_change};
 ghost use Rattle.std.specs.List.{All};
 ghost use Rattle.sctp_tx_outstanding.specs.Item.{NotBefore, earliest_of, never};
@@ -214,6 +214,7 @@ fn emit_first(items: &VecDeque<Item>, count: usize, events: &mut Events) -> Resu
     Ok(())
 }
 
+#[inline(always)]
 fn apply(item: &mut Item, change: Change)
     ensures { item.new ≡ apply_change change item.old }
 {
@@ -227,23 +228,40 @@ fn apply(item: &mut Item, change: Change)
     }
 }
 
-/// Changes the item at the place. The answer is what it added to the totals, and what it adds then.
+/// Whether it is known that the change leaves the item as it is.
+#[inline(always)]
+fn stays(item: &Item, change: Change) -> bool
+    ensures { result ≡ true → apply_change change item.now ≡ item.now }
+{
+    match change {
+        Change::Ack => item.rests_covered(),
+        Change::Uncover => item.rests_uncovered(),
+        _ => false,
+    }
+}
+
+/// Changes the item at the place. The answer is what it added to the totals, and what it adds then; none, if it stays as it is.
+#[inline(always)]
 fn change_item(
     items: &mut VecDeque<Item>,
     is_interleaved: bool,
     place: usize,
     change: Change,
-) -> (Totals, Totals)
+) -> Option<(Totals, Totals)>
     ensures items { items.new.items ≡ change_at place (apply_change change) items.old.items }
-    ensures parts { Exchanges is_interleaved place change items.old.items result.0 result.1 }
+    ensures parts { IfSome result (λ parts. Exchanges is_interleaved place change items.old.items parts.0 parts.1) }
+    ensures same { IfNone result (items.new.items ≡ items.old.items) }
 {
     let Some(item) = items.get_mut(place) else {
-        return (Totals::nothing(), Totals::nothing());
+        return None;
     };
+    if stays(item, change) {
+        return None;
+    }
     let old = Totals::of(item, is_interleaved);
     apply(item, change);
     let new = Totals::of(item, is_interleaved);
-    (old, new)
+    Some((old, new))
 }
 
 /// The kept items, with their indexes.
@@ -266,7 +284,7 @@ impl Model for Kept {
 }
 
 impl Kept {
-    ghost use Rattle.std.specs.Prelude.{false, true};
+    ghost use Rattle.std.specs.Prelude.{false};
     ghost use Rattle.std.specs.List.{All};
     ghost use Rattle.sctp_tx_outstanding.specs.Item.{chunk_size, should_be_retransmitted};
 
@@ -432,10 +450,13 @@ impl Kept {
     }
 
     /// Changes the item at the place, if there is one.
+    #[inline(always)]
     pub(crate) fn change(&mut self, place: usize, how: Change)
         ensures { self.new ≡ record self.old { items = change_at place (apply_change how) self.old.items } }
     {
-        let parts = change_item(&mut self.items, self.is_interleaved, place, how);
+        let Some(parts) = change_item(&mut self.items, self.is_interleaved, place, how) else {
+            return;
+        };
         self.indexes.follow(&self.items, place, how, parts);
     }
 

@@ -54,6 +54,7 @@ pub(crate) fn take_out(kept: &mut Kept, count: usize, spares: &mut SpareBuffers)
 }
 
 /// The first block from `from` on that doesn't end before the offset.
+#[inline(always)]
 pub(crate) fn skip_blocks(blocks: &[GapAckBlock], mut from: usize, offset: usize) -> usize
     requires { IsCursor blocks.now offset from }
     ensures cursor { IsCursor blocks.now offset result }
@@ -74,6 +75,7 @@ fn is_covered(blocks: &[GapAckBlock], offset: usize) -> bool
 
 /// Whether a block covers the offset, and the first block that may cover the next one. Only in runs is it searched from
 /// `from` on.
+#[inline(always)]
 fn look(blocks: &[GapAckBlock], is_in_runs: bool, from: usize, offset: usize) -> (usize, bool)
     requires { IsWalk is_in_runs blocks.now offset from }
     ensures cursor { IsWalk is_in_runs blocks.now offset result.0 }
@@ -154,6 +156,7 @@ pub struct Covered {
 }
 
 /// The bytes of the chunk at the place, where it was neither acknowledged nor given up.
+#[inline(always)]
 fn open_at(kept: &Kept, place: usize) -> Option<usize>
     ensures { result ≡ open_size kept.now.is_interleaved (slice_get kept.now.items place) }
 {
@@ -187,6 +190,7 @@ fn walk_through(blocks: &[GapAckBlock]) -> Walk
 }
 
 /// Settles the item at the place.
+#[inline(always)]
 fn settle_at(kept: &mut Kept, blocks: &[GapAckBlock], place: usize, walk: Walk) -> Walk
     requires small { place + 1 < 2 ^ 64 }
     requires within { place < length kept.old.items }

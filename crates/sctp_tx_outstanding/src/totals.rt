@@ -1,8 +1,8 @@
 //! Running totals over the kept items.
 
-ghost use Rattle.std.specs.Prelude.{◌≡◌, ◌^◌, ◌-◌, ◌+◌, min};
+ghost use Rattle.std.specs.Prelude.{◌≡◌, ◌^◌, ◌-◌, ◌+◌, ◌≤◌, false, min};
 ghost use Rattle.sctp_tx_outstanding.specs.OutstandingData.{when};
-ghost use Rattle.sctp_tx_outstanding.specs.Totals.{parts, replace_part, nothing};
+ghost use Rattle.sctp_tx_outstanding.specs.Totals.{parts, replace_part, nothing, HasPart};
 
 use crate::item::Item;
 
@@ -45,6 +45,7 @@ impl Totals {
     }
 
     /// What one item adds.
+    #[inline(always)]
     pub(crate) fn of(item: &Item, is_interleaved: bool) -> Totals
         ensures { result ≡ parts is_interleaved item.now }
     {
@@ -87,13 +88,20 @@ impl Totals {
         }
     }
 
-    /// The totals with one part in place of another.
+    /// The totals with one part in place of another. What doesn't change isn't counted anew.
+    #[inline(always)]
     pub(crate) fn exchanged(self, old: Totals, new: Totals) -> Totals
-        ensures { result ≡ replace_part old new self }
+        ensures { HasPart old new self → result ≡ replace_part old new self }
     {
+        let moves = old.flights != new.flights;
         Totals {
-            packet_bytes: bytes(self.packet_bytes, old.packet_bytes, new.packet_bytes),
-            payload_bytes: bytes(self.payload_bytes, old.payload_bytes, new.payload_bytes),
+            packet_bytes: bytes(self.packet_bytes, old.packet_bytes, new.packet_bytes, moves),
+            payload_bytes: bytes(
+                self.payload_bytes,
+                old.payload_bytes,
+                new.payload_bytes,
+                moves,
+            ),
             flights: count(self.flights, old.flights, new.flights),
             queued: count(self.queued, old.queued, new.queued),
             fast: count(self.fast, old.fast, new.fast),
@@ -102,14 +110,22 @@ impl Totals {
     }
 }
 
-fn bytes(total: u128, old: u128, new: u128) -> u128
-    ensures { result ≡ min (total - old + new) (2 ^ 128 - 1) }
+#[inline(always)]
+fn bytes(total: u128, old: u128, new: u128, moves: bool) -> u128
+    ensures { (moves ≡ false → old ≡ new) → old ≤ total → result ≡ min (total - old + new) (2 ^ 128 - 1) }
 {
+    if !moves {
+        return total;
+    }
     total.saturating_sub(old).saturating_add(new)
 }
 
+#[inline(always)]
 fn count(total: usize, old: usize, new: usize) -> usize
-    ensures { result ≡ min (total - old + new) (2 ^ 64 - 1) }
+    ensures { old ≤ total → result ≡ min (total - old + new) (2 ^ 64 - 1) }
 {
+    if old == new {
+        return total;
+    }
     total.saturating_sub(old).saturating_add(new)
 }

@@ -7,7 +7,7 @@ use Rattle.sctp_tx_outstanding.specs.Messages.{Finds}
 use Rattle.sctp_tx_outstanding.specs.Expiries.{Expects}
 use Rattle.sctp_tx_outstanding.specs.Quiet.{IsQuiet}
 use Rattle.sctp_tx_outstanding.specs.Totals.{replace_part, AreTotals}
-use Rattle.sctp_tx_outstanding.proofs.TotalsLemmas.{totals_changed, totals_as, length_change}
+use Rattle.sctp_tx_outstanding.proofs.TotalsLemmas.{totals_changed, totals_as, length_change, has_part}
 use Rattle.sctp_tx_outstanding.proofs.MessagesLemmas.{finds_changed}
 use Rattle.sctp_tx_outstanding.proofs.ExpiriesLemmas.{moves_changed}
 use Rattle.sctp_tx_outstanding.proofs.indexes.Indexes.follow.Goals as goal
@@ -22,12 +22,12 @@ returns c = λ m is changed parts before.
     let js = change_at k (apply_change how) is in
     let few : length is < 2 ^ 64 = omega (arith, ap (λ (xs : List Item). length xs) changed, length_change k (apply_change how) is) in
     let totals : AreTotals m all c.exchanged-self.result =
-    totals_as m js all (replace_part old new c.args.self.now.totals) c.exchanged-self.result (totals_changed m k how is old new c.args.self.now.totals before.totals few parts) changed c.exchanged-self.ensures in
+    totals_as m js all (replace_part old new c.args.self.now.totals) c.exchanged-self.result (totals_changed m k how is old new c.args.self.now.totals before.totals few parts) changed (c.exchanged-self.ensures (has_part m k how is old new c.args.self.now.totals before.totals parts)) in
     record {
       totals = totals;
       last_blocks = subst (λ (xs : List Item). Knows c.see.new.self xs) (sym changed) (c.see.ensures k is before.last_blocks);
-      waiting = c.count.ensures all totals.queued (c.follow_waiting.ensures m how is changed parts before.waiting);
+      waiting = c.follow_waiting.ensures m how is changed parts totals.queued before.waiting;
       messages = subst (λ (xs : List Item). Finds c.args.self.now.messages xs) (sym changed) (finds_changed c.args.self.now.messages how k is before.messages);
       expiries = subst (λ (xs : List Item). Expects c.renew.new.self xs) (sym changed) (c.renew.ensures is js (moves_changed m how k is old new parts) before.expiries);
-      quiet = subst (λ (xs : List Item). IsQuiet c.follow_quiet.new.quiet xs) (sym changed) (c.follow_quiet.ensures m how is old parts before.quiet);
+      quiet = subst (λ (xs : List Item). IsQuiet c.follow_quiet.new.quiet xs) (sym changed) (c.follow_quiet.ensures m how is parts before.quiet);
     }
