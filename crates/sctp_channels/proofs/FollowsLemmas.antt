@@ -1,7 +1,7 @@
 -- Channels that become others step by step, and what their owner is told meanwhile.
 use Rattle.std.proofs.Common.{◌≡◌, Some, ℕ, suc, ◌+◌, ◌<◌, List, [], ◌∷◌, ◌++◌, length, drop, get_or, map, add-one, drop-cons, refl, sym, ap, subst, ◌∙◌, arith}
 use Rattle.std.proofs.lemmas.Grind.{flat_map-append}
-use Rattle.std.proofs.lemmas.List.{append-nil, append_assoc, map-append, nil_from_length}
+use Rattle.std.proofs.lemmas.List.{append-nil, append_assoc, nil_from_length}
 use Rattle.std.specs.List.{flat_map}
 use Rattle.sctp_serial.specs.Messages.{Message}
 use Rattle.sctp_serial.specs.declared.api.StreamId.{StreamId}
@@ -11,7 +11,7 @@ use Rattle.sctp_channels.specs.Channels as table
 use Rattle.sctp_channels.specs.Channels.{Channels, Output, emit, tell_message}
 use Rattle.sctp_channels.specs.declared.payload.PayloadKind.{PayloadKind}
 use Rattle.sctp_channels.specs.declared.event.ChannelEvent.{ChannelEvent}
-use Rattle.sctp_channels.specs.Steps.{DataChannels, Does, Event, Follows, Gets, Runs, StaysTold, Step, acknowledged_by, answers, buffers, carries_out, closed_by, counts, each, event_of, gets, heard, hears, is_low, of_channels, of_socket, passed_on, passes_on, refuses, told_by, with_channels, with_outputs}
+use Rattle.sctp_channels.specs.Steps.{DataChannels, Does, Event, Follows, Gets, Runs, StaysTold, Step, acknowledged_by, acknowledged_by_all, answers, buffers, carries_out, closed_by, counts, each, event_of, gets, heard, hears, is_low, of_channels, of_socket, passed_on, passes_on, refuses, told_by, with_channels, with_outputs}
 
 -- ---- steps
 
@@ -140,24 +140,21 @@ each_with row ids i none d e is after =
 -- ---- outputs
 
 abbrev with_output : Output → DataChannels → DataChannels
-with_output o d = record d { events = d.events ++ told_by o; unanswered = d.unanswered ++ acknowledged_by o }
+with_output o d = record d { events = d.events ++ told_by o; unanswered = acknowledged_by o d.unanswered }
 
 abbrev with_told : Channels → DataChannels → List Event → List ℕ → DataChannels
 with_told cs d told unanswered = record { channels = cs; peer_limit = d.peer_limit; buffer_limit = d.buffer_limit; events = told; unanswered = unanswered }
 
 pub one_less : (o : Output) (d e : DataChannels) → d ≡ with_channels (record e.channels { outputs = o ∷ e.channels.outputs }) e → with_outputs (with_output o e) ≡ with_outputs d
 one_less o d e is =
-    ap (λ (told : List Event). with_told (record e.channels { outputs = [] }) e told ((e.unanswered ++ acknowledged_by o) ++ flat_map acknowledged_by e.channels.outputs))
+    ap (λ (told : List Event). with_told (record e.channels { outputs = [] }) e told (acknowledged_by_all e.channels.outputs (acknowledged_by o e.unanswered)))
     (append_assoc e.events (told_by o) (flat_map told_by e.channels.outputs))
-    ∙ ap (λ (waiting : List ℕ). with_told (record e.channels { outputs = [] }) e (e.events ++ (told_by o ++ flat_map told_by e.channels.outputs)) waiting)
-    (append_assoc e.unanswered (acknowledged_by o) (flat_map acknowledged_by e.channels.outputs))
     ∙ sym (ap with_outputs is)
 
 pub none_left : (d : DataChannels) → d.channels.outputs ≡ [] → with_outputs d ≡ d
 none_left d none =
-    ap (λ (os : List Output). with_told (record d.channels { outputs = [] }) d (d.events ++ flat_map told_by os) (d.unanswered ++ flat_map acknowledged_by os)) none
-    ∙ ap (λ (told : List Event). with_told (record d.channels { outputs = [] }) d told (d.unanswered ++ [])) (append-nil d.events)
-    ∙ ap (λ (waiting : List ℕ). with_told (record d.channels { outputs = [] }) d d.events waiting) (append-nil d.unanswered)
+    ap (λ (os : List Output). with_told (record d.channels { outputs = [] }) d (d.events ++ flat_map told_by os) (acknowledged_by_all os d.unanswered)) none
+    ∙ ap (λ (told : List Event). with_told (record d.channels { outputs = [] }) d told d.unanswered) (append-nil d.events)
     ∙ ap (λ (os : List Output). with_told (record d.channels { outputs = os }) d d.events d.unanswered) (sym none)
 
 pub carried_all : (first d e : DataChannels) → with_outputs d ≡ with_outputs first → d.channels.outputs ≡ [] → d ≡ with_channels (record e.channels { outputs = [] ++ e.channels.outputs }) e
@@ -171,8 +168,7 @@ done_at_once id kind bytes d e none is =
     let o = tell_message id kind bytes in
     is
     ∙ ap (λ (os : List Output). with_told (record d.channels { outputs = os }) d (d.events ++ of_channels o ∷ []) d.unanswered) none
-    ∙ ap (λ (waiting : List ℕ). with_told (record d.channels { outputs = [] }) d (d.events ++ of_channels o ∷ []) waiting) (sym (append-nil d.unanswered))
-    ∙ ap (λ (os : List Output). with_told (record d.channels { outputs = [] }) d (d.events ++ flat_map told_by (os ++ o ∷ [])) (d.unanswered ++ flat_map acknowledged_by (os ++ o ∷ []))) (sym none)
+    ∙ ap (λ (os : List Output). with_told (record d.channels { outputs = [] }) d (d.events ++ flat_map told_by (os ++ o ∷ [])) (acknowledged_by_all (os ++ o ∷ []) d.unanswered)) (sym none)
 
 pub told_of_outputs : (o : Output) (d e : DataChannels) → d ≡ with_channels (record e.channels { outputs = o ∷ e.channels.outputs }) e → StaysTold d (with_output o e)
 told_of_outputs o d e is = record { more = told_by o; events = ap (λ (x : DataChannels). x.events ++ told_by o) (sym is) }
@@ -195,10 +191,5 @@ fewer o d e f is row =
 pub answered_none : (all : List ℕ) → (answered : List ℕ) × (all ≡ answered ++ all)
 answered_none all = ([], refl)
 
-pub answered_more : (all : List ℕ) (front old new : List StreamId) → old ≡ front ++ new → (answered : List ℕ) × (all ≡ answered ++ numbers_of old)
-    → (answered : List ℕ) × (all ≡ answered ++ numbers_of new)
-answered_more all front old new is before = (
-  before.0 ++ numbers_of front,
-  before.1 ∙ ap (λ (ids : List StreamId). before.0 ++ numbers_of ids) is ∙ ap (λ (ids : List ℕ). before.0 ++ ids) (map-append (λ (id : StreamId). id.0) front new)
-      ∙ sym (append_assoc before.0 (numbers_of front) (numbers_of new)),
-)
+pub answered_more : (all front old new : List ℕ) → old ≡ front ++ new → (answered : List ℕ) × (all ≡ answered ++ old) → (answered : List ℕ) × (all ≡ answered ++ new)
+answered_more all front old new is before = (before.0 ++ front, before.1 ∙ ap (λ (ids : List ℕ). before.0 ++ ids) is ∙ sym (append_assoc before.0 front new))

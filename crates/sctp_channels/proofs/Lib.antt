@@ -8,4 +8,5 @@ pub mod QuietLemmas
 pub mod RunLemmas
 pub mod StandsLemmas
 pub mod TwoEndsLemmas
+pub mod UnansweredLemmas
 pub mod WholeLemmas

@@ -1,5 +1,5 @@
 -- A message of the owner, and a channel that is closed.
-use Rattle.std.specs.Prelude.{◌≡◌, ◌⊎◌, ℕ, ◌≤◌, min, ◌*◌, Bool, true, false, Option, Some, None}
+use Rattle.std.specs.Prelude.{◌≡◌, ◌⊎◌, ℕ, ◌≤◌, min, ◌*◌, Bool, true, false, not, Option, Some, None}
 use Rattle.sctp_channels.specs.Channel.{Channel}
 use Rattle.sctp_channels.specs.Lifecycle.{is_draining, may_send}
 use Rattle.sctp_channels.specs.declared.reliability.Reliability.{Reliability}
@@ -25,6 +25,11 @@ IsOpenAt (Some c) = may_send c.lifecycle ≡ true
 abbrev pub is_draining_at : Option Channel → Bool
 is_draining_at None = false
 is_draining_at (Some c) = is_draining c.lifecycle.outgoing
+
+-- an answer is of use: the peer has a channel there, and has not reset it since
+abbrev pub needs_answer_at : Option Channel → Bool
+needs_answer_at None = false
+needs_answer_at (Some c) = not c.lifecycle.is_incoming_reset
 
 -- the peer takes a message of so many bytes
 abbrev pub IsShortEnough : ℕ → DataChannels → Type 0

@@ -8,4 +8,5 @@ pub mod Payload
 pub mod Runs
 pub mod Steps
 pub mod TwoEnds
+pub mod Unanswered
 pub mod Views

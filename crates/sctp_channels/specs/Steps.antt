@@ -6,6 +6,7 @@ use Rattle.sctp_state.specs.Events as sockets
 use Rattle.sctp_channels.specs.Channels as table
 use Rattle.sctp_channels.specs.Channels.{Channels, OnMessage, Output, acknowledge, prioritize, reset, tell_closed, tell_message, tell_opened, tell_refused}
 use Rattle.sctp_channels.specs.Payload.{protocol_of}
+use Rattle.sctp_channels.specs.Unanswered.{wait}
 use Rattle.sctp_channels.specs.declared.event.ChannelEvent as given
 use Rattle.sctp_channels.specs.declared.event.ChannelEvent.TheVariants as events
 
@@ -33,7 +34,7 @@ pub record DataChannels : Type 0 where
   pub buffer_limit : ℕ
   -- what the owner is to be told, in order
   pub events : List Event
-  -- streams whose DATA_CHANNEL_OPEN is to be answered, in order
+  -- streams whose DATA_CHANNEL_OPEN is to be answered, in order, each once
   pub unanswered : List ℕ
 
 abbrev pub with_channels : Channels → DataChannels → DataChannels
@@ -47,9 +48,13 @@ told_by (prioritize id priority) = []
 told_by o = of_channels o ∷ []
 
 -- an answer is to be sent
-abbrev pub acknowledged_by : Output → List ℕ
-acknowledged_by (acknowledge id) = id ∷ []
-acknowledged_by o = []
+abbrev pub acknowledged_by : Output → List ℕ → List ℕ
+acknowledged_by (acknowledge id) ids = wait id ids
+acknowledged_by o ids = ids
+
+abbrev pub acknowledged_by_all : List Output → List ℕ → List ℕ
+acknowledged_by_all [] ids = ids
+acknowledged_by_all (o ∷ os) ids = acknowledged_by_all os (acknowledged_by o ids)
 
 -- each output goes where it belongs
 abbrev pub with_outputs : DataChannels → DataChannels
@@ -58,7 +63,7 @@ with_outputs d = record {
   peer_limit = d.peer_limit;
   buffer_limit = d.buffer_limit;
   events = d.events ++ flat_map told_by d.channels.outputs;
-  unanswered = d.unanswered ++ flat_map acknowledged_by d.channels.outputs;
+  unanswered = acknowledged_by_all d.channels.outputs d.unanswered;
 }
 
 -- a row of the table for each stream
@@ -111,7 +116,7 @@ pub data Step : Type 0 where
   closes : (id : ℕ) → Step
   -- what is to be done is done, or told
   carries_out : Step
-  -- the socket has accepted the first answers
+  -- the socket has accepted the first answers, where the peer has not reset the stream since
   answers : Step
 
 -- a message is read by the table's row

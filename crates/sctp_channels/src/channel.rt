@@ -119,8 +119,7 @@ impl Channel {
         ensures kept { result ≡ kept_by self.now }
         ensures small { result < 2 ^ 66 }
     {
-        let texts = self.description.label.len() as u128 + self.description.protocol.len() as u128;
-        texts + self.parts.len() as u128
+        self.description.text_bytes() + self.parts.len() as u128
     }
 
     /// The bytes of these parts.

@@ -603,9 +603,8 @@ impl Channels {
     }
 
     /// Those of them whose peer hasn't reset them yet: no other one is looked at.
-    pub fn incoming_streams(&mut self) -> Result<Vec<StreamId>, AllocError>
-        ensures ids { IfOk result (λ ids. map (λ id. id.0) ids.items ≡ incoming_streams self.old.entries) }
-        ensures same { self.new ≡ self.old }
+    pub fn incoming_streams(&self) -> Result<Vec<StreamId>, AllocError>
+        ensures { IfOk result (λ ids. map (λ id. id.0) ids.items ≡ incoming_streams self.now.entries) }
     {
         self.entries.incoming_streams(self.alloc)
     }

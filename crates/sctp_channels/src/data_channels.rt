@@ -11,14 +11,13 @@ ghost use Rattle.sctp_channels.specs.Entries.{channel_at};
 ghost use Rattle.sctp_channels.specs.DataChannels.{IsOpenAt, IsShortEnough, is_draining_at};
 ghost use Rattle.sctp_channels.specs.Steps.{DataChannels, Follows, Gets, StaysTold, acknowledged_by, each, ended, event_of, heard, named, passed_on, told_by, with_channels, with_outputs};
 
+use crate::unanswered::{Unanswered, answer_each, takes_answers};
 use crate::{
     CONTROL_PPID, Channel, ChannelEvent, ChannelMessage, Channels, DataChannelOpen, OpenError,
     Outgoing, Output, PayloadKind, PayloadProtocol, SendRefusal, data_message, take_first,
 };
 use sctp_serial::{Message, StreamId};
-use sctp_state::{
-    CallError, DcSctpSocket, ResetStreamsError, SendError, SendOptions, SocketEvent, SocketState,
-};
+use sctp_state::{CallError, DcSctpSocket, ResetStreamsError, SendOptions, SocketEvent};
 use std::alloc::{AllocError, Global};
 use std::collections::{BTreeSet, VecDeque};
 use std::marker::Model;
@@ -38,8 +37,8 @@ pub struct DataChannels {
     alloc: Global,
     channels: Channels,
     events: VecDeque<ChannelEvent>,
-    // streams whose answer the socket hasn't taken; it is offered again with each packet that goes out
-    unanswered: VecDeque<StreamId>,
+    // streams whose answer the socket hasn't taken; it is offered again with each packet that goes out, as long as the peer doesn't reset the stream
+    unanswered: Unanswered,
     // streams that are to be reset once what was accepted is sent
     closing: BTreeSet<u16>,
     // the first of them to be looked at
@@ -54,7 +53,7 @@ impl Model for DataChannels {
 
     ghost Value = { DataChannels };
 
-    ghost view = { λ d. record { channels = d.channels; peer_limit = d.peer_max_message_size; buffer_limit = d.max_buffered_amount; events = map event_of d.events.items; unanswered = map (λ id. id.0) d.unanswered.items } };
+    ghost view = { λ d. record { channels = d.channels; peer_limit = d.peer_max_message_size; buffer_limit = d.max_buffered_amount; events = map event_of d.events.items; unanswered = d.unanswered } };
 }
 
 impl DataChannels {
@@ -83,7 +82,7 @@ impl DataChannels {
                 max_kept_bytes,
             ),
             events: VecDeque::new(alloc),
-            unanswered: VecDeque::new(alloc),
+            unanswered: Unanswered::new(alloc),
             closing: BTreeSet::new(alloc),
             next_closing: 0,
             peer_max_message_size,
@@ -299,7 +298,7 @@ impl DataChannels {
     fn is_quiet(&self) -> bool
         ensures { IsTrue result → self.now.channels.outputs ≡ [] }
     {
-        self.closing.is_empty() && self.channels.output_count() == 0 && self.unanswered.is_empty()
+        self.closing.is_empty() && self.channels.output_count() == 0 && self.unanswered.len() == 0
     }
 
     #[tactic(auto, using(crate::proofs::FollowsLemmas::follows_then, crate::proofs::FollowsLemmas::follows_same, crate::proofs::FollowsLemmas::follows_gets, crate::proofs::FollowsLemmas::told_then, crate::proofs::FollowsLemmas::told_same))]
@@ -642,7 +641,7 @@ impl DataChannels {
         ensures steps { OnOk result (Follows self.old self.new) }
         ensures told { StaysTold self.old self.new }
     {
-        if self.channels.output_count() == 0 && self.unanswered.is_empty() {
+        if self.channels.output_count() == 0 && self.unanswered.len() == 0 {
             return Ok(());
         }
         self.carry_out_all(socket)
@@ -691,11 +690,11 @@ impl DataChannels {
         output: Output,
         resets: &mut Vec<StreamId>,
     ) -> Result<(), CallError>
-        ensures row { OnOk result (self.new ≡ record self.old { events = self.old.events ++ told_by (output_of output); unanswered = self.old.unanswered ++ acknowledged_by (output_of output) }) }
+        ensures row { OnOk result (self.new ≡ record self.old { events = self.old.events ++ told_by (output_of output); unanswered = acknowledged_by (output_of output) self.old.unanswered }) }
         ensures err { OnErr result (self.new ≡ self.old) }
     {
         match output {
-            Output::Acknowledge(id) => self.answer_later(id)?,
+            Output::Acknowledge(id) => self.unanswered.push(id.0)?,
             Output::Reset(id) => keep(resets, id)?,
             Output::Prioritize(id, priority) => socket.set_stream_priority(id, priority)?,
             Output::Opened(id) => self.tell(ChannelEvent::Opened(id))?,
@@ -703,14 +702,6 @@ impl DataChannels {
             Output::Closed(id) => self.tell(ChannelEvent::Closed(id))?,
             Output::Refused(id, why) => self.tell(ChannelEvent::Refused(id, why))?,
         }
-        Ok(())
-    }
-
-    fn answer_later(&mut self, id: StreamId) -> Result<(), AllocError>
-        ensures ok { OnOk result (self.new ≡ record self.old { unanswered = self.old.unanswered ++ id.0 ∷ [] }) }
-        ensures err { OnErr result (self.new ≡ self.old) }
-    {
-        self.unanswered.push_back(id)?;
         Ok(())
     }
 
@@ -723,7 +714,7 @@ impl DataChannels {
         if !takes_answers(socket) {
             return Ok(());
         }
-        answer_each(self.alloc, socket, &mut self.unanswered)
+        answer_each(self.alloc, socket, &self.channels, &mut self.unanswered)
     }
 
     /// A reset that the socket doesn't ask for is refused. Without an association there is nothing to reset: its end closes the channels.
@@ -764,36 +755,4 @@ fn passed_on(event: SocketEvent) -> Option<ChannelEvent>
         SocketEvent::OnBufferedAmountLow(id) => Some(ChannelEvent::BufferedAmountLow(id)),
         event => Some(ChannelEvent::Socket(event)),
     }
-}
-
-/// Whether the association may still take an answer. One that shuts down takes none, and a closed socket would keep it for the next association.
-fn takes_answers<S: DcSctpSocket>(socket: &S) -> bool {
-    match socket.state() {
-        SocketState::Connecting | SocketState::Connected => socket.options().max_message_size != 0,
-        SocketState::Closed | SocketState::ShuttingDown => false,
-    }
-}
-
-#[tactic(auto, using(crate::proofs::FollowsLemmas::answered_none, crate::proofs::FollowsLemmas::answered_more))]
-fn answer_each<S: DcSctpSocket>(
-    alloc: Global,
-    socket: &mut S,
-    unanswered: &mut VecDeque<StreamId>,
-) -> Result<(), CallError>
-    ensures { (answered : List ℕ) × (numbers_of unanswered.old.items ≡ answered ++ numbers_of unanswered.new.items) }
-{
-    for _ in 0..unanswered.len() {
-        let Some(id) = unanswered.front().copied() else {
-            break;
-        };
-        let bytes = ChannelMessage::Ack.to_bytes(alloc)?;
-        let message = Message::new(id, CONTROL_PPID, bytes);
-        match socket.send(message, &SendOptions::default()) {
-            Ok(()) => drop(unanswered.pop_front()),
-            Err(SendError::Memory) => return Err(CallError::Memory),
-            Err(SendError::Failed) => return Err(CallError::Failed),
-            Err(_refusal) => break,
-        }
-    }
-    Ok(())
 }

@@ -23,6 +23,7 @@ mod payload;
 mod queue;
 mod reliability;
 mod two_ends_laws;
+mod unanswered;
 
 pub use channel::{Channel, Received, Statistics};
 pub use channel_laws::{

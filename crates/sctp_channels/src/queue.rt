@@ -4,10 +4,10 @@ ghost use Rattle.std.specs.Prelude.{◌≡◌, ◌++◌, [], IfNone, option_to_l
 
 use std::collections::VecDeque;
 
-/// A queue that became empty keeps at most so many places.
+/// A queue whose last item was taken keeps its room where that is for at most so many.
 const MOST_SPARE_PLACES: usize = 1024;
 
-/// Takes the first of a queue. Where none is left much room is given back.
+/// Takes the first of a queue. Where none is left, the room for more than `MOST_SPARE_PLACES` is given back.
 pub(crate) fn take_first<T>(queue: &mut VecDeque<T>) -> Option<T>
     ensures taken { queue.old.items ≡ option_to_list result ++ queue.new.items }
     ensures none { IfNone result (queue.old.items ≡ []) }
