@@ -9,15 +9,13 @@ ghost use Rattle.sctp_fragments.specs.Interval.{held_of, run_of};
 use sctp_chunk::SpareBuffers;
 use sctp_fragments::{Interval, ReassemblyKey, message_of};
 use sctp_serial::Message;
+use sctp_state::take_first;
 use std::alloc::{AllocError, Global};
 use std::collections::VecDeque;
 use std::marker::Model;
 
 // So many buffers are kept at most.
 const SPARE_BUFFERS: usize = 64;
-
-// An empty list gives its memory back where it has room for more.
-const MOST_SPARE_PLACES: usize = 1_024;
 
 /// Messages in the order in which they became ready, and how many bytes they have. Buffers that their fragments left are kept.
 #[derive(Drop)]
@@ -126,11 +124,8 @@ impl ReadyMessages {
         ensures value { self.old ≡ option_to_list (option_map message_of result) ++ self.new }
         ensures none { IfNone result (self.old ≡ []) }
     {
-        let message = self.messages.pop_front()?;
+        let message = take_first(&mut self.messages)?;
         self.bytes -= message.payload.len();
-        if self.messages.is_empty() && self.messages.capacity() > MOST_SPARE_PLACES {
-            self.messages.shrink_to_fit();
-        }
         Some(message)
     }
 }

@@ -29,7 +29,7 @@ use crate::sack::highest_end;
 use crate::totals::Totals;
 use sctp_chunk::{Data, GapAckBlock, are_runs};
 use sctp_serial::{Fsn, Mid, OutgoingMessageId, PpId, SocketTime, Ssn, StreamKey};
-use sctp_state::Events;
+use sctp_state::{Events, take_first};
 use std::alloc::{AllocError, Global};
 use std::collections::VecDeque;
 use std::marker::Model;
@@ -476,7 +476,7 @@ impl Kept {
         ensures none { IfNone result (self.old.items ≡ []) }
         ensures rest { self.new ≡ record self.old { items = drop 1 self.old.items } }
     {
-        let item = self.items.pop_front()?;
+        let item = take_first(&mut self.items)?;
         self.indexes.remove(&item, &self.items, self.is_interleaved);
         Some(item)
     }

@@ -34,7 +34,7 @@ use sctp_chunk::{
     Data, ForwardTsnChunk, GapAckBlock, IForwardTsnChunk, SackChunk, SpareBuffers, are_runs,
 };
 use sctp_serial::{OutgoingMessageId, SerialNumber, SocketTime, StreamId, Tsn};
-use sctp_state::{Events, GivenUp, GivenUpCause};
+use sctp_state::{Events, GivenUp, GivenUpCause, take_first};
 use std::alloc::{AllocError, Global};
 use std::collections::VecDeque;
 use std::marker::Model;
@@ -246,7 +246,7 @@ impl OutstandingData {
         ensures first { option_map discard_of result ≡ first_of self.old.items.discards }
         ensures rest { self.new ≡ record self.old { items = record self.old.items { discards = drop 1 self.old.items.discards } } }
     {
-        self.discards.pop_front()
+        take_first(&mut self.discards)
     }
 
     /// A reset of streams begins: no forward point crosses the next TSN. Where the last reset began at the same one, nothing
