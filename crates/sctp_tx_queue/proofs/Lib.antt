@@ -19,3 +19,4 @@ pub mod InTurnLemmas
 pub mod TakenUpLemmas
 pub mod UnfinishedLemmas
 pub mod WholeLemmas
+pub mod IdleLemmas
