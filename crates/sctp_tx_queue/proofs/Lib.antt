@@ -1,7 +1,7 @@
 pub mod AgainLemmas
 pub mod BegunLemmas
 pub mod BoundLemmas
-pub mod FirstReadyLemmas
+pub mod ReadyIdsLemmas
 pub mod InOrderLemmas
 pub mod NumberLemmas
 pub mod ProduceLemmas

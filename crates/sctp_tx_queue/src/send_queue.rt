@@ -26,6 +26,7 @@ ghost use Rattle.sctp_tx_queue.specs.Views.{produced_of, queued_of};
 mod emitting;
 pub mod message;
 pub mod messages;
+pub mod ready_ids;
 mod restoring;
 mod sending;
 pub mod stream;
