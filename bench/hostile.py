@@ -141,6 +141,11 @@ def reset(number, last, streams):
     return chunk(130, 0, be16(13) + be16(4 + len(value)) + value)
 
 
+def response(number, result):
+    """The answer to b's request of this number to reset streams (RFC 6525 section 4.4)."""
+    return chunk(130, 0, parameter(16, be32(number) + be32(result)))
+
+
 def packet(tag, *chunks):
     body = b"".join(chunks)
     head = be16(5000) + be16(5000) + be32(tag)

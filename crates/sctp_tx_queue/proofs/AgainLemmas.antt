@@ -58,7 +58,7 @@ abbrev pub AreAbove : ℕ → Entries → Type 0
 AreAbove k [] = Unit
 AreAbove k (e ∷ es) = (k < e.0) × AreAbove k es
 
-raised : (k m : ℕ) (es : Entries) → k ≤ m → AreAbove m es → AreAbove k es
+pub raised : (k m : ℕ) (es : Entries) → k ≤ m → AreAbove m es → AreAbove k es
 raised k m [] l h = tt
 raised k m (e ∷ es) l h = (omega (arith, l, h.0), raised k m es l h.1)
 

@@ -40,7 +40,7 @@ grown_each_ended {P} (id ∷ ids) q t =
     grown_through t next (emit_each_ended ids (emptied_one id q) next) (grown_ended (stream id q.streams).messages t) (grown_each_ended ids (emptied_one id q) next)
 
 -- a stream without messages has nothing to send
-nothing_sendable : (s : Stream) → sendable (emptied s) ≡ 0
+pub nothing_sendable : (s : Stream) → sendable (emptied s) ≡ 0
 nothing_sendable s = go s.pause
   where
     go : (p : PauseState) → (let t : Stream = record s { messages = []; pause = p } in sendable t) ≡ 0
@@ -109,7 +109,7 @@ each_else : (ids : List ℕ) (k : ℕ) (q : Queue) → emptied (stream k (each_e
 each_else [] k q = refl
 each_else (id ∷ ids) k q = each_else ids k (emptied_one id q) ∙ one_else k id q
 
-empty_is : (s : Stream) → s.messages ≡ [] → s ≡ emptied s
+pub empty_is : (s : Stream) → s.messages ≡ [] → s ≡ emptied s
 empty_is s none = ap (λ (ms : List Queued). let t : Stream = record s { messages = ms } in t) none
 
 pub emptied_stream : {P : Type 0} (k : ℕ) (q : Queue) (emitted : Emitted P) → stream k (empty q emitted).queue.streams ≡ emptied (stream k q.streams)

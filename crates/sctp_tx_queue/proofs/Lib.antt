@@ -1,7 +1,7 @@
 pub mod AgainLemmas
 pub mod BegunLemmas
 pub mod BoundLemmas
-pub mod FirstReadyLemmas
+pub mod ReadyIdsLemmas
 pub mod InOrderLemmas
 pub mod NumberLemmas
 pub mod ProduceLemmas
@@ -19,3 +19,4 @@ pub mod InTurnLemmas
 pub mod TakenUpLemmas
 pub mod UnfinishedLemmas
 pub mod WholeLemmas
+pub mod IdleLemmas

@@ -94,7 +94,7 @@ restart_same s h =
     ∙ ap (λ n. let r : Stream = record s { next_ordered_mid = n; next_unordered_mid = origin } in r) (sym (eqb-true s.next_ordered_mid origin d.0))
     ∙ ap (λ n. let r : Stream = record s { next_unordered_mid = n } in r) (sym (eqb-true s.next_unordered_mid origin d.1))
 
-put_back : (id : ℕ) (ss : Streams) → put_stream id (stream id ss) ss ≡ ss
+pub put_back : (id : ℕ) (ss : Streams) → put_stream id (stream id ss) ss ≡ ss
 put_back id ss = go (lookup (is_at (nat_cmp id)) ss.entries) refl
   where
     go : (o : Option Stream) → lookup (is_at (nat_cmp id)) ss.entries ≡ o → put_stream id (stream id ss) ss ≡ ss
@@ -148,7 +148,7 @@ kept_each (id ∷ ids) q h =
     let p = and_parts (is_kept id q) (are_kept ids q) h in
     ap (λ x. each_restarted ids x) (kept_same id q p.0) ∙ kept_each ids q p.1
 
-none_begun : (q : Queue) → q.begun ≡ None → unbegun q ≡ q
+pub none_begun : (q : Queue) → q.begun ≡ None → unbegun q ≡ q
 none_begun q h = ap (λ b. let r : Queue = record q { begun = b } in r) (sym h)
 
 pub reset_same : (b : Bool) (q : Queue) → b ≡ true → ResetKeeps b q → q ≡ reset q

@@ -1,9 +1,9 @@
 -- An association has ended: what waits or is partly sent is given up.
-use Rattle.std.specs.Prelude.{ℕ, List, [], ◌∷◌}
+use Rattle.std.specs.Prelude.{ℕ, ◌==◌, ◌&&◌, Bool, not, is_some, List, [], ◌∷◌, length}
 use Rattle.std.specs.Map.{keys_of}
 use Rattle.sctp_state.specs.Events.{Emitted, emit_events, emit_given_up, expired_events}
 use Rattle.sctp_state.specs.declared.api.GivenUpCause.TheVariants.{Ended}
-use Rattle.sctp_tx_queue.specs.SendQueue.{Queued, Stream, Streams, Queue, stream, put_stream, set_sendable}
+use Rattle.sctp_tx_queue.specs.SendQueue.{Queued, Stream, Streams, Queue, stream, put_stream, set_sendable, is_empty}
 use Rattle.sctp_tx_queue.specs.Restarted.{unbegun}
 use Rattle.sctp_tx_queue.specs.Settings.{Changed}
 
@@ -40,3 +40,7 @@ empty q emitted = record {
   queue = unbegun (each_emptied (keys_of q.streams.entries) q);
   emitted = emit_each_ended (keys_of q.streams.entries) q emitted;
 }
+
+-- no message waits or is partly sent, and no stream is in line
+abbrev pub is_idle : Queue → Bool
+is_idle q = not (is_some q.begun) && (is_empty q && (length q.scheduler.times == 0))

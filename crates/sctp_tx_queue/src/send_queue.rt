@@ -20,12 +20,13 @@ ghost use Rattle.sctp_state.specs.Handover.{handover_state_of};
 ghost use Rattle.sctp_tx_queue.specs.Handover.{write_handover};
 ghost use Rattle.sctp_tx_queue.specs.Readiness.{readiness};
 ghost use Rattle.sctp_tx_queue.specs.Restarted.{reset, restarted_one, each_restarted, is_kept, are_kept, is_in_line, SomeRestarted, NumbersGoOn};
-ghost use Rattle.sctp_tx_queue.specs.Emptied.{empty, emptied_one, each_emptied};
+ghost use Rattle.sctp_tx_queue.specs.Emptied.{empty, emptied_one, each_emptied, is_idle};
 ghost use Rattle.sctp_tx_queue.specs.Views.{produced_of, queued_of};
 
 mod emitting;
 pub mod message;
 pub mod messages;
+pub mod ready_ids;
 mod restoring;
 mod sending;
 pub mod stream;
@@ -590,6 +591,9 @@ impl SendQueue {
         ensures emitted { OnOk result (events.new ≡ (empty self.old events.old).emitted) }
         ensures err { OnErr result (Same self.old events.old self.new events.new) }
     {
+        if self.is_idle() {
+            return Ok(());
+        }
         self.is_restarted = false;
         let ids = self.streams.ids(self.alloc)?;
         let mark = events.mark();
@@ -601,6 +605,13 @@ impl SendQueue {
         self.is_restarted = false;
         self.begun = None;
         Ok(())
+    }
+
+    /// Whether no message waits, and no stream is in line.
+    fn is_idle(&self) -> bool
+        ensures { result ≡ is_idle self.now }
+    {
+        self.begun.is_none() && (self.streams.is_empty() && self.scheduler.active_count() == 0)
     }
 
     fn empty_each(&mut self, ids: &[StreamId])

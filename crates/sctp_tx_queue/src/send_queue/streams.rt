@@ -16,7 +16,7 @@ ghost use Rattle.sctp_tx_queue.specs.Resets.{is_ready, after_step, ready, prepar
 ghost use Rattle.sctp_state.specs.Handover.{stream_message_of};
 ghost use Rattle.sctp_tx_queue.specs.Handover.{outgoing_streams, queued_messages};
 ghost use Rattle.sctp_tx_queue.specs.Readiness.{has_reset_pending};
-ghost use Rattle.sctp_tx_queue.specs.Bounded.{one, are_ready_from};
+ghost use Rattle.sctp_tx_queue.specs.Bounded.{one};
 ghost use Rattle.sctp_tx_queue.specs.Change.{changed};
 ghost use Rattle.sctp_tx_queue.specs.Restarted.{restart, is_restarted};
 ghost use Rattle.sctp_tx_queue.specs.Emptied.{emit_all_ended};
@@ -28,6 +28,7 @@ ghost use Rattle.sctp_tx_queue.specs.Views.{produced_of};
 use crate::data_to_send::DataToSend;
 use crate::send_queue::message::QueuedMessage;
 use crate::send_queue::messages::SpareRooms;
+use crate::send_queue::ready_ids::{ReadyIds, first_ids};
 use crate::send_queue::sending::{CountedTurn, StreamTurn, send_from};
 use crate::send_queue::stream::{Discarded, ResetStep, Stream, StreamChange};
 use sctp_chunk::SpareBuffers;
@@ -42,13 +43,13 @@ use std::collections::BTreeMap;
 use std::marker::Model;
 
 /// The streams by id. `total` counts the bytes on all of them that are not sent, `ready_count` the streams that can be
-/// reset and are in no request: none of them is below `first_ready`.
+/// reset and are in no request.
 #[derive(Drop)]
 pub struct Streams {
     streams: BTreeMap<u16, Stream>,
     total: ThresholdWatcher,
     ready_count: usize,
-    first_ready: u16,
+    ready_ids: ReadyIds,
     default_threshold: usize,
     default_priority: u16,
     spare_rooms: SpareRooms,
@@ -62,7 +63,7 @@ impl Model for Streams {
 
     ghost view = { λ s. record { entries = s.streams.entries; total_threshold = s.total.low_threshold; default_threshold = s.default_threshold; default_priority = s.default_priority } };
 
-    ghost invariant = { λ s. IsCounted s.total.amount s.ready_count s.first_ready s.streams.entries };
+    ghost invariant = { λ s. IsCounted s.total.amount s.ready_count s.ready_ids s.streams.entries };
 }
 
 /// The bytes that a stream has to send, and its priority.
@@ -81,7 +82,7 @@ impl Streams {
             streams: BTreeMap::new(alloc),
             total: ThresholdWatcher::new(options.total_buffered_amount_low_threshold),
             ready_count: 0,
-            first_ready: 0,
+            ready_ids: ReadyIds::new(alloc),
             default_threshold: options.default_stream_buffered_amount_low_threshold,
             default_priority: options.default_stream_priority,
             spare_rooms: SpareRooms::new(alloc),
@@ -119,7 +120,7 @@ impl Streams {
             streams,
             total: ThresholdWatcher::new(self.total.low_threshold()),
             ready_count: 0,
-            first_ready: 0,
+            ready_ids: ReadyIds::new(alloc),
             default_threshold: self.default_threshold,
             default_priority: self.default_priority,
             spare_rooms: SpareRooms::new(alloc),
@@ -298,7 +299,7 @@ impl Streams {
         self.total.decrease(before - stream.amount());
         let is_ready = stream.is_ready();
         self.ready_count = ready_count_after(self.ready_count, was_ready, is_ready);
-        self.first_ready = first_ready_after(self.first_ready, turn.id, is_ready);
+        self.ready_ids.follow(turn.id.0, was_ready, is_ready);
         Ok(made)
     }
 
@@ -318,7 +319,7 @@ impl Streams {
         self.total.increase(stream.amount());
         let is_ready = stream.is_ready();
         self.ready_count = ready_count_after(self.ready_count, was_ready, is_ready);
-        self.first_ready = first_ready_after(self.first_ready, id, is_ready);
+        self.ready_ids.follow(id.0, was_ready, is_ready);
     }
 
     pub(crate) fn low_threshold(&self, id: StreamId) -> usize
@@ -479,22 +480,20 @@ impl Streams {
         stream_ids(alloc, &self.streams)
     }
 
-    /// The first streams that can be reset and are in no request, by ascending id and at most `most`. Those below them
-    /// are not looked at again.
+    /// The first streams that can be reset and are in no request, by ascending id and at most `most`. Where memory was
+    /// missing to list them, all streams are looked at.
     pub(crate) fn ready(&mut self, alloc: Global, most: usize) -> Result<Vec<StreamId>, AllocError>
         ensures ids { IfOk result (λ ids. map (λ id. id.0) ids.items ≡ take most (ready self.old.entries)) }
         ensures same { self.new ≡ self.old }
     {
-        // (read for its clause: the ids ascend)
-        let _count = self.streams.len();
         if self.ready_count == 0 {
+            self.ready_ids.begin();
             return Ok(Vec::new(alloc));
         }
-        let ids = ready_streams(alloc, &self.streams, self.first_ready, most)?;
-        if let Some(first) = ids.first() {
-            self.first_ready = first.0;
+        if self.ready_ids.is_known {
+            return first_ids(alloc, &self.ready_ids.ids, most);
         }
-        Ok(ids)
+        ready_streams(alloc, &self.streams, most)
     }
 
     /// Whether a reset of a stream waits, or is to be answered.
@@ -520,26 +519,16 @@ fn ready_count_after(count: usize, was_ready: bool, is_ready: bool) -> usize
     count + usize::from(is_ready) - usize::from(was_ready)
 }
 
-/// The stream below which none is ready after a change of one.
-fn first_ready_after(first: u16, id: StreamId, is_ready: bool) -> u16
-    ensures less { result ≤ first }
-    ensures id { is_ready ≡ true → result ≤ id.0 }
-{
-    if is_ready { first.min(id.0) } else { first }
-}
-
-/// The first ready streams, at most `most`, where none is ready below `first`.
+/// The first ready streams, at most `most`.
 fn ready_streams(
     alloc: Global,
     streams: &BTreeMap<u16, Stream>,
-    first: u16,
     most: usize,
 ) -> Result<Vec<StreamId>, AllocError>
-    requires { IsTrue (are_ready_from first streams.now.entries) }
     ensures { IfOk result (λ ids. map (λ id. id.0) ids.items ≡ take most (ready streams.now.entries)) }
 {
     let mut ids = Vec::new(alloc);
-    for (id, stream) in streams.range(first..) {
+    for (id, stream) in streams {
         if ids.len() >= most {
             return Ok(ids);
         }

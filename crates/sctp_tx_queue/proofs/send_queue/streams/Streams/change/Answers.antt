@@ -6,7 +6,7 @@ use Rattle.sctp_tx_queue.specs.SendQueue.{Streams, Entries, amount_of, total_of}
 use Rattle.sctp_tx_queue.specs.Change.{changed}
 use Rattle.sctp_tx_queue.specs.Bounded.{one}
 use Rattle.sctp_tx_queue.proofs.BoundLemmas.{few_changed, keeps_changed, changed_amount, changed_fits}
-use Rattle.sctp_tx_queue.proofs.FirstReadyLemmas.{from_changed}
+use Rattle.sctp_tx_queue.proofs.ReadyIdsLemmas.{lists_changed}
 use Rattle.sctp_tx_queue.proofs.ReadyLemmas.{ready_changed, ready_least, ready_most}
 use Rattle.sctp_tx_queue.proofs.StreamsLemmas.{total_written, amount_at_most, put_nowhere}
 use Rattle.sctp_tx_queue.proofs.send_queue.streams.Streams.change.Goals as goal
@@ -56,7 +56,7 @@ invariant_of-self-2 c =
           );
       few = few_changed c.args.id.0 entries _ v w (changed c.args.change v) c.in-Some.ensures.value written c.change.ensures (keeps_changed c.args.change v) c.self.invariant.few;
       ready = ready_changed c.args.id.0 c.self.inside.ready_count _ _ _ entries _ v w c.in-Some.ensures.value written c.is_ready-was_ready.ensures c.is_ready-is_ready.ensures c.self.invariant.ready c.ready_count_after-self-inside.ensures;
-      from = from_changed c.self.inside.first_ready c.args.id.0 _ _ entries _ w written c.is_ready-is_ready.ensures c.first_ready_after-self-inside.ensures.less c.first_ready_after-self-inside.ensures.id c.self.invariant.from;
+      listed = lists_changed c.args.id.0 _ _ c.self.inside.ready_ids _ entries _ v w c.len-count.ensures.ordered c.in-Some.ensures.value written c.is_ready-was_ready.ensures c.is_ready-is_ready.ensures c.follow.ensures c.self.invariant.listed;
     }
 
 pub ready_count_after-self-inside-requires-clause-least : goal.ready_count_after-self-inside-requires-clause-least

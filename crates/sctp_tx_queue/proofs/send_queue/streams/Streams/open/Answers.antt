@@ -3,7 +3,7 @@ use Rattle.std.specs.Ordering.{nat_cmp}
 use Rattle.std.specs.BTreeMap.{insert_entry}
 use Rattle.sctp_tx_queue.specs.SendQueue.{Stream, total_of}
 use Rattle.sctp_tx_queue.proofs.BoundLemmas.{few_opened}
-use Rattle.sctp_tx_queue.proofs.FirstReadyLemmas.{from_inserted}
+use Rattle.sctp_tx_queue.proofs.ReadyIdsLemmas.{lists_inserted}
 use Rattle.sctp_tx_queue.proofs.ReadyLemmas.{ready_inserted}
 use Rattle.sctp_tx_queue.proofs.StreamsLemmas.{total_opened}
 use Rattle.sctp_tx_queue.proofs.send_queue.streams.Streams.open.Goals as goal
@@ -20,7 +20,7 @@ invariant_of-self-2 c = record {
   counted = c.self.invariant.counted ∙ sym (same c);
   few = few_opened c.args.id.0 c.self.inside.streams.entries _ _ c.self.inside.default_priority c.self.inside.default_threshold c.insert.ensures.was_ordered c.in_ok-insert.ensures.entries c.new-stream.ensures c.self.invariant.few;
   ready = c.self.invariant.ready ∙ ready_inserted c.args.id.0 c.self.inside.streams.entries _ _ c.insert.ensures.was_ordered (is_none _ (sym c.contains_key.ensures ∙ c.if-contains_key.false)) c.in_ok-insert.ensures.entries (ap (λ (t : Stream). t.pause) c.new-stream.ensures);
-  from = from_inserted c.self.inside.first_ready c.args.id.0 c.self.inside.streams.entries _ _ c.in_ok-insert.ensures.entries (ap (λ (t : Stream). t.pause) c.new-stream.ensures) c.self.invariant.from;
+  listed = lists_inserted c.args.id.0 c.self.inside.ready_ids c.self.inside.streams.entries _ _ (is_none _ (sym c.contains_key.ensures ∙ c.if-contains_key.false)) c.in_ok-insert.ensures.entries (ap (λ (t : Stream). t.pause) c.new-stream.ensures) c.self.invariant.listed;
 }
 
 pub returns-clause-total : goal.returns-clause-total

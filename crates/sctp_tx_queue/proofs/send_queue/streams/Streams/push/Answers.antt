@@ -5,7 +5,7 @@ use Rattle.std.specs.BTreeMap.{is_at}
 use Rattle.std.proofs.lemmas.List.Sums.{sum_by_push}
 use Rattle.sctp_tx_queue.specs.SendQueue.{Stream, Streams, Entries, total_of, amount_of, remaining_bytes}
 use Rattle.sctp_tx_queue.proofs.BoundLemmas.{few_changed, few_pushed, keeps_same, small_one}
-use Rattle.sctp_tx_queue.proofs.FirstReadyLemmas.{from_kept}
+use Rattle.sctp_tx_queue.proofs.ReadyIdsLemmas.{lists_kept}
 use Rattle.sctp_tx_queue.proofs.ReadyLemmas.{ready_kept}
 use Rattle.sctp_tx_queue.proofs.StreamsLemmas.{total_written, written_same}
 use Rattle.sctp_tx_queue.proofs.send_queue.streams.Streams.push.Goals as goal
@@ -21,7 +21,7 @@ invariant_of-self-in_err-push c =
       counted = omega (arith, ap total_of written, sums, ap amount_of c.in_err-push.ensures.err, c.self.invariant.counted);
       few = few_changed c.args.id.0 entries _ v w v c.in-Some.ensures.value written c.in_err-push.ensures.err (keeps_same v.messages) c.self.invariant.few;
       ready = c.self.invariant.ready ∙ ready_kept c.args.id.0 entries _ v w c.in-Some.ensures.value written (ap (λ (t : Stream). t.pause) c.in_err-push.ensures.err);
-      from = from_kept c.self.inside.first_ready c.args.id.0 entries _ v w c.in-Some.ensures.value written (ap (λ (t : Stream). t.pause) c.in_err-push.ensures.err) c.self.invariant.from;
+      listed = lists_kept c.args.id.0 c.self.inside.ready_ids entries _ v w c.in-Some.ensures.value written (ap (λ (t : Stream). t.pause) c.in_err-push.ensures.err) c.self.invariant.listed;
     }
 
 pub returns-in_err-push-clause-err : goal.returns-in_err-push-clause-err
@@ -46,5 +46,5 @@ invariant_of-self-2 c =
       counted = omega (arith, ap total_of written, sums, grown, more, c.left-bytes.ensures.value, c.self.invariant.counted, ap (λ w. w.amount) c.increase.ensures);
       few = few_pushed c.args.id.0 entries _ v w c.args.message c.in-Some.ensures.value written c.in_ok-push.ensures.ok small (omega (arith, c.requires, ap (λ ss. total_of ss.entries) c.self.view_is)) c.self.invariant.few;
       ready = c.self.invariant.ready ∙ ready_kept c.args.id.0 entries _ v w c.in-Some.ensures.value written (ap (λ (t : Stream). t.pause) c.in_ok-push.ensures.ok);
-      from = from_kept c.self.inside.first_ready c.args.id.0 entries _ v w c.in-Some.ensures.value written (ap (λ (t : Stream). t.pause) c.in_ok-push.ensures.ok) c.self.invariant.from;
+      listed = lists_kept c.args.id.0 c.self.inside.ready_ids entries _ v w c.in-Some.ensures.value written (ap (λ (t : Stream). t.pause) c.in_ok-push.ensures.ok) c.self.invariant.listed;
     }

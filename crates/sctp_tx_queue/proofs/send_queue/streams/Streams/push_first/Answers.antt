@@ -4,7 +4,7 @@ use Rattle.std.specs.Ordering.{nat_cmp}
 use Rattle.std.specs.BTreeMap.{is_at, insert_entry}
 use Rattle.sctp_tx_queue.specs.SendQueue.{Stream, Streams, blank_stream, total_of, amount_of, push, stream, put_stream, with_stream}
 use Rattle.sctp_tx_queue.proofs.BoundLemmas.{few_first, small_one}
-use Rattle.sctp_tx_queue.proofs.FirstReadyLemmas.{from_inserted}
+use Rattle.sctp_tx_queue.proofs.ReadyIdsLemmas.{lists_inserted}
 use Rattle.sctp_tx_queue.proofs.ReadyLemmas.{ready_inserted}
 use Rattle.sctp_tx_queue.proofs.StreamsLemmas.{total_inserted, first_is}
 use Rattle.sctp_tx_queue.proofs.send_queue.streams.Streams.push_first.Goals as goal
@@ -31,7 +31,7 @@ invariant_of-self-2 c =
           );
       few = few_first id entries _ w first c.args.message c.insert.ensures.was_ordered c.in_ok-insert.ensures.entries is_first refl small (omega (arith, c.requires.room, ap (λ ss. total_of ss.entries) c.self.view_is)) c.self.invariant.few;
       ready = c.self.invariant.ready ∙ ready_inserted id entries _ w c.insert.ensures.was_ordered none c.in_ok-insert.ensures.entries (ap (λ (t : Stream). t.pause) is_first);
-      from = from_inserted c.self.inside.first_ready id entries _ w c.in_ok-insert.ensures.entries (ap (λ (t : Stream). t.pause) is_first) c.self.invariant.from;
+      listed = lists_inserted id c.self.inside.ready_ids entries _ w none c.in_ok-insert.ensures.entries (ap (λ (t : Stream). t.pause) is_first) c.self.invariant.listed;
     }
 
 pub returns-clause-ok : goal.returns-clause-ok

@@ -1,9 +1,8 @@
 use Rattle.std.proofs.Common.{List, ap, sym, ◌∙◌, take}
 use Rattle.std.specs.Prelude.{map}
-use Rattle.std.specs.List.{slice_get}
 use Rattle.sctp_serial.specs.declared.api.StreamId.{StreamId}
 use Rattle.sctp_tx_queue.specs.Resets.{ready}
-use Rattle.sctp_tx_queue.proofs.FirstReadyLemmas.{from_taken, none_taken}
+use Rattle.sctp_tx_queue.proofs.ReadyIdsLemmas.{lists_none, none_taken}
 use Rattle.sctp_tx_queue.proofs.ReadyLemmas.{none_ready}
 use Rattle.sctp_tx_queue.proofs.send_queue.streams.Streams.ready.Goals as goal
 
@@ -12,13 +11,3 @@ returns-then-self-eq0-clause-ids c =
     ap (λ (ids : List StreamId). map (λ id. id.0) ids) c.new.ensures.items
     ∙ none_taken c.args.most (ready c.self.inside.streams.entries) (none_ready c.self.inside.streams.entries (sym c.self.invariant.ready ∙ c.if-self-eq0.true))
     ∙ ap (λ ss. take c.args.most (ready ss.entries)) c.self.view_is
-
-pub invariant_of-self : goal.invariant_of-self
-invariant_of-self c = record {
-  counted = c.self.invariant.counted;
-  few = c.self.invariant.few;
-  ready = c.self.invariant.ready;
-  from =
-      from_taken c.args.most c.self.inside.streams.entries c.in-Some.first.now c.in_ok-ids.ids.items c.len-count.ensures.ordered
-      (c.in-Some.ensures.value ∙ ap (λ (ids : List StreamId). slice_get ids 0) c.deref.ensures.value) c.in_ok-ids.ensures;
-}

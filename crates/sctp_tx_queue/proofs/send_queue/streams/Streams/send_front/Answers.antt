@@ -7,7 +7,7 @@ use Rattle.sctp_tx_queue.specs.SendQueue.{Stream, Streams, Entries, amount_of, t
 use Rattle.sctp_tx_queue.specs.Produced.{advance, front_numbers, streams_after, in_line, emitted_made, next_fragment}
 use Rattle.sctp_tx_queue.specs.Bounded.{one}
 use Rattle.sctp_tx_queue.proofs.BoundLemmas.{few_changed, keeps_moved, keeps_same}
-use Rattle.sctp_tx_queue.proofs.FirstReadyLemmas.{from_changed, from_kept}
+use Rattle.sctp_tx_queue.proofs.ReadyIdsLemmas.{lists_changed, lists_kept}
 use Rattle.sctp_tx_queue.proofs.ReadyLemmas.{ready_changed, ready_kept, ready_least, ready_most}
 use Rattle.sctp_tx_queue.proofs.StreamLemmas.{crosses_same}
 use Rattle.sctp_tx_queue.proofs.StreamsLemmas.{total_written, total_after, amount_at_most, put_nowhere, stream_there, written_same}
@@ -51,7 +51,7 @@ invariant_of-self-in_err-made c =
       counted = omega (arith, ap total_of written, sums, ap amount_of c.in_err-made.ensures.err.stream, c.self.invariant.counted);
       few = few_changed c.args.turn.id.0 entries _ v w v c.in-Some.ensures.value written c.in_err-made.ensures.err.stream (keeps_same v.messages) c.self.invariant.few;
       ready = c.self.invariant.ready ∙ ready_kept c.args.turn.id.0 entries _ v w c.in-Some.ensures.value written (ap (λ (t : Stream). t.pause) c.in_err-made.ensures.err.stream);
-      from = from_kept c.self.inside.first_ready c.args.turn.id.0 entries _ v w c.in-Some.ensures.value written (ap (λ (t : Stream). t.pause) c.in_err-made.ensures.err.stream) c.self.invariant.from;
+      listed = lists_kept c.args.turn.id.0 c.self.inside.ready_ids entries _ v w c.in-Some.ensures.value written (ap (λ (t : Stream). t.pause) c.in_err-made.ensures.err.stream) c.self.invariant.listed;
     }
 
 pub returns-in_err-made-clause-err : goal.returns-in_err-made-clause-err
@@ -75,7 +75,7 @@ invariant_of-self-2 c =
       counted = omega (arith, ap total_of written, sums, most, c.amount-before.ensures, c.amount.ensures, ap amount_of c.leave_room_to.ensures, c.in_ok-made.ensures.sent.less, c.self.invariant.counted, ap (λ w. w.amount) c.decrease.ensures.after);
       few = few_changed c.args.turn.id.0 entries _ v w (advance c.args.turn.size v) c.in-Some.ensures.value written after (keeps_moved c.args.turn.size (front_numbers v.messages v) v.messages) c.self.invariant.few;
       ready = ready_changed c.args.turn.id.0 c.self.inside.ready_count _ _ _ entries _ v w c.in-Some.ensures.value written c.is_ready-was_ready.ensures c.is_ready-is_ready.ensures c.self.invariant.ready c.ready_count_after-self-inside.ensures;
-      from = from_changed c.self.inside.first_ready c.args.turn.id.0 _ _ entries _ w written c.is_ready-is_ready.ensures c.first_ready_after-self-inside.ensures.less c.first_ready_after-self-inside.ensures.id c.self.invariant.from;
+      listed = lists_changed c.args.turn.id.0 _ _ c.self.inside.ready_ids _ entries _ v w c.len-count.ensures.ordered c.in-Some.ensures.value written c.is_ready-was_ready.ensures c.is_ready-is_ready.ensures c.follow.ensures c.self.invariant.listed;
     }
 
 pub ready_count_after-self-inside-requires-clause-least : goal.ready_count_after-self-inside-requires-clause-least
