@@ -1,5 +1,5 @@
 -- An association has ended, a stream at a time.
-use Rattle.std.proofs.Common.{◌≡◌, ℕ, suc, ◌+◌, ◌<◌, Bool, true, false, List, [], ◌∷◌, Option, Some, None, length, drop, get_or, refl, ap, sym, subst, ◌∙◌, add-one}
+use Rattle.std.proofs.Common.{◌≡◌, ℕ, suc, ◌+◌, ◌<◌, Bool, true, false, List, [], ◌∷◌, Option, Some, None, length, drop, get_or, refl, ap, sym, ◌∙◌, add-one}
 use Rattle.std.specs.Prelude.{map, is_some, unwrap_or, ◌||◌, ◌==◌}
 use Rattle.std.specs.List.{list_all}
 use Rattle.std.specs.Map.{lookup, keys_of}
@@ -14,11 +14,11 @@ use Rattle.sctp_state.proofs.EventLemmas.{grown_same, grown_through}
 use Rattle.sctp_tx_queue.specs.SendQueue.{Queued, Queue, Stream, Streams, blank, stream, put_stream, sendable}
 use Rattle.sctp_tx_queue.specs.declared.send_queue.stream.PauseState.{PauseState}
 use Rattle.sctp_tx_queue.specs.declared.send_queue.stream.PauseState.TheVariants.{NotPaused, Pending, Paused, Resetting}
-use Rattle.sctp_tx_queue.specs.Emptied.{emptied, emptied_one, each_emptied, emit_ended, emit_all_ended, emit_each_ended, empty}
+use Rattle.sctp_tx_queue.specs.Emptied.{emptied, emptied_one, each_emptied, emit_ended, empty}
 use Rattle.sctp_tx_queue.specs.InOrder.{are_in_order, is_first_begun, are_rising, has_rest, IsInOrder, IsUnsent, IsNumbered, HasRests}
 use Rattle.sctp_tx_queue.proofs.EmittingLemmas.{grown_dropped}
-use Rattle.sctp_tx_queue.proofs.InOrderLemmas.{each_put, put_messages, put_elsewhere, is_among, found_among, is_none, set_bytes_mode}
-use Rattle.sctp_tx_queue.proofs.StreamsLemmas.{changed_there, changed_nowhere, stream_nowhere}
+use Rattle.sctp_tx_queue.proofs.InOrderLemmas.{each_put, put_messages, is_among, found_among, is_none}
+use Rattle.sctp_tx_queue.proofs.StreamsLemmas.{changed_there, changed_nowhere}
 
 -- what was emitted stands
 pub grown_ended : {P : Type 0} (ms : List Queued) (t : Emitted P) → Grown t (emit_ended ms t)
@@ -26,18 +26,6 @@ grown_ended [] t = grown_same t
 grown_ended {P} (m ∷ rest) t =
     let next : Emitted P = emit_events (expired_events m.lifecycle) (emit_given_up m.number Ended t) in
     grown_through t next (emit_ended rest next) (grown_dropped m.number Ended m.lifecycle t) (grown_ended rest next)
-
-pub grown_all_ended : {P : Type 0} (ss : List Stream) (t : Emitted P) → Grown t (emit_all_ended ss t)
-grown_all_ended [] t = grown_same t
-grown_all_ended {P} (s ∷ ss) t =
-    let next : Emitted P = emit_ended s.messages t in
-    grown_through t next (emit_all_ended ss next) (grown_ended s.messages t) (grown_all_ended ss next)
-
-pub grown_each_ended : {P : Type 0} (ids : List ℕ) (q : Queue) (t : Emitted P) → Grown t (emit_each_ended ids q t)
-grown_each_ended [] q t = grown_same t
-grown_each_ended {P} (id ∷ ids) q t =
-    let next : Emitted P = emit_ended (stream id q.streams).messages t in
-    grown_through t next (emit_each_ended ids (emptied_one id q) next) (grown_ended (stream id q.streams).messages t) (grown_each_ended ids (emptied_one id q) next)
 
 -- a stream without messages has nothing to send
 pub nothing_sendable : (s : Stream) → sendable (emptied s) ≡ 0
@@ -89,45 +77,6 @@ emptied_messages k q emitted = go (is_some (lookup (is_at (nat_cmp k)) q.streams
     go : (b : Bool) → is_some (lookup (is_at (nat_cmp k)) q.streams.entries) ≡ b → (stream k (each_emptied ids q).streams).messages ≡ []
     go true e = among_empty ids k q (found_among k q.streams.entries e)
     go false e = stays_empty ids k q (ap (λ o. (unwrap_or o (blank q.streams)).messages) (is_none (lookup (is_at (nat_cmp k)) q.streams.entries) e))
-
--- a stream keeps all else
-one_else : (k id : ℕ) (q : Queue) → emptied (stream k (emptied_one id q).streams) ≡ emptied (stream k q.streams)
-one_else k id q = go (k == id) refl
-  where
-    s : Stream
-    s = emptied (stream id q.streams)
-
-    at_id : (o : Option Stream) → lookup (is_at (nat_cmp id)) q.streams.entries ≡ o → emptied (stream id (put_stream id s q.streams)) ≡ emptied (stream id q.streams)
-    at_id None e = ap emptied (changed_nowhere id s q.streams (sym e) ∙ sym (stream_nowhere id q.streams (sym e)))
-    at_id (Some t) e = ap emptied (changed_there id t s q.streams (sym e))
-
-    go : (b : Bool) → (k == id) ≡ b → emptied (stream k (put_stream id s q.streams)) ≡ emptied (stream k q.streams)
-    go true e = subst (λ i. emptied (stream i (put_stream id s q.streams)) ≡ emptied (stream i q.streams)) (sym (eqb-true k id e)) (at_id (lookup (is_at (nat_cmp id)) q.streams.entries) refl)
-    go false e = ap emptied (put_elsewhere k id s q.streams e)
-
-each_else : (ids : List ℕ) (k : ℕ) (q : Queue) → emptied (stream k (each_emptied ids q).streams) ≡ emptied (stream k q.streams)
-each_else [] k q = refl
-each_else (id ∷ ids) k q = each_else ids k (emptied_one id q) ∙ one_else k id q
-
-pub empty_is : (s : Stream) → s.messages ≡ [] → s ≡ emptied s
-empty_is s none = ap (λ (ms : List Queued). let t : Stream = record s { messages = ms } in t) none
-
-pub emptied_stream : {P : Type 0} (k : ℕ) (q : Queue) (emitted : Emitted P) → stream k (empty q emitted).queue.streams ≡ emptied (stream k q.streams)
-emptied_stream k q emitted = empty_is (stream k (empty q emitted).queue.streams) (emptied_messages k q emitted) ∙ each_else (keys_of q.streams.entries) k q
-
-each_mode : (ids : List ℕ) (q : Queue) → (each_emptied ids q).scheduler.is_interleaved ≡ q.scheduler.is_interleaved
-each_mode [] q = refl
-each_mode (id ∷ ids) q = each_mode ids (emptied_one id q) ∙ set_bytes_mode id _ _ q.scheduler
-
-pub emptied_mode : {P : Type 0} (q : Queue) (emitted : Emitted P) → (empty q emitted).queue.scheduler.is_interleaved ≡ q.scheduler.is_interleaved
-emptied_mode q emitted = each_mode (keys_of q.streams.entries) q
-
-each_next : (ids : List ℕ) (q : Queue) → (each_emptied ids q).next_number ≡ q.next_number
-each_next [] q = refl
-each_next (id ∷ ids) q = each_next ids (emptied_one id q)
-
-pub emptied_next : {P : Type 0} (q : Queue) (emitted : Emitted P) → (empty q emitted).queue.next_number ≡ q.next_number
-emptied_next q emitted = each_next (keys_of q.streams.entries) q
 
 pub emptied_begun : {P : Type 0} (q : Queue) (emitted : Emitted P) → (empty q emitted).queue.begun ≡ None
 emptied_begun q emitted = refl

@@ -33,11 +33,11 @@ at_equal id k e = grind (arith, nat_tests)
 not_at_greater : (id k : ℕ) → nat_cmp id k ≡ Greater → is_at (nat_cmp id) k ≡ false
 not_at_greater id k e = grind (arith, nat_tests)
 
-inserted_here : (id : ℕ) (s : Stream) (es : Entries) → lookup (is_at (nat_cmp id)) (insert_entry nat_cmp es id s) ≡ Some s
+pub inserted_here : {X : Type 0} (id : ℕ) (s : X) (es : List (ℕ × X)) → lookup (is_at (nat_cmp id)) (insert_entry nat_cmp es id s) ≡ Some s
 inserted_here id s [] = ap (λ t. cond t (Some s) None) (at_itself id)
-inserted_here id s (e ∷ es) = go (nat_cmp id e.0) refl (inserted_here id s es)
+inserted_here {X} id s (e ∷ es) = go (nat_cmp id e.0) refl (inserted_here id s es)
   where
-    rest : Option Stream
+    rest : Option X
     rest = lookup (is_at (nat_cmp id)) es
 
     go : (o : Ordering) → nat_cmp id e.0 ≡ o → lookup (is_at (nat_cmp id)) (insert_entry nat_cmp es id s) ≡ Some s

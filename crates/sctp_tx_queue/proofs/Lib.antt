@@ -1,6 +1,8 @@
+pub mod AddedLemmas
 pub mod AgainLemmas
 pub mod BegunLemmas
 pub mod BoundLemmas
+pub mod CommonLemmas
 pub mod ReadyIdsLemmas
 pub mod InOrderLemmas
 pub mod NumberLemmas
@@ -10,6 +12,7 @@ pub mod ResetLemmas
 pub mod RestLemmas
 pub mod RestartLemmas
 pub mod RestoreLemmas
+pub mod SettledLemmas
 pub mod StaysBegunLemmas
 pub mod StreamLemmas
 pub mod StreamsLemmas

@@ -15,9 +15,8 @@ use Rattle.sctp_tx_queue.specs.declared.send_queue.stream.PauseState.TheVariants
 use Rattle.sctp_tx_queue.specs.SendQueue.{Queue, Queued, Stream, Streams, stream, put_stream, sendable, set_sendable}
 use Rattle.sctp_tx_queue.specs.Readiness.{waits, has_reset_pending}
 use Rattle.sctp_tx_queue.specs.Settings.{begun_without, set_mode}
-use Rattle.sctp_tx_queue.specs.Restarted.{whole, whole_front, restart, restarted_one, each_restarted, is_unbegun, is_front_unbegun, has_first_numbers, is_restarted, is_in_line, is_kept, are_kept, reset, unbegun, ResetKeeps, numbers_on, NumbersGoOn}
+use Rattle.sctp_tx_queue.specs.Restarted.{whole, whole_front, restart, restarted_one, each_restarted, is_unbegun, is_front_unbegun, has_first_numbers, is_restarted, is_in_line, numbers_on, NumbersGoOn}
 use Rattle.sctp_tx_queue.proofs.InOrderLemmas.{each_put}
-use Rattle.sctp_tx_queue.proofs.StreamsLemmas.{put_nowhere, put_same, stream_there}
 
 pub restart_each : (ids : List StreamId) (i : ℕ) (none : StreamId) (q r : Queue) → i < length ids → r ≡ restarted_one (get_or ids i none).0 q
     → each_restarted (map (λ id. id.0) (drop (i + 1) ids)) r ≡ each_restarted (map (λ id. id.0) (drop i ids)) q
@@ -82,7 +81,7 @@ flows s Pending h = absurd (cc)
 flows s Paused h = absurd (cc)
 flows s Resetting h = absurd (cc)
 
-restart_same : (s : Stream) → is_restarted s ≡ true → restart s ≡ s
+pub restart_same : (s : Stream) → is_restarted s ≡ true → restart s ≡ s
 restart_same s h =
     let a = and_parts (not (has_reset_pending s)) (has_first_numbers s && is_front_unbegun s.messages) h in
     let b = and_parts (has_first_numbers s) (is_front_unbegun s.messages) a.1 in
@@ -94,14 +93,7 @@ restart_same s h =
     ∙ ap (λ n. let r : Stream = record s { next_ordered_mid = n; next_unordered_mid = origin } in r) (sym (eqb-true s.next_ordered_mid origin d.0))
     ∙ ap (λ n. let r : Stream = record s { next_unordered_mid = n } in r) (sym (eqb-true s.next_unordered_mid origin d.1))
 
-pub put_back : (id : ℕ) (ss : Streams) → put_stream id (stream id ss) ss ≡ ss
-put_back id ss = go (lookup (is_at (nat_cmp id)) ss.entries) refl
-  where
-    go : (o : Option Stream) → lookup (is_at (nat_cmp id)) ss.entries ≡ o → put_stream id (stream id ss) ss ≡ ss
-    go None e = put_nowhere id (stream id ss) ss (sym e)
-    go (Some s) e = put_same id (stream id ss) ss (ap (λ t. Some t) (stream_there id s ss (sym e)) ∙ sym e)
-
-never_there : (id : ℕ) (ts : Times) → is_some (finish_time id ts) ≡ false → remove_entry (is_at (nat_cmp id)) ts ≡ ts
+pub never_there : (id : ℕ) (ts : Times) → is_some (finish_time id ts) ≡ false → remove_entry (is_at (nat_cmp id)) ts ≡ ts
 never_there id [] h = refl
 never_there id (e ∷ es) h = pick (is_at (nat_cmp id) e.0) h (never_there id es)
   where
@@ -109,7 +101,7 @@ never_there id (e ∷ es) h = pick (is_at (nat_cmp id) e.0) h (never_there id es
     pick true h ih = absurd (cc)
     pick false h ih = ap (λ xs. e ∷ xs) (ih h)
 
-line_same : (id bytes priority : ℕ) (sch : Scheduler) → is_in_line id bytes sch ≡ true → set_bytes_remaining id bytes priority sch ≡ sch
+pub line_same : (id bytes priority : ℕ) (sch : Scheduler) → is_in_line id bytes sch ≡ true → set_bytes_remaining id bytes priority sch ≡ sch
 line_same id bytes priority sch h = go (bytes == 0) h
   where
     not_true : (b : Bool) → not b ≡ true → b ≡ false
@@ -119,46 +111,3 @@ line_same id bytes priority sch h = go (bytes == 0) h
     go : (b : Bool) → cond b (not (is_active id sch)) (is_active id sch) ≡ true → cond b (leave id sch) (cond (is_active id sch) sch (enter id (finish_now bytes priority sch) sch)) ≡ sch
     go true h = ap (λ (ts : Times). let r : Scheduler = record sch { times = ts } in r) (never_there id sch.times (not_true (is_active id sch) h))
     go false h = ap (λ a. cond a sch (enter id (finish_now bytes priority sch) sch)) h
-
-pub kept_same : (id : ℕ) (q : Queue) → is_kept id q ≡ true → restarted_one id q ≡ q
-kept_same id q h =
-    let s : Stream = stream id q.streams in
-    let a = and_parts (not (is_some q.begun)) (is_restarted s && is_in_line id (sendable s) q.scheduler) h in
-    let b = and_parts (is_restarted s) (is_in_line id (sendable s) q.scheduler) a.1 in
-    let streams : put_stream id (restart s) q.streams ≡ q.streams = ap (λ t. put_stream id t q.streams) (restart_same s b.0) ∙ put_back id q.streams in
-    ap (λ (ss : Streams). let r : Queue = record q { streams = ss; scheduler = set_sendable id (stream id ss) q.scheduler; begun = begun_without id q.begun } in r) streams
-    ∙ ap (λ (sch : Scheduler). let r : Queue = record q { scheduler = sch; begun = begun_without id q.begun } in r) (line_same id (sendable s) s.priority q.scheduler b.1)
-    ∙ ap (λ b. let r : Queue = record q { begun = b } in r) (none_left q.begun a.0)
-  where
-    none_left : (o : Option ℕ) → not (is_some o) ≡ true → begun_without id o ≡ o
-    none_left None h = refl
-    none_left (Some n) h = absurd (cc)
-
--- ---- where a reset changes nothing
-
-pub more_kept : (ids : List StreamId) (i : ℕ) (none : StreamId) (q : Queue) → i < length ids → is_kept (get_or ids i none).0 q ≡ true → are_kept (map (λ id. id.0) (drop (i + 1) ids)) q ≡ true → are_kept (map (λ id. id.0) (drop i ids)) q ≡ true
-more_kept ids i none q more here h =
-    ap (λ (xs : List StreamId). are_kept (map (λ id. id.0) xs) q) (drop-cons ids i none more)
-    ∙ ap (λ t. t && are_kept (map (λ id. id.0) (drop (suc i) ids)) q) here
-    ∙ ap (λ k. are_kept (map (λ id. id.0) (drop k ids)) q) (sym (add-one i)) ∙ h
-
-kept_each : (ids : List ℕ) (q : Queue) → are_kept ids q ≡ true → each_restarted ids q ≡ q
-kept_each [] q h = refl
-kept_each (id ∷ ids) q h =
-    let p = and_parts (is_kept id q) (are_kept ids q) h in
-    ap (λ x. each_restarted ids x) (kept_same id q p.0) ∙ kept_each ids q p.1
-
-pub none_begun : (q : Queue) → q.begun ≡ None → unbegun q ≡ q
-none_begun q h = ap (λ b. let r : Queue = record q { begun = b } in r) (sym h)
-
-pub reset_same : (b : Bool) (q : Queue) → b ≡ true → ResetKeeps b q → q ≡ reset q
-reset_same true q e h = sym (none_begun q h.1) ∙ ap unbegun (sym (kept_each (keys_of q.streams.entries) q h.0))
-reset_same false q e h = absurd (cc)
-
-mode_kept : (ids : List ℕ) (is_interleaved : Bool) (q : Queue) → are_kept ids (set_mode is_interleaved q) ≡ are_kept ids q
-mode_kept [] is_interleaved q = refl
-mode_kept (id ∷ ids) is_interleaved q = ap (λ t. is_kept id q && t) (mode_kept ids is_interleaved q)
-
-pub mode_keeps : (b is_interleaved : Bool) (q : Queue) → ResetKeeps b q → ResetKeeps b (set_mode is_interleaved q)
-mode_keeps false is_interleaved q h = tt
-mode_keeps true is_interleaved q h = (mode_kept (keys_of q.streams.entries) is_interleaved q ∙ h.0, h.1)

@@ -40,11 +40,11 @@ written_elsewhere k id s (e ∷ es) d = go (is_at (nat_cmp id) e.0) refl (writte
     go true h ih = ap (λ t. cond t (Some s) rest) (elsewhere k id e.0 d h) ∙ sym (ap (λ t. cond t (Some e.1) rest) (elsewhere k id e.0 d h))
     go false h ih = ap (λ o. cond (is_at (nat_cmp k) e.0) (Some e.1) o) ih
 
-pub inserted_elsewhere : (k id : ℕ) (s : Stream) (es : Entries) → (k == id) ≡ false → lookup (is_at (nat_cmp k)) (insert_entry nat_cmp es id s) ≡ lookup (is_at (nat_cmp k)) es
+pub inserted_elsewhere : {X : Type 0} (k id : ℕ) (s : X) (es : List (ℕ × X)) → (k == id) ≡ false → lookup (is_at (nat_cmp k)) (insert_entry nat_cmp es id s) ≡ lookup (is_at (nat_cmp k)) es
 inserted_elsewhere k id s [] d = ap (λ t. cond t (Some s) None) (not_at k id d)
-inserted_elsewhere k id s (e ∷ es) d = go (nat_cmp id e.0) refl (inserted_elsewhere k id s es d)
+inserted_elsewhere {X} k id s (e ∷ es) d = go (nat_cmp id e.0) refl (inserted_elsewhere k id s es d)
   where
-    rest : Option Stream
+    rest : Option X
     rest = lookup (is_at (nat_cmp k)) es
 
     go : (o : Ordering) → nat_cmp id e.0 ≡ o → lookup (is_at (nat_cmp k)) (insert_entry nat_cmp es id s) ≡ rest

@@ -53,7 +53,7 @@ put_nowhere id s ss at = ap (λ (es : Entries). let r : Streams = record ss { en
 pub put_same : (id : ℕ) (s : Stream) (ss : Streams) → Some s ≡ lookup (is_at (nat_cmp id)) ss.entries → put_stream id s ss ≡ ss
 put_same id s ss at = ap (λ (es : Entries). let r : Streams = record ss { entries = es } in r) (written_same (is_at (nat_cmp id)) s ss.entries at)
 
-lookup_written : {X : Type 0} (test : ℕ → Bool) (v : X) (es : List (ℕ × X)) → IsSome (lookup test es) → lookup test (set_value test es v) ≡ Some v
+pub lookup_written : {X : Type 0} (test : ℕ → Bool) (v : X) (es : List (ℕ × X)) → IsSome (lookup test es) → lookup test (set_value test es v) ≡ Some v
 lookup_written test v [] there = absurd (nothing there)
   where
     nothing : false ≡ true → ⊥

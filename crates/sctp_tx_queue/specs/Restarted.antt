@@ -1,6 +1,9 @@
 -- A new association: what waits is sent from its beginning, under numbers that begin again.
-use Rattle.std.specs.Prelude.{◌≡◌, ℕ, ◌==◌, ◌&&◌, Bool, true, false, not, if◌then◌else◌, ⊤, None, is_some, List, [], ◌∷◌, map, take}
-use Rattle.std.specs.Map.{keys_of}
+use Rattle.std.specs.Prelude.{◌≡◌, ℕ, ◌==◌, ◌&&◌, Bool, true, false, not, if◌then◌else◌, ⊤, Option, None, Some, is_some, List, [], ◌∷◌, map, take}
+use Rattle.std.specs.List.{list_any}
+use Rattle.std.specs.Map.{lookup, keys_of}
+use Rattle.std.specs.Ordering.{nat_cmp}
+use Rattle.std.specs.BTreeMap.{is_at}
 use Rattle.sctp_serial.specs.Unwrapped.{origin}
 use Rattle.sctp_stream_scheduler.specs.StreamScheduler.{Scheduler, is_active}
 use Rattle.sctp_tx_queue.specs.declared.send_queue.stream.PauseState.TheVariants.{NotPaused}
@@ -60,18 +63,50 @@ is_restarted s = not (has_reset_pending s) && (has_first_numbers s && is_front_u
 abbrev pub is_in_line : ℕ → ℕ → Scheduler → Bool
 is_in_line id bytes sch = if bytes == 0 then not (is_active id sch) else is_active id sch
 
+-- its message is partly sent, and no other may go before its end
+abbrev pub is_begun : ℕ → Option ℕ → Bool
+is_begun id None = false
+is_begun id (Some begun) = begun == id
+
 -- a restart of this stream leaves all as it is
 abbrev pub is_kept : ℕ → Queue → Bool
-is_kept id q = not (is_some q.begun) && (is_restarted (stream id q.streams) && is_in_line id (sendable (stream id q.streams)) q.scheduler)
+is_kept id q = not (is_begun id q.begun) && (is_restarted (stream id q.streams) && is_in_line id (sendable (stream id q.streams)) q.scheduler)
 
-abbrev pub are_kept : List ℕ → Queue → Bool
-are_kept [] q = true
-are_kept (id ∷ ids) q = is_kept id q && are_kept ids q
+-- ---- which streams a reset has to go over
 
--- where so it is known, a reset leaves all as it is
-abbrev pub ResetKeeps : Bool → Queue → Type 0
-ResetKeeps false q = ⊤
-ResetKeeps true q = (are_kept (keys_of q.streams.entries) q ≡ true) × (q.begun ≡ None)
+-- the stream, where there is one
+abbrev pub is_settled_as : ℕ → Option Stream → Scheduler → Bool
+is_settled_as id None sch = true
+is_settled_as id (Some s) sch = is_restarted s && is_in_line id (sendable s) sch
+
+-- it is kept, or isn't there
+abbrev pub is_settled : ℕ → Queue → Bool
+is_settled id q = not (is_begun id q.begun) && is_settled_as id (lookup (is_at (nat_cmp id)) q.streams.entries) q.scheduler
+
+abbrev pub is_among : ℕ → List ℕ → Bool
+is_among id ids = list_any (is_at (nat_cmp id)) ids
+
+-- whether a stream may have changed: one of these, or where they aren't known any
+abbrev pub may_differ : Option (List ℕ) → ℕ → Bool
+may_differ None id = true
+may_differ (Some ids) id = is_among id ids
+
+-- a reset leaves the others as they are
+abbrev pub ResetKeeps : Option (List ℕ) → Queue → Type 0
+ResetKeeps None q = ⊤
+ResetKeeps (Some ids) q = (id : ℕ) → is_among id ids ≡ false → is_settled id q ≡ true
+
+abbrev pub AreSettled : List ℕ → Queue → Type 0
+AreSettled ids q = (id : ℕ) → is_among id ids ≡ true → is_settled id q ≡ true
+
+-- a stream joins those that may have changed, where it has to
+abbrev pub Joins : Bool → ℕ → Option (List ℕ) → Option (List ℕ) → Type 0
+Joins has_to id before after = (k : ℕ) → may_differ after k ≡ false → (may_differ before k ≡ false) × ((has_to && (k == id)) ≡ false)
+
+-- what may have changed after a reset, where it is known that it left all streams as a restart does
+abbrev pub after_reset : Bool → Option (List ℕ)
+after_reset true = Some []
+after_reset false = None
 
 -- ---- numbers of messages
 

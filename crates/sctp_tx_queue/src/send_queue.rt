@@ -19,10 +19,11 @@ ghost use Rattle.sctp_tx_queue.specs.Interrupted.{Same, Freed, Stopped, Interrup
 ghost use Rattle.sctp_state.specs.Handover.{handover_state_of};
 ghost use Rattle.sctp_tx_queue.specs.Handover.{write_handover};
 ghost use Rattle.sctp_tx_queue.specs.Readiness.{readiness};
-ghost use Rattle.sctp_tx_queue.specs.Restarted.{reset, restarted_one, each_restarted, is_kept, are_kept, is_in_line, SomeRestarted, NumbersGoOn};
+ghost use Rattle.sctp_tx_queue.specs.Restarted.{reset, restarted_one, each_restarted, is_begun, is_kept, is_settled, AreSettled, is_in_line, SomeRestarted, NumbersGoOn};
 ghost use Rattle.sctp_tx_queue.specs.Emptied.{empty, emptied_one, each_emptied, is_idle};
 ghost use Rattle.sctp_tx_queue.specs.Views.{produced_of, queued_of};
 
+mod changes;
 mod emitting;
 pub mod message;
 pub mod messages;
@@ -33,6 +34,7 @@ pub mod stream;
 pub mod streams;
 
 use crate::data_to_send::DataToSend;
+use changes::ChangedStreams;
 use emitting::{emit_expired, emit_low};
 use message::QueuedMessage;
 use sctp_chunk::SpareBuffers;
@@ -54,8 +56,8 @@ pub struct SendQueue {
     next_message_id: OutgoingMessageId,
     // without interleaving, the stream whose message is partly sent
     begun: Option<StreamId>,
-    // whether a reset is known to change nothing
-    is_restarted: bool,
+    // the streams that a reset goes over
+    changed: ChangedStreams,
 }
 
 impl Model for SendQueue {
@@ -67,7 +69,7 @@ impl Model for SendQueue {
 
     ghost view = { λ q. record { streams = q.streams; scheduler = q.scheduler; next_number = q.next_message_id.0; begun = option_map (λ id. id.0) q.begun } };
 
-    ghost invariant = { λ q. ResetKeeps q.is_restarted (record { streams = q.streams; scheduler = q.scheduler; next_number = q.next_message_id.0; begun = option_map (λ id. id.0) q.begun }) };
+    ghost invariant = { λ q. ResetKeeps q.changed (record { streams = q.streams; scheduler = q.scheduler; next_number = q.next_message_id.0; begun = option_map (λ id. id.0) q.begun }) };
 }
 
 /// Emits that a message was dropped, and sets what its stream has to send then. Without memory nothing changes.
@@ -118,7 +120,7 @@ impl SendQueue {
             scheduler: StreamScheduler::new(alloc, options.mtu.saturating_sub(32)),
             next_message_id: OutgoingMessageId(0),
             begun: None,
-            is_restarted: false,
+            changed: ChangedStreams::none(alloc),
         }
     }
 
@@ -159,7 +161,6 @@ impl SendQueue {
         ensures err { OnErr result (self.new ≡ self.old) }
     {
         let id = message.stream_id;
-        self.is_restarted = false;
         let message_id = self.next_message_id;
         let message = QueuedMessage::new(self.alloc, message_id, now, message, options)?;
         let demand = self.streams.demand_with(id, &message);
@@ -195,6 +196,7 @@ impl SendQueue {
     }
 
     /// Drops the messages at the front of a stream that expired before they were begun. Without memory nothing changes.
+    #[tactic(auto, using(crate::proofs::AddedLemmas::any_keeps))]
     fn drop_stale(
         &mut self,
         now: SocketTime,
@@ -207,7 +209,7 @@ impl SendQueue {
         if !self.streams.is_stale(id, now) {
             return Ok(());
         }
-        self.is_restarted = false;
+        self.changed = ChangedStreams::any();
         let mark = events.mark();
         if self.streams.emit_stale(id, now, events).is_err() {
             events.roll_back(mark);
@@ -229,11 +231,11 @@ impl SendQueue {
         ensures made { IfOk result (λ found. option_map produced_of found ≡ (turn_from turn.id.0 turn.size self.old.streams self.old events.old).made) }
         ensures err { OnErr result (Same self.old events.old self.new events.new) }
     {
-        self.is_restarted = false;
         let is_interleaved = self.scheduler.is_interleaved();
+        let changed = &mut self.changed;
         let made = self
             .streams
-            .send_front(turn, spares, &mut self.scheduler, events)?;
+            .send_front(turn, spares, &mut self.scheduler, changed, events)?;
         self.begun = begun_by(turn.id, is_interleaved, &made);
         Ok(made)
     }
@@ -352,6 +354,7 @@ impl SendQueue {
 
     /// Sets the amount at which a stream is low. Where its amount was above the old one and is at most the new one, an
     /// event says so.
+    #[tactic(auto, using(crate::proofs::AddedLemmas::any_keeps))]
     pub fn set_buffered_amount_low_threshold(
         &mut self,
         id: StreamId,
@@ -362,7 +365,7 @@ impl SendQueue {
         ensures emitted { OnOk result (events.new ≡ (set_low_threshold id.0 bytes self.old events.old).emitted) }
         ensures err { OnErr result (Same self.old events.old self.new events.new) }
     {
-        self.is_restarted = false;
+        self.changed = ChangedStreams::any();
         let mark = events.mark();
         let is_low = self.streams.is_low_at(id, bytes);
         if emit_low(events, id, is_low).is_err() {
@@ -385,11 +388,12 @@ impl SendQueue {
     }
 
     /// Sets the priority of a stream, for its later fragments.
+    #[tactic(auto, using(crate::proofs::AddedLemmas::any_keeps))]
     pub fn set_priority(&mut self, id: StreamId, priority: u16) -> Result<(), AllocError>
         ensures ok { OnOk result (self.new ≡ set_priority id.0 priority self.old) }
         ensures err { OnErr result (self.new ≡ self.old) }
     {
-        self.is_restarted = false;
+        self.changed = ChangedStreams::any();
         self.streams.open(id)?;
         self.streams.change(id, StreamChange::Priority(priority));
         Ok(())
@@ -411,6 +415,7 @@ impl SendQueue {
 
     /// Drops what is left of a message that was given up, where it is the first of its stream, as a partly sent message
     /// is. Its lifecycle ends.
+    #[tactic(auto, using(crate::proofs::AddedLemmas::any_keeps))]
     pub fn discard(
         &mut self,
         id: StreamId,
@@ -421,7 +426,7 @@ impl SendQueue {
         ensures emitted { OnOk result (events.new ≡ (discard id.0 message_id.0 self.old events.old).emitted) }
         ensures err { OnErr result (Same self.old events.old self.new events.new) }
     {
-        self.is_restarted = false;
+        self.changed = ChangedStreams::any();
         let Some(discarded) = self.streams.front_discarded(id, message_id) else {
             self.streams.change(id, StreamChange::Discard(message_id));
             return Ok(());
@@ -437,6 +442,7 @@ impl SendQueue {
     /// Prepares the reset of a stream: its messages of which nothing is sent are given up, and their lifecycles end.
     /// The stream can be reset once its partly sent message has ended, and sends no other one until the reset is
     /// answered.
+    #[tactic(auto, using(crate::proofs::AddedLemmas::any_keeps))]
     pub fn prepare_reset_stream(
         &mut self,
         id: StreamId,
@@ -450,7 +456,7 @@ impl SendQueue {
         let bytes = self.streams.sendable_prepared(id);
         match self.emit_and_open(id, bytes, events) {
             Ok(()) => {
-                self.is_restarted = false;
+                self.changed = ChangedStreams::any();
                 self.streams.change(id, StreamChange::Prepare);
                 Ok(())
             }
@@ -462,6 +468,7 @@ impl SendQueue {
     }
 
     /// Takes the memory for a stream that is to be reset, and emits the events of the messages that it drops.
+    #[tactic(auto, using(crate::proofs::AddedLemmas::any_keeps))]
     fn emit_and_open(
         &mut self,
         id: StreamId,
@@ -476,7 +483,7 @@ impl SendQueue {
         ensures err { OnErr result (self.new ≡ self.old) }
         ensures grown { OnErr result (Grown events.old events.new) }
     {
-        self.is_restarted = false;
+        self.changed = ChangedStreams::any();
         self.streams.emit_waiting(id, events)?;
         let priority = self.streams.priority(id);
         self.streams.open(id)?;
@@ -518,54 +525,52 @@ impl SendQueue {
     }
 
     /// A new association begins: messages that are partly sent are whole again, each stream sends, and its numbers begin
-    /// again. Numbers of messages go on. Without memory this is done for the first streams alone, or for none.
+    /// again. Numbers of messages go on. It takes time by the streams that changed since the last one. Without memory this is
+    /// done for the first streams alone, or for none.
     pub fn reset(&mut self) -> Result<(), AllocError>
         ensures ok { OnOk result (self.new ≡ reset self.old) }
         ensures numbers { NumbersGoOn self.old self.new }
         ensures err { OnErr result (SomeRestarted self.old self.new) }
     {
-        if self.is_restarted {
-            return Ok(());
-        }
-        let ids = self.streams.ids(self.alloc)?;
-        let is_kept = self.restart_all(&ids)?;
+        let ids = self.streams.changed_ids(self.alloc, &self.changed)?;
+        let are_settled = self.restart_all(&ids)?;
         self.begun = None;
-        self.is_restarted = is_kept;
+        self.changed = ChangedStreams::after_reset(self.alloc, are_settled);
         Ok(())
     }
 
-    /// Restarts all of these streams. The answer is whether nothing was to be done.
+    /// Restarts all of these streams. The answer is whether they are known to be as a restart leaves them.
     fn restart_all(&mut self, ids: &[StreamId]) -> Result<bool, AllocError>
         ensures ok { OnOk result (self.new ≡ each_restarted (map (λ id. id.0) ids.now) self.old) }
-        ensures kept { IfOk result (λ is_kept. is_kept ≡ true → (self.new ≡ self.old) × (are_kept (map (λ id. id.0) ids.now) self.old ≡ true) × (self.old.begun ≡ None)) }
+        ensures settled { IfOk result (λ are_settled. are_settled ≡ true → AreSettled (map (λ id. id.0) ids.now) self.new) }
         ensures err { OnErr result ((count : ℕ) × (self.new ≡ each_restarted (take count (map (λ id. id.0) ids.now)) self.old)) }
     {
-        let mut is_kept = self.begun.is_none();
+        let mut are_settled = true;
         for id in ids {
-            is_kept = self.restart_in_turn(*id, is_kept)?;
+            are_settled = self.restart_in_turn(*id, are_settled)?;
         }
-        Ok(is_kept)
+        Ok(are_settled)
     }
 
-    /// Restarts a stream, where that changes anything. The answer is whether nothing was to be done, of those before it
-    /// neither.
+    /// Restarts a stream, where that changes anything. The answer is whether it is known to be as a restart leaves it, and
+    /// those before it are.
     fn restart_in_turn(&mut self, id: StreamId, so_far: bool) -> Result<bool, AllocError>
         ensures ok { OnOk result (self.new ≡ restarted_one id.0 self.old) }
-        ensures kept { IfOk result (λ is_all_kept. is_all_kept ≡ true → (so_far ≡ true) × (self.new ≡ self.old) × (is_kept id.0 self.old ≡ true)) }
+        ensures settled { IfOk result (λ are_settled. are_settled ≡ true → (so_far ≡ true) × (is_settled id.0 self.new ≡ true)) }
         ensures err { OnErr result (self.new ≡ self.old) }
     {
         if self.is_kept(id) {
             return Ok(so_far);
         }
         self.restart_one(id)?;
-        Ok(false)
+        Ok(so_far && self.is_kept(id))
     }
 
     /// Whether a restart of a stream changes nothing.
     fn is_kept(&self, id: StreamId) -> bool
         ensures { result ≡ is_kept id.0 self.now }
     {
-        self.begun.is_none()
+        !is_begun(id, self.begun)
             && (self.streams.is_restarted(id)
                 && is_in_line(&self.scheduler, id, self.streams.sendable(id)))
     }
@@ -575,7 +580,7 @@ impl SendQueue {
         ensures ok { OnOk result (self.new ≡ restarted_one id.0 self.old) }
         ensures err { OnErr result (self.new ≡ self.old) }
     {
-        self.is_restarted = false;
+        self.changed.add(id);
         let demand = self.streams.demand_restarted(id);
         self.scheduler
             .set_bytes_remaining(id, demand.bytes, demand.priority)?;
@@ -586,6 +591,7 @@ impl SendQueue {
 
     /// The association has ended: all messages are given up, each with its record, and their lifecycles end. Streams keep
     /// their settings and numbers. Without memory nothing changes.
+    #[tactic(auto, using(crate::proofs::AddedLemmas::any_keeps))]
     pub fn empty(&mut self, events: &mut Events) -> Result<(), AllocError>
         ensures queue { OnOk result (self.new ≡ (empty self.old events.old).queue) }
         ensures emitted { OnOk result (events.new ≡ (empty self.old events.old).emitted) }
@@ -594,7 +600,7 @@ impl SendQueue {
         if self.is_idle() {
             return Ok(());
         }
-        self.is_restarted = false;
+        self.changed = ChangedStreams::any();
         let ids = self.streams.ids(self.alloc)?;
         let mark = events.mark();
         if self.streams.emit_ended(events).is_err() {
@@ -602,7 +608,7 @@ impl SendQueue {
             return Err(AllocError);
         }
         self.empty_each(&ids);
-        self.is_restarted = false;
+        self.changed = ChangedStreams::any();
         self.begun = None;
         Ok(())
     }
@@ -623,10 +629,11 @@ impl SendQueue {
     }
 
     /// Drops the messages of a stream, which takes no memory: it has nothing to send from then on.
+    #[tactic(auto, using(crate::proofs::AddedLemmas::any_keeps))]
     fn empty_one(&mut self, id: StreamId)
         ensures { self.new ≡ emptied_one id.0 self.old }
     {
-        self.is_restarted = false;
+        self.changed = ChangedStreams::any();
         self.scheduler.leave(id);
         self.streams.change(id, StreamChange::Empty);
     }
@@ -669,11 +676,12 @@ impl SendQueue {
     }
 
     /// Takes a step of a stream's reset. Without memory nothing changes.
+    #[tactic(auto, using(crate::proofs::AddedLemmas::any_keeps))]
     fn take_step(&mut self, id: StreamId, step: ResetStep) -> Result<(), AllocError>
         ensures ok { OnOk result (self.new ≡ apply_reset_step step id.0 self.old) }
         ensures err { OnErr result (self.new ≡ self.old) }
     {
-        self.is_restarted = false;
+        self.changed = ChangedStreams::any();
         let demand = self.streams.demand_stepped(id, step);
         self.scheduler
             .set_bytes_remaining(id, demand.bytes, demand.priority)?;
@@ -692,10 +700,11 @@ impl SendQueue {
     }
 
     /// A stream goes into a request, which takes no memory: it has nothing to send from then on.
+    #[tactic(auto, using(crate::proofs::AddedLemmas::any_keeps))]
     fn request_one(&mut self, id: StreamId)
         ensures { self.new ≡ apply_reset_step Requested id.0 self.old }
     {
-        self.is_restarted = false;
+        self.changed = ChangedStreams::any();
         self.scheduler.leave(id);
         self.streams
             .change(id, StreamChange::Step(ResetStep::Requested));
@@ -707,6 +716,16 @@ impl SendQueue {
         for id in ids {
             self.request_one(*id);
         }
+    }
+}
+
+/// Whether the message of a stream is the one that is begun.
+fn is_begun(id: StreamId, begun: Option<StreamId>) -> bool
+    ensures { result ≡ is_begun id.0 (option_map (λ id. id.0) begun) }
+{
+    match begun {
+        Some(begun) => begun.0 == id.0,
+        None => false,
     }
 }
 

@@ -28,8 +28,8 @@ use std::marker::Model;
 
 /// How many rooms are kept that no stream has.
 const MOST_SPARE_ROOMS: usize = 16;
-/// A room for more messages isn't kept.
-const MOST_SPARE_PLACES: usize = 16;
+/// A spare room has places for so many messages at most: a larger one isn't kept.
+const MOST_MESSAGES_OF_SPARE_ROOM: usize = 16;
 
 /// The messages of a stream, the first one next. Without any they need no room.
 #[derive(Drop)]
@@ -91,7 +91,7 @@ impl SpareRooms {
 
     /// Keeps the room, unless it is a large one or there are enough.
     fn put(&mut self, room: Box<VecDeque<QueuedMessage>>) {
-        if self.rooms.len() < MOST_SPARE_ROOMS && room.capacity() <= MOST_SPARE_PLACES {
+        if self.rooms.len() < MOST_SPARE_ROOMS && room.capacity() <= MOST_MESSAGES_OF_SPARE_ROOM {
             let _is_kept = self.rooms.push(room).is_ok();
         }
     }

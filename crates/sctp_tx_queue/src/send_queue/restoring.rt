@@ -7,6 +7,7 @@ ghost use Rattle.sctp_state.specs.declared.api.handover.HandoverSocketState.TheV
 ghost use Rattle.sctp_tx_queue.specs.Restored.{restore, each_scheduled, scheduler_from, partly_sent, begun_from};
 
 use crate::send_queue::SendQueue;
+use crate::send_queue::changes::ChangedStreams;
 use crate::send_queue::streams::Streams;
 use sctp_serial::{OutgoingMessageId, SocketTime, StreamId};
 use sctp_state::SocketHandoverState;
@@ -73,6 +74,7 @@ impl SendQueue {
     /// Takes up the streams, the messages and the count of accepted messages of a record now, in place of its own, and
     /// whether messages are interleaved. Streams send, and have the default threshold. A message that is partly sent goes
     /// on, and the virtual time begins at 0. Without memory nothing changes.
+    #[tactic(auto, using(crate::proofs::AddedLemmas::any_keeps))]
     pub fn restore_from_state(
         &mut self,
         now: SocketTime,
@@ -93,7 +95,7 @@ impl SendQueue {
             &streams,
             &tx.streams,
         )?;
-        self.is_restarted = false;
+        self.changed = ChangedStreams::any();
         self.streams = streams;
         self.scheduler = scheduler;
         self.next_message_id = OutgoingMessageId((tx.next_outgoing_message_id % (1 << 32)) as u32);

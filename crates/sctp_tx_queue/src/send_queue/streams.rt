@@ -1,6 +1,6 @@
 //! The streams that were named, and what is left on all of them.
 
-ghost use Rattle.std.specs.Prelude.{◌≡◌, ◌+◌, ◌<◌, ◌≤◌, ◌^◌, ◌==◌, true, [], None, Some, IsTrue, IsSome, IfOk, OnOk, OnErr, option_map, map, take};
+ghost use Rattle.std.specs.Prelude.{◌≡◌, ◌+◌, ◌<◌, ◌≤◌, ◌^◌, ◌==◌, true, [], None, Some, IsTrue, IsSome, IfOk, OnOk, OnErr, option_map, map, take, filter};
 ghost use Rattle.std.specs.Map.{lookup, keys_of, values_of};
 ghost use Rattle.std.specs.List.{list_all, list_any};
 ghost use Rattle.std.specs.List.Sorted.{IsStrictlySortedBy};
@@ -18,7 +18,7 @@ ghost use Rattle.sctp_tx_queue.specs.Handover.{outgoing_streams, queued_messages
 ghost use Rattle.sctp_tx_queue.specs.Readiness.{has_reset_pending};
 ghost use Rattle.sctp_tx_queue.specs.Bounded.{one};
 ghost use Rattle.sctp_tx_queue.specs.Change.{changed};
-ghost use Rattle.sctp_tx_queue.specs.Restarted.{restart, is_restarted};
+ghost use Rattle.sctp_tx_queue.specs.Restarted.{restart, is_restarted, may_differ, Joins};
 ghost use Rattle.sctp_tx_queue.specs.Emptied.{emit_all_ended};
 ghost use Rattle.sctp_state.specs.Validity.{are_valid_messages, queued_bytes, outgoing_ids, rises_from};
 ghost use Rattle.sctp_state.specs.Handover.{transmission_of};
@@ -26,6 +26,7 @@ ghost use Rattle.sctp_tx_queue.specs.Restored.{entries_from, streams_from};
 ghost use Rattle.sctp_tx_queue.specs.Views.{produced_of};
 
 use crate::data_to_send::DataToSend;
+use crate::send_queue::changes::{ChangedStreams, stream_ids};
 use crate::send_queue::message::QueuedMessage;
 use crate::send_queue::messages::SpareRooms;
 use crate::send_queue::ready_ids::{ReadyIds, first_ids};
@@ -268,14 +269,16 @@ impl Streams {
     }
 
     /// A stream sends its next fragment, of at most `size` bytes, with its events: the stream goes in line for the one after
-    /// it; one that has none leaves. Without memory nothing changes.
+    /// it; one that has none leaves. Without memory nothing changes. It may have changed then, also without memory.
     pub(crate) fn send_front(
         &mut self,
         turn: StreamTurn,
         spares: &mut SpareBuffers,
         scheduler: &mut StreamScheduler,
+        changed: &mut ChangedStreams,
         events: &mut Events,
     ) -> Result<Option<DataToSend>, AllocError>
+        ensures joins { Joins (is_restarted (stream turn.id.0 self.old)) turn.id.0 changed.old changed.new }
         ensures streams { OnOk result (self.new ≡ streams_after turn.id.0 turn.size self.old) }
         ensures line { OnOk result (scheduler.new ≡ in_line turn.id.0 (sendable (stream turn.id.0 (streams_after turn.id.0 turn.size self.old))) (stream turn.id.0 (streams_after turn.id.0 turn.size self.old)).priority (next_fragment turn.id.0 turn.size (stream turn.id.0 self.old)) scheduler.old) }
         ensures emitted { OnOk result (events.new ≡ emitted_of turn.id.0 turn.size self.old events.old) }
@@ -287,9 +290,11 @@ impl Streams {
         // (read for its bound: no more streams are ready)
         let _count = self.streams.len();
         let Some(stream) = self.streams.get_mut(&turn.id.0) else {
+            changed.add(turn.id);
             scheduler.leave(turn.id);
             return Ok(None);
         };
+        changed.add_first(turn.id, stream);
         let before = stream.amount();
         let was_ready = stream.is_ready();
         let is_total_low = self.total.is_crossed_by(stream.fragment_size(turn.size));
@@ -480,6 +485,17 @@ impl Streams {
         stream_ids(alloc, &self.streams)
     }
 
+    /// Those that may have changed, by ascending id.
+    pub(crate) fn changed_ids(
+        &self,
+        alloc: Global,
+        changed: &ChangedStreams,
+    ) -> Result<Vec<StreamId>, AllocError>
+        ensures { IfOk result (λ ids. map (λ id. id.0) ids.items ≡ filter (may_differ changed.now) (keys_of self.now.entries)) }
+    {
+        changed.of(alloc, &self.streams)
+    }
+
     /// The first streams that can be reset and are in no request, by ascending id and at most `most`. Where memory was
     /// missing to list them, all streams are looked at.
     pub(crate) fn ready(&mut self, alloc: Global, most: usize) -> Result<Vec<StreamId>, AllocError>
@@ -547,16 +563,6 @@ fn emit_each_ended(streams: &BTreeMap<u16, Stream>, events: &mut Events) -> Resu
         stream.emit_ended(events)?;
     }
     Ok(())
-}
-
-fn stream_ids(alloc: Global, streams: &BTreeMap<u16, Stream>) -> Result<Vec<StreamId>, AllocError>
-    ensures { IfOk result (λ ids. map (λ id. id.0) ids.items ≡ keys_of streams.now.entries) }
-{
-    let mut ids = Vec::new(alloc);
-    for (id, _) in streams {
-        ids.push(StreamId(*id))?;
-    }
-    Ok(ids)
 }
 
 fn outgoing_streams(

@@ -1,5 +1,5 @@
 use Rattle.std.proofs.Common.{sym, ◌∙◌}
-use Rattle.sctp_tx_queue.proofs.RestartLemmas.{kept_same}
+use Rattle.sctp_tx_queue.proofs.SettledLemmas.{kept_same}
 use Rattle.sctp_tx_queue.proofs.send_queue.SendQueue.restart_in_turn.Goals as goal
 
 pub returns-then-is_kept-clause-ok : goal.returns-then-is_kept-clause-ok

@@ -1,4 +1,4 @@
-use Rattle.std.proofs.Common.{ap, sym, ◌∙◌, arith, rules}
+use Rattle.std.proofs.Common.{ap, sym, subst, ◌∙◌, arith, rules}
 use Rattle.std.specs.Map.{lookup, set_value}
 use Rattle.std.specs.Ordering.{nat_cmp}
 use Rattle.std.specs.BTreeMap.{is_at}
@@ -6,11 +6,13 @@ use Rattle.sctp_state.specs.ThresholdWatcher.{crosses, lower}
 use Rattle.sctp_tx_queue.specs.SendQueue.{Stream, Streams, Entries, amount_of, total_of, watched_amount, watched_total, stream, sendable}
 use Rattle.sctp_tx_queue.specs.Produced.{advance, front_numbers, streams_after, in_line, emitted_made, next_fragment}
 use Rattle.sctp_tx_queue.specs.Bounded.{one}
+use Rattle.sctp_tx_queue.specs.Restarted.{is_restarted, Joins}
+use Rattle.sctp_tx_queue.proofs.AddedLemmas.{blank_restarted, joins_as}
 use Rattle.sctp_tx_queue.proofs.BoundLemmas.{few_changed, keeps_moved, keeps_same}
 use Rattle.sctp_tx_queue.proofs.ReadyIdsLemmas.{lists_changed, lists_kept}
 use Rattle.sctp_tx_queue.proofs.ReadyLemmas.{ready_changed, ready_kept, ready_least, ready_most}
 use Rattle.sctp_tx_queue.proofs.StreamLemmas.{crosses_same}
-use Rattle.sctp_tx_queue.proofs.StreamsLemmas.{total_written, total_after, amount_at_most, put_nowhere, stream_there, written_same}
+use Rattle.sctp_tx_queue.proofs.StreamsLemmas.{total_written, total_after, amount_at_most, put_nowhere, stream_there, stream_nowhere, written_same}
 use Rattle.sctp_tx_queue.proofs.WholeLemmas.{none_made, sent_line}
 use Rattle.sctp_tx_queue.proofs.send_queue.streams.Streams.send_front.Goals as goal
 
@@ -39,6 +41,25 @@ returns-in_default-clause-emitted c =
 pub returns-in_default-clause-made : goal.returns-in_default-clause-made
 returns-in_default-clause-made c =
     none_made c.args.turn.id.0 c.args.turn.size c.args.self.now (c.in_default.ensures.value ∙ ap (λ x. lookup (is_at (nat_cmp c.args.turn.id.0)) x.entries) c.self.view_is)
+
+pub returns-in_default-clause-joins : goal.returns-in_default-clause-joins
+returns-in_default-clause-joins c =
+    let id = c.args.turn.id.0 in
+    let ss = c.args.self.now in
+    let none = c.in_default.ensures.value ∙ ap (λ x. lookup (is_at (nat_cmp id)) x.entries) c.self.view_is in
+    joins_as id (is_restarted (stream id ss)) c.args.changed.now c.add.new.self (ap is_restarted (stream_nowhere id ss none) ∙ blank_restarted ss) c.add.ensures
+
+pub returns-in_err-made-clause-joins : goal.returns-in_err-made-clause-joins
+returns-in_err-made-clause-joins c =
+    let id = c.args.turn.id.0 in
+    let at = c.in-Some.ensures.value ∙ ap (λ x. lookup (is_at (nat_cmp id)) x.entries) c.self.view_is in
+    subst (λ (t : Stream). Joins (is_restarted t) id c.args.changed.now c.add_first.new.self) (sym (stream_there id c.in-Some.stream.now c.args.self.now at)) c.add_first.ensures
+
+pub returns-clause-joins : goal.returns-clause-joins
+returns-clause-joins c =
+    let id = c.args.turn.id.0 in
+    let at = c.in-Some.ensures.value ∙ ap (λ x. lookup (is_at (nat_cmp id)) x.entries) c.self.view_is in
+    subst (λ (t : Stream). Joins (is_restarted t) id c.args.changed.now c.add_first.new.self) (sym (stream_there id c.in-Some.stream.now c.args.self.now at)) c.add_first.ensures
 
 pub invariant_of-self-in_err-made : goal.invariant_of-self-in_err-made
 invariant_of-self-in_err-made c =
