@@ -150,12 +150,12 @@ module _ {K : Type 0} (is_key : K → Type 0) (number index : K → ℕ) where
   none_then n front k i r none is off =
       subst (NoneInTurn n) (sym (runs_append is_key number index front ((k, i) ∷ []))) (none_append n (runs_at number index front) (run_of (held_of number index) i ∷ []) none (sym is ∙ off, tt))
 
--- ---- a forward point that passes nothing
+-- ---- a forward point by which the next number stays
 
-pub passes_nothing : (n : ℕ) (s : OrderedStream) → suc n ≤ s.next → from_rank rank_of (pair_rank (suc n) 0) s.held ≡ s.held → NoneInTurn s.next (intervals_of s.held) → ordered_forward n s ≡ at_rest s.next s.held
-passes_nothing n s h same none =
+pub passes_next : (n : ℕ) (s : OrderedStream) (hs : List Held) → suc n ≤ s.next → hs ≡ from_rank rank_of (pair_rank (suc n) 0) s.held → NoneInTurn s.next (intervals_of hs) → ordered_forward n s ≡ at_rest s.next hs
+passes_next n s hs h left none =
     ap (λ (m : ℕ). deliver m (from_rank rank_of (pair_rank (suc n) 0) s.held)) (most (suc n) s.next h)
-    ∙ (ap (deliver s.next) same ∙ deliver_ends s.next s.held (not_found (is_in_turn s.next) (intervals_of s.held) none))
+    ∙ (ap (deliver s.next) (sym left) ∙ deliver_ends s.next hs (not_found (is_in_turn s.next) (intervals_of hs) none))
   where
     most : (a b : ℕ) → a ≤ b → max a b ≡ b
     most a b h = omega (arith, h)

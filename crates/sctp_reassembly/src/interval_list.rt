@@ -73,7 +73,9 @@ fn is_below<K: ReassemblyKey>(interval: &Interval<K>, key: K) -> bool
 }
 
 impl<K: ReassemblyKey> IntervalList<K> {
+    ghost use Rattle.std.specs.Prelude.{ℕ};
     ghost use Rattle.std.specs.List.{find};
+    ghost use Rattle.sctp_fragments.specs.Held.{NoneInTurn};
     ghost use Rattle.sctp_fragments.specs.Runs.{is_held, with_item, from_rank};
     ghost use Rattle.sctp_fragments.specs.Held.{Held, rank_of, intervals_of, bytes_of, is_complete, NoneComplete, is_in_turn, without_first_of, left_by, IsPlaced, IsTaken};
     ghost use Rattle.sctp_fragments.specs.ReassemblyKey.{rank_at};
@@ -254,20 +256,11 @@ impl<K: ReassemblyKey> IntervalList<K> {
         popped
     }
 
-    /// Whether a fragment is before the key; else there is nothing to drop.
-    pub(crate) fn begins_below(&self, key: K) -> bool
-        ensures { result ≡ false → from_rank rank_of (rank_at K.number K.index key) self.now ≡ self.now }
-    {
-        match self.first() {
-            Some(first) => is_before(first, key),
-            None => false,
-        }
-    }
-
     /// Keeps the fragments from the key on, and drops those before it.
     pub fn retain(&mut self, key: K)
         ensures value { self.new ≡ from_rank rank_of (rank_at K.number K.index key) self.old }
         ensures others { NoneComplete (intervals_of self.old) → NoneComplete (intervals_of self.new) }
+        ensures turns { (n : ℕ) → NoneInTurn n (intervals_of self.old) → NoneInTurn n (intervals_of self.new) }
         ensures bytes { bytes_of self.new ≤ bytes_of self.old }
         ensures fragments { length self.new ≤ length self.old }
     {

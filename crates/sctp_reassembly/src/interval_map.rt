@@ -1,6 +1,6 @@
 //! Intervals in the order of their keys, with the sums of their fragments.
 
-ghost use Rattle.std.specs.Prelude.{◌≡◌, ◌+◌, ◌<◌, ◌≤◌, ◌^◌, ◌++◌, ◌∷◌, [], not, List, true, false, length, option_map, IfOk, OnOk, OnErr, IfSome, IfNone};
+ghost use Rattle.std.specs.Prelude.{◌≡◌, ◌+◌, ◌<◌, ◌≤◌, ◌^◌, ◌++◌, ◌∷◌, ℕ, [], not, List, true, false, length, option_map, IfOk, OnOk, OnErr, IfSome, IfNone};
 
 use crate::counted::key_at;
 use crate::dropped::{all_sums_of, ends_below, take_low};
@@ -44,7 +44,7 @@ impl<K: ReassemblyKey> Model for IntervalMap<K> {
 impl<K: ReassemblyKey> IntervalMap<K> {
     ghost use Rattle.std.specs.List.{find};
     ghost use Rattle.sctp_fragments.specs.Runs.{is_held, with_item, from_rank};
-    ghost use Rattle.sctp_fragments.specs.Held.{Held, rank_of, intervals_of, bytes_of, is_complete, NoneComplete, is_in_turn, without_first_of, left_by, IsPlaced, IsTaken};
+    ghost use Rattle.sctp_fragments.specs.Held.{Held, rank_of, intervals_of, bytes_of, is_complete, NoneComplete, NoneInTurn, is_in_turn, without_first_of, left_by, IsPlaced, IsTaken};
     ghost use Rattle.sctp_fragments.specs.ReassemblyKey.{rank_at};
     ghost use Rattle.sctp_fragments.specs.Interval.{as_held, held_of, run_of};
     ghost use Rattle.sctp_reassembly.specs.UnorderedByTsn.{BeginsFrom};
@@ -231,6 +231,7 @@ impl<K: ReassemblyKey> IntervalMap<K> {
     pub fn retain(&mut self, key: K)
         ensures value { self.new ≡ from_rank rank_of (rank_at K.number K.index key) self.old }
         ensures others { NoneComplete (intervals_of self.old) → NoneComplete (intervals_of self.new) }
+        ensures turns { (n : ℕ) → NoneInTurn n (intervals_of self.old) → NoneInTurn n (intervals_of self.new) }
         ensures bytes { bytes_of self.new ≤ bytes_of self.old }
         ensures fragments { length self.new ≤ length self.old }
     {

@@ -4,8 +4,7 @@ ghost use Rattle.std.specs.Prelude.{◌≡◌, ◌+◌, ◌<◌, ◌≤◌, ◌^
 ghost use Rattle.sctp_serial.specs.Unwrapped.{origin};
 ghost use Rattle.sctp_fragments.specs.Held.{bytes_of, rank_of, intervals_of, NoneInTurn};
 ghost use Rattle.sctp_fragments.specs.Interval.{as_held};
-ghost use Rattle.sctp_fragments.specs.ReassemblyKey.{rank_at};
-ghost use Rattle.sctp_fragments.specs.Runs.{from_rank, with_item};
+ghost use Rattle.sctp_fragments.specs.Runs.{with_item};
 ghost use Rattle.sctp_reassembly.specs.Delivery.{deliver, ordered_arrival, ordered_forward, ready_bytes, Extends};
 ghost use Rattle.sctp_reassembly.specs.InterruptedStreams.{deliver_in_part, ordered_arrival_in_part, ordered_forward_in_part};
 
@@ -173,20 +172,19 @@ impl<K: ReassemblyKey> OrderedFragments<K> {
         Ok(())
     }
 
-    /// Whether nothing is before the key, and nothing in turn: then a forward point to it changes nothing.
+    /// Whether the key is not above the next message, and nothing in turn: then a forward point to it makes nothing ready.
     fn is_passed(&self, first: K) -> bool
         ensures next { result ≡ true → K.number first ≤ self.now.next }
-        ensures held { result ≡ true → from_rank rank_of (rank_at K.number K.index first) self.now.held ≡ self.now.held }
         ensures settled { result ≡ true → NoneInTurn self.now.next (intervals_of self.now.held) }
     {
         if !self.is_settled {
             return false;
         }
-        first.number() as u128 <= self.last as u128 + 1 && !self.list.begins_below(first)
+        first.number() as u128 <= self.last as u128 + 1
     }
 
     /// Drops the messages before that of the key, and moves the next number to it, never back. What is in turn then becomes
-    /// ready. Where it passes nothing, nothing is looked through.
+    /// ready. Where the next number stays, no more is looked through than what is dropped.
     #[tactic(auto, using(crate::proofs::ExtendsLemmas::extends_none))]
     pub fn forward(&mut self, first: K, ready: &mut ReadyMessages) -> Result<(), AllocError>
         requires room { bytes_of self.old.held + ready_bytes ready.old < 2 ^ 64 }
@@ -201,6 +199,7 @@ impl<K: ReassemblyKey> OrderedFragments<K> {
         ensures least { origin ≤ self.new.next }
     {
         if self.is_passed(first) {
+            self.list.retain(first);
             return Ok(());
         }
         self.is_settled = false;

@@ -28,7 +28,7 @@ pub(crate) fn by_stream(
     Ok(sorted)
 }
 
-/// The entries for streams that are named, or for the others.
+/// The entries for streams that are named, or for the others, without room for more.
 pub(crate) fn entries_in(
     alloc: Global,
     named: bool,
@@ -39,5 +39,6 @@ pub(crate) fn entries_in(
 {
     let mut part = Vec::from_slice(alloc, entries)?;
     part.retain(|entry| ids.is_part(named, stream_id(*entry)));
+    part.shrink_to_fit();
     Ok(part)
 }
