@@ -51,11 +51,11 @@ leaves id (e ∷ es) v w at was is = go (is_at (nat_cmp id) e.0) refl at (λ a. 
 
 comes_first : (k : ℕ) (es : Entries) → AreAbove k es → insert_key nat_cmp (ready es) k ≡ k ∷ ready es
 comes_first k [] above = refl
-comes_first k (e ∷ es) above = go (is_ready e.1)
+comes_first k (e ∷ es) above = go (is_ready e.1) (comes_first k es above.1)
   where
-    go : (r : Bool) → insert_key nat_cmp (cond r (e.0 ∷ ready es) (ready es)) k ≡ k ∷ cond r (e.0 ∷ ready es) (ready es)
-    go true = ap (λ o. match_ordering o (k ∷ e.0 ∷ ready es) (e.0 ∷ ready es) (e.0 ∷ insert_key nat_cmp (ready es) k)) (nat_cmp_less k e.0 above.0)
-    go false = comes_first k es above.1
+    go : (r : Bool) → insert_key nat_cmp (ready es) k ≡ k ∷ ready es → insert_key nat_cmp (cond r (e.0 ∷ ready es) (ready es)) k ≡ k ∷ cond r (e.0 ∷ ready es) (ready es)
+    go true ih = ap (λ o. match_ordering o (k ∷ e.0 ∷ ready es) (e.0 ∷ ready es) (e.0 ∷ insert_key nat_cmp (ready es) k)) (nat_cmp_less k e.0 above.0)
+    go false ih = ih
 
 not_above : (k : ℕ) (es : Entries) → AreAbove k es → lookup (is_at (nat_cmp k)) es ≡ None
 not_above k [] above = refl
@@ -83,7 +83,7 @@ comes id (e ∷ es) v w sorted at was is = go (nat_cmp id e.0) refl at (λ a. co
     go Equal q at ih =
         ap (λ t. cond t (e.0 ∷ ready es) (ready es)) is
         ∙ sym (comes_first e.0 es above)
-        ∙ ap (λ k. insert_key nat_cmp (ready es) k) (sym (equal_at id e.0 (ap is_eq q)))
+        ∙ ap (λ k. insert_key nat_cmp (ready es) k) (equal_at id e.0 (ap is_eq q))
         ∙ ap (λ t. insert_key nat_cmp (cond t (e.0 ∷ ready es) (ready es)) id) (sym was ∙ ap is_ready (same_value at))
     go Greater q at ih = each (is_ready e.1)
       where
@@ -133,7 +133,7 @@ lists_inserted id r es after s none is_after sends lists known = lists known ∙
 
 -- none of no ready stream
 pub lists_none : (r : ReadyIds) (es : Entries) → r.ids.keys ≡ [] → ready es ≡ [] → Lists r es
-lists_none r es none no known = none ∙ sym no
+lists_none r es none nowhere known = none ∙ sym nowhere
 
 pub none_taken : (n : ℕ) (ids : List ℕ) → ids ≡ [] → [] ≡ take n ids
 none_taken zero ids h = refl

@@ -1,10 +1,17 @@
-use Rattle.std.proofs.Common.{rules, ◌≡◌, ap, ◌∙◌}
+use Rattle.std.proofs.Common.{rules, ◌≡◌, ap, sym, ◌∙◌}
 use Rattle.std.specs.Prelude.{option_map}
 use Rattle.std.specs.Map.{values_of}
 use Rattle.sctp_tx_queue.specs.SendQueue.{Queue}
 use Rattle.sctp_tx_queue.specs.Emptied.{emit_all_ended, empty}
+use Rattle.sctp_tx_queue.proofs.IdleLemmas.{idle_same}
 use Rattle.sctp_tx_queue.proofs.InTurnLemmas.{emitted_in_turn}
 use Rattle.sctp_tx_queue.proofs.send_queue.SendQueue.empty.Goals as goal
+
+pub returns-then-is_idle-clause-queue : goal.returns-then-is_idle-clause-queue
+returns-then-is_idle-clause-queue c = (idle_same c.args.self.now c.args.events.now (sym c.is_idle.ensures ∙ c.if-is_idle.true)).queue
+
+pub returns-then-is_idle-clause-emitted : goal.returns-then-is_idle-clause-emitted
+returns-then-is_idle-clause-emitted c = (idle_same c.args.self.now c.args.events.now (sym c.is_idle.ensures ∙ c.if-is_idle.true)).emitted
 
 pub returns-clause-emitted : goal.returns-clause-emitted
 returns-clause-emitted c =

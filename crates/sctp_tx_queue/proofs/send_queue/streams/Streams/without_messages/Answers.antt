@@ -1,4 +1,4 @@
-use Rattle.std.proofs.Common.{ap, sym, ◌∙◌, subst, arith}
+use Rattle.std.proofs.Common.{◌≡◌, ap, sym, ◌∙◌, subst, arith}
 use Rattle.sctp_tx_queue.specs.SendQueue.{Entries, total_of}
 use Rattle.sctp_tx_queue.specs.Bounded.{AreFew, ready_count}
 use Rattle.sctp_tx_queue.proofs.BoundLemmas.{few_restored}
