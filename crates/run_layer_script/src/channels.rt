@@ -15,6 +15,7 @@
 //! | `got ID PPID HEX`, `reset ID`, `performed ID`, `denied ID`, `buffered ID SIZE`, `end` | what the socket hands out: a message, a reset of the incoming stream, what became of one of the outgoing stream; the bytes that wait in it; the end of the association |
 //! | `show ID`, `list` | a channel; the streams that have one |
 //! | `socket STATE ROOM SIZE` | the peer opens a channel over a socket that has room for so many messages of at most so many bytes: what the owner is told until nothing more is, again once a packet has gone out and made room for one more, and how many messages the socket was offered |
+//! | `reopen COUNT RESETS` | over a socket without room, behind a channel on stream 1, the peer opens so many on stream 3, one after the other, and resets so many of them: what the owner is told, again once a packet has gone out and made room for all, and how many messages the socket was offered |
 
 mod calls;
 mod refusing;
@@ -124,6 +125,7 @@ pub fn run(script: &str, output: &mut Output) {
         let is_known = calls::answer(output, &mut channels, name, words)
             || answer_number(output, name, words)
             || (name == "socket" && refusing::answer(output, words))
+            || (name == "reopen" && refusing::answer_reopened(output, words))
             || answer_bytes(output, name, words);
         if !is_known {
             output.unknown(line);

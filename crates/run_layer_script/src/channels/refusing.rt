@@ -18,7 +18,8 @@ const MANY: u32 = 1000;
 /// DATA_CHANNEL_OPEN of an ordered, reliable channel without a label.
 const OPEN: [u8; 12] = [3, 0, 0, 0, 0, 0, 0, 0, 0, 0, 0, 0];
 
-/// A socket without a peer: it has room for so many messages, and emits an error for each one that it refuses.
+/// A socket without a peer: it has room for so many messages, and emits an error for each one that it refuses. A reset that it is asked for is
+/// performed.
 #[derive(Drop)]
 struct Refusing {
     alloc: Global,
@@ -62,6 +63,15 @@ impl Refusing {
         bytes.extend_from_slice(&OPEN)?;
         self.messages
             .push_back(Message::new(id, CONTROL_PPID, bytes))?;
+        Ok(())
+    }
+
+    /// The peer has reset its stream.
+    fn take_reset(&mut self, id: StreamId) -> Result<(), AllocError> {
+        let mut ids = Vec::new(self.alloc);
+        ids.push(id)?;
+        self.events
+            .push_back(SocketEvent::OnIncomingStreamReset(ids))?;
         Ok(())
     }
 }
@@ -118,8 +128,15 @@ impl DcSctpSocket for Refusing {
         Err(BatchFault::Failed)
     }
 
-    fn reset_streams(&mut self, _streams: &[StreamId]) -> Result<(), ResetStreamsError> {
-        Err(ResetStreamsError::NotConnected)
+    fn reset_streams(&mut self, streams: &[StreamId]) -> Result<(), ResetStreamsError> {
+        let mut ids = Vec::new(self.alloc);
+        ids.extend_from_slice(streams)?;
+        let performed = SocketEvent::OnStreamsResetPerformed(ids);
+        if let Err(refused) = self.events.push_back(performed) {
+            drop(refused);
+            return Err(ResetStreamsError::Memory);
+        }
+        Ok(())
     }
 
     fn set_stream_priority(&mut self, _id: StreamId, _priority: u16) -> Result<(), CallError> {
@@ -203,10 +220,8 @@ fn tell<S: DcSctpSocket>(output: &mut Output, channels: &mut DataChannels, socke
     }
 }
 
-fn meet(output: &mut Output, state: SocketState, room: u32, size: usize) {
-    let alloc = output.alloc;
-    let mut channels = DataChannels::new(alloc, true, 8, 100, 100, 100, 100);
-    let mut socket = Refusing {
+fn begin(alloc: Global, state: SocketState, room: u32, size: usize) -> Refusing {
+    Refusing {
         alloc,
         state,
         options: Options {
@@ -217,16 +232,58 @@ fn meet(output: &mut Output, state: SocketState, room: u32, size: usize) {
         offered: 0,
         events: VecDeque::new(alloc),
         messages: VecDeque::new(alloc),
-    };
-    output.note(socket.take_open(StreamId(1)));
-    tell(output, &mut channels, &mut socket);
+    }
+}
+
+/// The peer opens a channel.
+fn open(output: &mut Output, channels: &mut DataChannels, socket: &mut Refusing, id: u16) {
+    output.note(socket.take_open(StreamId(id)));
+    tell(output, channels, socket);
+}
+
+/// A packet goes out, by which there is room for so many messages.
+fn make_room(output: &mut Output, channels: &mut DataChannels, socket: &mut Refusing, room: u32) {
     output.push_str("room\n");
-    socket.room = room.saturating_add(1);
+    socket.room = room;
     output.note(socket.emit_packet());
-    tell(output, &mut channels, &mut socket);
+    tell(output, channels, socket);
     output.fill("offered #\n", &[socket.offered as u128]);
+}
+
+fn meet(output: &mut Output, state: SocketState, room: u32, size: usize) {
+    let mut channels = DataChannels::new(output.alloc, true, 8, 100, 100, 100, 100);
+    let mut socket = begin(output.alloc, state, room, size);
+    open(output, &mut channels, &mut socket, 1);
+    make_room(output, &mut channels, &mut socket, room.saturating_add(1));
     drop(socket);
     drop(channels);
+}
+
+/// Behind a channel whose answer isn't taken the peer opens others, one after the other on one stream, and resets as many as it is said.
+fn reopen(output: &mut Output, opened: u32, resets: u32) {
+    let mut channels = DataChannels::new(output.alloc, true, 8, 100, 100, 100, 100);
+    let mut socket = begin(output.alloc, SocketState::Connected, 0, 1);
+    open(output, &mut channels, &mut socket, 1);
+    for i in 0..opened {
+        open(output, &mut channels, &mut socket, 3);
+        if i < resets {
+            output.note(socket.take_reset(StreamId(3)));
+            tell(output, &mut channels, &mut socket);
+        }
+    }
+    make_room(output, &mut channels, &mut socket, MANY);
+    drop(socket);
+    drop(channels);
+}
+
+/// Whether the words are how many channels the peer opens, and how many of them it resets.
+pub fn answer_reopened(output: &mut Output, words: &str) -> bool {
+    let (opened, resets) = cut(words, ' ');
+    match (super::calls::parsed(opened), super::calls::parsed(resets)) {
+        (Some(opened), Some(resets)) => reopen(output, opened, resets),
+        _ => return false,
+    }
+    true
 }
 
 /// Whether the words are a state, how many messages there is room for, and of how many bytes at most.
