@@ -78,6 +78,9 @@ emptied_messages k q emitted = go (is_some (lookup (is_at (nat_cmp k)) q.streams
     go true e = among_empty ids k q (found_among k q.streams.entries e)
     go false e = stays_empty ids k q (ap (λ o. (unwrap_or o (blank q.streams)).messages) (is_none (lookup (is_at (nat_cmp k)) q.streams.entries) e))
 
+pub empty_is : (s : Stream) → s.messages ≡ [] → s ≡ emptied s
+empty_is s none = ap (λ (ms : List Queued). let t : Stream = record s { messages = ms } in t) none
+
 pub emptied_begun : {P : Type 0} (q : Queue) (emitted : Emitted P) → (empty q emitted).queue.begun ≡ None
 emptied_begun q emitted = refl
 

@@ -1,5 +1,5 @@
 -- An association has ended where nothing waits: all stays as it is.
-use Rattle.std.proofs.Common.{◌≡◌, ℕ, Bool, true, false, cond, List, [], ◌∷◌, Option, Some, None, length, refl, ap, sym, ◌∙◌}
+use Rattle.std.proofs.Common.{◌≡◌, ℕ, Bool, true, false, cond, List, [], ◌∷◌, Option, Some, None, length, refl, ap, sym, ◌∙◌, arith}
 use Rattle.std.specs.Prelude.{not, is_some, unwrap_or, ◌==◌, ◌&&◌}
 use Rattle.std.specs.List.{list_all}
 use Rattle.std.specs.Map.{lookup, remove_entry, keys_of, values_of}
@@ -12,11 +12,17 @@ use Rattle.sctp_tx_queue.specs.SendQueue.{Queued, Queue, Stream, Streams, Entrie
 use Rattle.sctp_tx_queue.specs.Restarted.{unbegun}
 use Rattle.sctp_tx_queue.specs.Emptied.{emptied, emptied_one, each_emptied, emit_ended, emit_each_ended, empty, is_idle}
 use Rattle.sctp_tx_queue.proofs.EmptiedLemmas.{nothing_sendable, empty_is}
-use Rattle.sctp_tx_queue.proofs.RestartLemmas.{put_back, none_begun}
+use Rattle.sctp_tx_queue.proofs.SettledLemmas.{put_back}
+
+none_begun : (q : Queue) → q.begun ≡ None → unbegun q ≡ q
+none_begun q h = ap (λ b. let r : Queue = record q { begun = b } in r) (sym h)
 
 none_of : {X : Type 0} (xs : List X) → (length xs == 0) ≡ true → xs ≡ []
-none_of [] h = refl
-none_of (x ∷ xs) h = absurd (cc)
+none_of {X} xs h = go xs (eqb-true (length xs) 0 h)
+  where
+    go : (ys : List X) → length ys ≡ 0 → ys ≡ []
+    go [] e = refl
+    go (y ∷ ys) e = absurd (omega (arith, e))
 
 -- what is looked up has no messages
 has_none : (id : ℕ) (es : Entries) (s : Stream) → s.messages ≡ [] → list_all has_nothing (values_of es) ≡ true → (unwrap_or (lookup (is_at (nat_cmp id)) es) s).messages ≡ []
@@ -54,9 +60,9 @@ module _ (q : Queue) (nothing : is_empty q ≡ true) (out : q.scheduler.times �
       ∙ ap (λ ms. emit_each_ended ids q (emit_ended ms emitted)) (has_none id q.streams.entries (blank q.streams) refl nothing)
       ∙ none_emitted ids emitted
 
-pub record IsSame {P : Type 0} (q : Queue) (emitted : Emitted P) : Type 0 where
-  pub queue : q ≡ (empty q emitted).queue
-  pub emitted : emitted ≡ (empty q emitted).emitted
+pub record IsSame {P : Type 0} (q : Queue) (t : Emitted P) : Type 0 where
+  pub queue : q ≡ (empty q t).queue
+  pub emitted : t ≡ (empty q t).emitted
 
 pub idle_same : {P : Type 0} (q : Queue) (emitted : Emitted P) → is_idle q ≡ true → IsSame q emitted
 idle_same q emitted h =

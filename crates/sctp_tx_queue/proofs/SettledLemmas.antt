@@ -138,7 +138,7 @@ restarted_beside k id q d =
       begun = λ h. without_beside k id q.begun h;
     }
 
-put_back : (id : ℕ) (ss : Streams) → put_stream id (stream id ss) ss ≡ ss
+pub put_back : (id : ℕ) (ss : Streams) → put_stream id (stream id ss) ss ≡ ss
 put_back id ss = go (lookup (is_at (nat_cmp id)) ss.entries) refl
   where
     go : (o : Option Stream) → lookup (is_at (nat_cmp id)) ss.entries ≡ o → put_stream id (stream id ss) ss ≡ ss

@@ -14,5 +14,5 @@ invariant_of-result c =
       counted = omega (arith, ap (λ w. w.amount) c.new.ensures, ap total_of c.in_ok-streams.ensures, no_bytes c.self.inside.default_threshold c.args.records.now);
       few = subst (λ (es : Entries). AreFew es) (sym c.in_ok-streams.ensures) (few_restored c.self.inside.default_threshold c.args.records.now);
       ready = sym none;
-      listed = lists_none _ c.in_ok-streams.streams.entries c.new-ready_ids.ensures (none_ready c.in_ok-streams.streams.entries none);
+      listed = lists_none _ c.in_ok-streams.streams.entries c.new-2.ensures (none_ready c.in_ok-streams.streams.entries none);
     }
