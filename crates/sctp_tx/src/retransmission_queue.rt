@@ -8,7 +8,7 @@ ghost use Rattle.sctp_tx_outstanding.specs.OutstandingData.{number_of, wire_tsn,
 ghost use Rattle.sctp_tx_outstanding.specs.Losses.{nack_all, expire_outstanding};
 ghost use Rattle.sctp_tx_outstanding.specs.Forward.{is_forward_due};
 ghost use Rattle.sctp_control_chunk.specs.ChunkView.{chunk_tree};
-ghost use Rattle.sctp_tx.specs.ForwardPoints.{abandon_expired, forward_chunk};
+ghost use Rattle.sctp_tx.specs.ForwardPoints.{abandon_expired, forward_chunk, most_of};
 ghost use Rattle.sctp_tx_outstanding.specs.Sack.{is_valid, is_open_at, acked_bytes};
 ghost use Rattle.sctp_tx.specs.RetransmissionQueue.{sender, wake, handle_sack, step_of, sender_if, emitted_if, answer_if, answer_of, windows_after, t3_after_sack, kept_running, nothing_in_flight, timed_out_sender};
 ghost use Rattle.sctp_tx.specs.Interrupted.{PartlyAcknowledged, PartlyTimedOut, PartlyExpired, PartlyResentFast, PartlyResent, TurnStopped, PartlyFilled, SomeDiscarded, PartlySent};
@@ -382,7 +382,19 @@ impl RetransmissionQueue {
         ensures err { OnErr result (PartlyExpired now self.old events.old self.new events.new) }
     {
         self.outstanding.expire_outstanding_chunks(now, events)?;
-        Ok(self.outstanding.should_send_forward_tsn())
+        if !self.outstanding.should_send_forward_tsn() {
+            return Ok(false);
+        }
+        let most = self.forward_size();
+        self.outstanding.prepare_forward_point(most);
+        Ok(true)
+    }
+
+    /// The bytes that the chunk of a forward point may have in a packet of `mtu`.
+    fn forward_size(&self) -> usize
+        ensures { result ≡ most_of self.now }
+    {
+        (self.windows.mtu() / 4 * 4).saturating_sub(COMMON_HEADER_SIZE)
     }
 
     /// The forward point, as FORWARD-TSN or, where messages are interleaved, as I-FORWARD-TSN. The chunk fits a packet of
@@ -390,7 +402,7 @@ impl RetransmissionQueue {
     pub fn create_forward_tsn(&self) -> Result<Chunk, AllocError>
         ensures { IfOk result (λ chunk. chunk_tree chunk ≡ forward_chunk self.now) }
     {
-        let most = (self.windows.mtu() / 4 * 4).saturating_sub(COMMON_HEADER_SIZE);
+        let most = self.forward_size();
         if self.outstanding.is_interleaved() {
             Ok(Chunk::IForwardTsn(self.outstanding.create_iforward_tsn(most)?))
         } else {

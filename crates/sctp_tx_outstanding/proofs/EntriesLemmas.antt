@@ -15,11 +15,11 @@ use Rattle.sctp_serial.proofs.NumberLemmas.{less_differs, greater_differs}
 
 -- ---- the order of entries is that of numbers
 
-abbrev place : ℕ → Bool → ℕ
+abbrev pub place : ℕ → Bool → ℕ
 place a true = 2 * a + 1
 place a false = 2 * a
 
-abbrev rank : SkipEntry → ℕ
+abbrev pub rank : SkipEntry → ℕ
 rank e = place e.stream_id.0 e.is_unordered
 
 before_place : (a b : ℕ) (u v : Bool) → (nat_lt a b || ((a == b) && (not u && v))) ≡ nat_lt (place a u) (place b v)
@@ -37,15 +37,15 @@ alike_place a b false false = grind (arith, nat_tests)
 is_below : (a b : ℕ) → (a == b) ≡ false → a ≤ b → a < b
 is_below a b h le = grind (arith, nat_tests)
 
-before_is : (e d : SkipEntry) → is_before e d ≡ nat_lt (rank e) (rank d)
+pub before_is : (e d : SkipEntry) → is_before e d ≡ nat_lt (rank e) (rank d)
 before_is e d = before_place e.stream_id.0 d.stream_id.0 e.is_unordered d.is_unordered
 
-alike_is : (e d : SkipEntry) → is_alike e d ≡ (rank e == rank d)
+pub alike_is : (e d : SkipEntry) → is_alike e d ≡ (rank e == rank d)
 alike_is e d = alike_place e.stream_id.0 d.stream_id.0 e.is_unordered d.is_unordered
 
 -- ---- entries that ascend from a rank on
 
-abbrev Rising : ℕ → List SkipEntry → Type 0
+abbrev pub Rising : ℕ → List SkipEntry → Type 0
 Rising lo [] = Unit {0}
 Rising lo (e ∷ es) = (lo ≤ rank e) × Rising (suc (rank e)) es
 
@@ -176,7 +176,7 @@ starts lo e (d ∷ ds) le h =
     let less : rank e < rank d = ltb-true (rank e) (rank d) (sym (before_is e d) ∙ before.0) in
     (le, starts (suc (rank e)) d ds (omega (arith, less)) h.1)
 
-rising : (es : List SkipEntry) → Ascend es → Rising 0 es
+pub rising : (es : List SkipEntry) → Ascend es → Rising 0 es
 rising [] h = tt
 rising (e ∷ es) h = starts 0 e es (omega arith) h
 

@@ -6,7 +6,7 @@ use Rattle.sctp_tx_outstanding.specs.Item.{Item}
 use Rattle.sctp_tx_outstanding.specs.OutstandingData.{Items}
 use Rattle.sctp_tx_outstanding.specs.Forward.{ForwardPoint, passes, pass_item, passes_of, entry_in, with_entry, walk, walk_from}
 
-yes : (b : Bool) (f g : ForwardPoint) → b ≡ true → cond b f g ≡ f
+pub yes : (b : Bool) (f g : ForwardPoint) → b ≡ true → cond b f g ≡ f
 yes true f g h = refl
 yes false f g h = cc
 

@@ -87,19 +87,19 @@ slowed_given_up QueuedFast e = absurd (cc)
 slowed_given_up Acked e = absurd (cc)
 slowed_given_up GivenUp e = refl
 
-by_ack : (i : Item) → Remains i (ack i)
+pub by_ack : (i : Item) → Remains i (ack i)
 by_ack i = record { fragment = refl; number = refl; given_up = acked_given_up i.state }
 
-by_uncover : (i : Item) → Remains i (uncover i)
+pub by_uncover : (i : Item) → Remains i (uncover i)
 by_uncover i = record { fragment = refl; number = refl; given_up = uncovered_given_up i.state }
 
-by_nack : (at_once fast : Bool) (i : Item) → Remains i (nack at_once fast i)
+pub by_nack : (at_once fast : Bool) (i : Item) → Remains i (nack at_once fast i)
 by_nack at_once fast i = record { fragment = refl; number = refl; given_up = nacked_given_up i.state (nack_state (is_lost at_once i) fast) }
 
-by_resending : (i : Item) → Remains i (mark_as_retransmitted i)
+pub by_resending : (i : Item) → Remains i (mark_as_retransmitted i)
 by_resending i = record { fragment = refl; number = refl; given_up = resent_given_up i.state }
 
-by_missing : (i : Item) → Remains i (miss_fast i)
+pub by_missing : (i : Item) → Remains i (miss_fast i)
 by_missing i = record { fragment = refl; number = refl; given_up = slowed_given_up i.state }
 
 laid : (b : Bool) (i : Item) → Remains i (cond b (abandon i) i)

@@ -11,13 +11,14 @@ pub mod ItemsStayLemmas
 pub mod AbandonedItemsLemmas
 pub mod LossesLemmas
 pub mod MessagesLemmas
+pub mod PassedLemmas
 pub mod PointLemmas
 pub mod QuietLemmas
 pub mod RecordLemmas
 pub mod RoomLemmas
 pub mod SackLemmas
-pub mod SkipLemmas
 pub mod EmittingLemmas
 pub mod TotalsLemmas
+pub mod TouchedLemmas
 pub mod UncoveredLemmas
 pub mod WaitingLemmas

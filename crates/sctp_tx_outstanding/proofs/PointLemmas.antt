@@ -14,7 +14,7 @@ use Rattle.sctp_tx_outstanding.proofs.EntriesLemmas.{point_fits, point_ascends}
 -- ---- entries
 
 -- what comes before an entry is of another stream or order than what is alike to it
-apart : (a b c : ℕ) (u v w : Bool) → (nat_lt a b || ((a == b) && (not u && v))) ≡ true → ((c == b) && is_same w v) ≡ true → ((c == a) && is_same w u) ≡ false
+pub apart : (a b c : ℕ) (u v w : Bool) → (nat_lt a b || ((a == b) && (not u && v))) ≡ true → ((c == b) && is_same w v) ≡ true → ((c == a) && is_same w u) ≡ false
 apart a b c true true true before alike = grind (arith, nat_tests)
 apart a b c true true false before alike = grind (arith, nat_tests)
 apart a b c true false true before alike = grind (arith, nat_tests)
@@ -25,7 +25,7 @@ apart a b c false false true before alike = grind (arith, nat_tests)
 apart a b c false false false before alike = grind (arith, nat_tests)
 
 -- what is alike to the same is alike
-alike_both : (a b c : ℕ) (u v w : Bool) → ((a == b) && is_same u v) ≡ true → ((c == a) && is_same w u) ≡ ((c == b) && is_same w v)
+pub alike_both : (a b c : ℕ) (u v w : Bool) → ((a == b) && is_same u v) ≡ true → ((c == a) && is_same w u) ≡ ((c == b) && is_same w v)
 alike_both a b c true true w alike = grind (arith, nat_tests)
 alike_both a b c true false w alike = grind (arith, nat_tests)
 alike_both a b c false true w alike = grind (arith, nat_tests)
@@ -63,7 +63,7 @@ named_is : (e d : SkipEntry) (cs : List SkipEntry) → named_number e (put_entry
 named_is e d [] = refl
 named_is e d (c ∷ cs) = put_in_lem e d c cs (named_is e d cs) (is_before c d) (is_alike d c) refl refl
 
-with_is : (e : SkipEntry) (o : Option SkipEntry) (cs : List SkipEntry) → named_number e (with_entry o cs) ≡ number_in e o (named_number e cs)
+pub with_is : (e : SkipEntry) (o : Option SkipEntry) (cs : List SkipEntry) → named_number e (with_entry o cs) ≡ number_in e o (named_number e cs)
 with_is e None cs = refl
 with_is e (Some d) cs = named_is e d cs
 

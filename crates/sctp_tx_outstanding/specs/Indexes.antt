@@ -5,6 +5,7 @@ use Rattle.sctp_tx_outstanding.specs.Item.{Item}
 use Rattle.sctp_tx_outstanding.specs.Expiries.{Expects}
 use Rattle.sctp_tx_outstanding.specs.LastBlocks.{Knows}
 use Rattle.sctp_tx_outstanding.specs.Messages.{Finds}
+use Rattle.sctp_tx_outstanding.specs.Passed.{IsPassed}
 use Rattle.sctp_tx_outstanding.specs.Quiet.{IsQuiet}
 use Rattle.sctp_tx_outstanding.specs.Totals.{AreTotals}
 use Rattle.sctp_tx_outstanding.specs.Waiting.{Lists}
@@ -17,3 +18,4 @@ pub record AreIndexes (is_interleaved : Bool) (is : List Item) (x : Indexes) : T
   pub messages : Finds x.messages is
   pub expiries : Expects x.expiries is
   pub quiet : IsQuiet x.quiet is
+  pub passed : IsPassed is_interleaved is x.passed

@@ -13,6 +13,7 @@ pub mod OutstandingData
 pub mod Keeps
 pub mod Losses
 pub mod Messages
+pub mod Passed
 pub mod Passes
 pub mod Point
 pub mod Quiet
@@ -20,5 +21,6 @@ pub mod Records
 pub mod Resending
 pub mod Sack
 pub mod Totals
+pub mod Touched
 pub mod Views
 pub mod Waiting

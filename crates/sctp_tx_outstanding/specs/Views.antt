@@ -9,9 +9,10 @@ use Rattle.sctp_tx_outstanding.specs.declared.outstanding_data.Filling.{Filling}
 use Rattle.sctp_tx_outstanding.specs.Resending.{Resent}
 use Rattle.sctp_tx_outstanding.specs.declared.kept.LastFragment.{LastFragment}
 use Rattle.sctp_tx_outstanding.specs.declared.outstanding_data.Discarded.{Discarded}
-use Rattle.sctp_tx_outstanding.specs.declared.outstanding_data.ForwardPoint as given
+use Rattle.sctp_tx_outstanding.specs.declared.passed.ForwardPoint as given
 use Rattle.sctp_tx_outstanding.specs.Forward.{ForwardPoint}
 use Rattle.sctp_tx_outstanding.specs.OutstandingData.{Discard, Outstanding}
+use Rattle.sctp_tx_outstanding.specs.Touched.{entries_in}
 
 abbrev pub discard_of : Discarded → Discard
 discard_of d = record { stream = d.stream_id.0; number = d.message_id.0 }
@@ -30,7 +31,7 @@ last_tree l = record {
 }
 
 abbrev pub point_of : given.ForwardPoint → ForwardPoint
-point_of p = record { count = p.count; entries = p.entries.items }
+point_of p = record { count = p.count; entries = entries_in p.touched.items }
 
 abbrev pub chunk_of : Tsn × Data → ℕ × FragmentTree
 chunk_of c = (c.0.0, fragment_tree c.1)

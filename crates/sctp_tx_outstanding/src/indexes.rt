@@ -17,6 +17,7 @@ use crate::item::Item;
 use crate::kept::Change;
 use crate::last_blocks::LastBlocks;
 use crate::messages::Messages;
+use crate::passed::Passed;
 use crate::quiet::Quiet;
 use crate::totals::Totals;
 use crate::waiting::Waiting;
@@ -33,6 +34,7 @@ pub struct Indexes {
     pub messages: Messages,
     pub expiries: Expiries,
     pub quiet: Quiet,
+    pub passed: Passed,
 }
 
 /// The bytes of the payload of the item at the place.
@@ -91,6 +93,7 @@ impl Indexes {
             messages: Messages::new(alloc),
             expiries: Expiries::new(alloc),
             quiet: Quiet::new(alloc),
+            passed: Passed::new(alloc),
         }
     }
 
@@ -131,6 +134,7 @@ impl Indexes {
         self.messages.leave(item.message_id());
         self.expiries.leave(part.earliest);
         self.quiet.pass();
+        self.passed.leave();
     }
 
     /// The item at the place changed, by which one part of the totals came for another.

@@ -1,6 +1,6 @@
 //! The kept items, with their indexes.
 
-ghost use Rattle.std.specs.Prelude.{◌≡◌, ◌==◌, ◌+◌, true, Some, map, min, option_map, slice_get, nat_lt, sum_by, ◌<◌, ◌≤◌, ◌∷◌, ◌++◌, [], length, drop, take, OnOk, OnErr, IfSome, IfNone};
+ghost use Rattle.std.specs.Prelude.{◌≡◌, ◌==◌, ◌+◌, true, Some, map, min, option_map, slice_get, nat_lt, sum_by, ◌<◌, ◌≤◌, ◌∷◌, ◌++◌, [], length, drop, take, OnOk, OnErr, IfOk, IfSome, IfNone};
 ghost use Rattle.sctp_tx_outstanding.specs.Change.{apply_change};
 ghost use Rattle.std.specs.List.{All};
 ghost use Rattle.sctp_tx_outstanding.specs.Item.{NotBefore, earliest_of, never};
@@ -8,7 +8,8 @@ ghost use Rattle.sctp_tx_outstanding.specs.Expiries.{Expects, FindsDue};
 ghost use Rattle.sctp_tx_outstanding.specs.OutstandingData.{change_at, abandon_if_of, last_of, later_at, without_payload, packet_part, payload_part, flight_part, queued_part, fast_part};
 ghost use Rattle.sctp_tx_outstanding.specs.Totals.{Exchanges};
 ghost use Rattle.sctp_tx_outstanding.specs.Losses.{expires, placeholder};
-ghost use Rattle.sctp_tx_outstanding.specs.Views.{last_tree};
+ghost use Rattle.sctp_tx_outstanding.specs.Passed.{BeginsPoint};
+ghost use Rattle.sctp_tx_outstanding.specs.Views.{last_tree, point_of};
 ghost use Rattle.sctp_tx_outstanding.specs.LastBlocks.{Rest, RestBelow, RestFrom};
 ghost use Rattle.sctp_tx_outstanding.specs.Sack.{all_leaving_events};
 ghost use Rattle.sctp_tx_outstanding.specs.Messages.{Finds, NoneIsOf};
@@ -24,6 +25,7 @@ use crate::indexes::Indexes;
 use crate::item::{Item, header_size};
 use crate::last_blocks::{alike, reach};
 use crate::messages::Messages;
+use crate::passed::ForwardPoint;
 use crate::quiet::flies;
 use crate::sack::highest_end;
 use crate::totals::Totals;
@@ -502,6 +504,29 @@ impl Kept {
     {
         list_all(&self.items, &mut self.indexes.messages);
         self.indexes.messages.hold(self.items.len());
+    }
+
+    /// Looks up how far a forward point goes, up to this place at most, in a chunk of this size.
+    pub(crate) fn find_passed(&mut self, end: usize, max_size: usize)
+        ensures { self.new ≡ self.old }
+    {
+        self.indexes
+            .passed
+            .go_on(&self.items, self.is_interleaved, end, max_size);
+    }
+
+    /// A forward point over the first items as far as they are known, up to this place at most, in a chunk of this size.
+    pub(crate) fn begun_point(
+        &self,
+        alloc: Global,
+        end: usize,
+        max_size: usize,
+    ) -> Result<ForwardPoint, AllocError>
+        ensures { IfOk result (λ p. BeginsPoint max_size end self.now.is_interleaved self.now.items (point_of p)) }
+    {
+        self.indexes
+            .passed
+            .point(alloc, &self.items, self.is_interleaved, end, max_size)
     }
 
     /// The place from this one on up to which no item is of the message.

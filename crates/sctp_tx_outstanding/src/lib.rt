@@ -11,6 +11,7 @@ mod last_blocks;
 pub mod laws;
 mod messages;
 pub mod outstanding_data;
+mod passed;
 mod quiet;
 pub mod sack;
 pub mod skips;

@@ -17,6 +17,7 @@ ghost use Rattle.sctp_tx_outstanding.specs.Expiries.{FindsDue};
 ghost use Rattle.sctp_tx_outstanding.specs.Interrupted.{Same, SomeNacked, SomeExpired, SackPartlyTaken};
 ghost use Rattle.sctp_tx_outstanding.specs.Forward.{is_forward_due, entry_at, stops, passes_of, forward_point};
 ghost use Rattle.sctp_tx_outstanding.specs.Point.{Ascend};
+ghost use Rattle.sctp_tx_outstanding.specs.Touched.{entries_in};
 ghost use Rattle.sctp_tx_outstanding.specs.Sack.{sample, is_in_range, is_valid, staying, leaving, departing_bytes, all_leaving_events, receive_sack, acked_bytes, highest_end};
 ghost use Rattle.sctp_state.specs.Events.{first_of};
 
@@ -28,8 +29,9 @@ use crate::breakpoints::Breakpoints;
 use crate::expiries::Due;
 use crate::item::Item;
 use crate::kept::{Change, Kept, placeholder};
+use crate::passed::ForwardPoint;
 use crate::sack::{AckInfo, highest_end, settle_all, take_out};
-use crate::skips::{SkipEntry, chunk_size_with, mid_skips, put_if, ssn_skips};
+use crate::skips::{SkipEntry, Touched, chunk_size_with, entry_of, mid_skips, put_if, ssn_skips};
 use sctp_chunk::{
     Data, ForwardTsnChunk, GapAckBlock, IForwardTsnChunk, SackChunk, SpareBuffers, are_runs,
 };
@@ -606,19 +608,7 @@ impl OutstandingData {
         ensures { result ≡ entry_at self.now.items place }
     {
         let item = self.kept.get(place)?;
-        let fragment = item.data();
-        if !self.kept.is_interleaved() && fragment.stream_key.is_unordered() {
-            return None;
-        }
-        Some(SkipEntry {
-            stream_id: fragment.stream_key.id(),
-            is_unordered: fragment.stream_key.is_unordered(),
-            number: if self.kept.is_interleaved() {
-                fragment.mid.0
-            } else {
-                u32::from(fragment.ssn.0)
-            },
-        })
+        entry_of(item, self.kept.is_interleaved())
     }
 
     /// How many items stand before the first breakpoint that ends a forward point, or all, if none does.
@@ -635,10 +625,10 @@ impl OutstandingData {
     }
 
     /// Whether a forward point passes the item at the place too, before which no breakpoint ends it.
-    fn passes(&self, place: usize, entries: &[SkipEntry], max_size: usize) -> bool
+    fn passes(&self, place: usize, touched: &[Touched], max_size: usize) -> bool
         requires unbroken { stops place self.now.items ≡ false }
-        requires ascending { Ascend entries.now }
-        ensures { result ≡ passes_of max_size self.now.items (record { count = place; entries = entries.now }) (slice_get self.now.items.kept place) }
+        requires ascending { Ascend (entries_in touched.now) }
+        ensures { result ≡ passes_of max_size self.now.items (record { count = place; entries = entries_in touched.now }) (slice_get self.now.items.kept place) }
     {
         let Some(item) = self.kept.get(place) else {
             return false;
@@ -647,27 +637,36 @@ impl OutstandingData {
             return false;
         }
         let entry = self.entry_at(place);
-        chunk_size_with(self.kept.is_interleaved(), entry, entries) <= max_size as u128
+        chunk_size_with(self.kept.is_interleaved(), entry, touched) <= max_size as u128
     }
 
-    /// The entries of a forward point, and how many items it passes.
+    /// Looks up how far a forward point goes that fits `max_size` bytes, so that it goes on from there later.
+    pub fn prepare_forward_point(&mut self, max_size: usize)
+        ensures { self.new ≡ self.old }
+    {
+        let end = self.items_before_break();
+        self.kept.find_passed(end, max_size);
+    }
+
+    /// The streams of a forward point, and how many items it passes.
     fn forward_point(&self, max_size: usize) -> Result<ForwardPoint, AllocError>
         ensures { IfOk result (λ p. point_of p ≡ forward_point max_size self.now.items) }
     {
-        let mut entries = Vec::new(self.alloc);
         let end = self.items_before_break();
-        for place in 0..end {
-            if !self.passes(place, &entries, max_size) {
+        let begun = self.kept.begun_point(self.alloc, end, max_size)?;
+        let mut touched = begun.touched;
+        for place in begun.count..end {
+            if !self.passes(place, &touched, max_size) {
                 return Ok(ForwardPoint {
                     count: place,
-                    entries,
+                    touched,
                 });
             }
-            put_if(&mut entries, self.entry_at(place))?;
+            put_if(&mut touched, self.entry_at(place), place as u128)?;
         }
         Ok(ForwardPoint {
             count: end,
-            entries,
+            touched,
         })
     }
 
@@ -681,7 +680,7 @@ impl OutstandingData {
         let point = self.forward_point(max_size)?;
         Ok(ForwardTsnChunk {
             new_cumulative_tsn: self.tsn_behind(point.count),
-            skipped_streams: ssn_skips(self.alloc, &point.entries)?,
+            skipped_streams: ssn_skips(self.alloc, &point.touched)?,
         })
     }
 
@@ -694,7 +693,7 @@ impl OutstandingData {
         let point = self.forward_point(max_size)?;
         Ok(IForwardTsnChunk {
             new_cumulative_tsn: self.tsn_behind(point.count),
-            skipped_streams: mid_skips(self.alloc, &point.entries)?,
+            skipped_streams: mid_skips(self.alloc, &point.touched)?,
         })
     }
 
@@ -746,11 +745,4 @@ struct Filling {
     chunks: Vec<(Tsn, Data)>,
     room: usize,
     window: usize,
-}
-
-// How far a forward point goes.
-#[derive(Drop)]
-struct ForwardPoint {
-    count: usize,
-    entries: Vec<SkipEntry>,
 }

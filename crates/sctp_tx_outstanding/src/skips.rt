@@ -1,11 +1,13 @@
-//! Entries of forward points, which ascend by stream, so that one is found by halves.
+//! Entries of forward points, which ascend by stream, so that one is found by halves. Each has the number of its last item.
 
 ghost use Rattle.std.specs.Prelude.{◌≡◌, ◌+◌, ◌<◌, ◌≤◌, length, map, IfOk, OnOk, OnErr, ◌&&◌};
 ghost use Rattle.std.specs.List.{list_any};
-ghost use Rattle.sctp_tx_outstanding.specs.Forward.{is_before, is_alike, put_entry, entries_before, size_with, with_entry};
+ghost use Rattle.sctp_tx_outstanding.specs.Forward.{entry_of, is_before, is_alike, entries_before, size_with};
+ghost use Rattle.sctp_tx_outstanding.specs.Touched.{entries_in, put_touched, touched_with};
 ghost use Rattle.sctp_tx_outstanding.specs.Entries.{ssn_skip, mid_skip};
 ghost use Rattle.sctp_tx_outstanding.specs.Point.{Ascend};
 
+use crate::item::Item;
 use sctp_chunk::SkippedStream;
 use sctp_serial::{Mid, Ssn, StreamId, StreamKey};
 use std::alloc::{AllocError, Global};
@@ -51,70 +53,103 @@ impl SkipEntry {
     }
 }
 
-/// How many entries stand before the place of this one, found by halves.
-fn place_of(entries: &[SkipEntry], entry: SkipEntry) -> usize
-    requires { Ascend entries.now }
-    ensures place { result ≡ entries_before entry entries.now }
-    ensures within { result ≤ length entries.now }
+/// An entry, and the number of the last item that has it.
+#[derive(Clone, Copy)]
+pub struct Touched {
+    pub entry: SkipEntry,
+    pub last: u128,
+}
+
+/// What an item says of its stream.
+pub(crate) fn entry_of(item: &Item, is_interleaved: bool) -> Option<SkipEntry>
+    ensures { result ≡ entry_of is_interleaved item.now }
 {
-    entries.partition_point(|other| other.is_before(&entry))
+    let fragment = item.data();
+    if !is_interleaved && fragment.stream_key.is_unordered() {
+        return None;
+    }
+    Some(SkipEntry {
+        stream_id: fragment.stream_key.id(),
+        is_unordered: fragment.stream_key.is_unordered(),
+        number: if is_interleaved {
+            fragment.mid.0
+        } else {
+            u32::from(fragment.ssn.0)
+        },
+    })
+}
+
+/// How many entries stand before the place of this one, found by halves.
+fn place_of(touched: &[Touched], entry: SkipEntry) -> usize
+    requires { Ascend (entries_in touched.now) }
+    ensures place { result ≡ entries_before entry (entries_in touched.now) }
+    ensures within { result ≤ length touched.now }
+{
+    touched.partition_point(|other| other.entry.is_before(&entry))
 }
 
 /// Whether an entry of the same stream and order is among these.
-fn is_named(entries: &[SkipEntry], entry: SkipEntry) -> bool
-    requires { Ascend entries.now }
-    ensures { result ≡ list_any (is_alike entry) entries.now }
+fn is_named(touched: &[Touched], entry: SkipEntry) -> bool
+    requires { Ascend (entries_in touched.now) }
+    ensures { result ≡ list_any (is_alike entry) (entries_in touched.now) }
 {
-    match entries.get(place_of(entries, entry)) {
-        Some(other) => entry.is_alike(other),
+    match touched.get(place_of(touched, entry)) {
+        Some(other) => entry.is_alike(&other.entry),
         None => false,
     }
 }
 
 /// Puts the entry at its place, or in the place of the one of its stream and order. Without memory nothing changes.
-fn put(entries: &mut Vec<SkipEntry>, entry: SkipEntry) -> Result<(), AllocError>
-    requires { Ascend entries.old.items }
-    ensures ok { OnOk result (entries.new.items ≡ put_entry entry entries.old.items) }
-    ensures err { OnErr result (entries.new.items ≡ entries.old.items) }
+fn put(touched: &mut Vec<Touched>, one: Touched) -> Result<(), AllocError>
+    requires { Ascend (entries_in touched.old.items) }
+    ensures ok { OnOk result (touched.new.items ≡ put_touched one touched.old.items) }
+    ensures err { OnErr result (touched.new.items ≡ touched.old.items) }
 {
-    let place = place_of(entries, entry);
-    if place < entries.len() && entry.is_alike(&entries[place]) {
-        entries[place] = entry;
+    let place = place_of(touched, one.entry);
+    if place < touched.len() && one.entry.is_alike(&touched[place].entry) {
+        touched[place] = one;
         return Ok(());
     }
-    entries.insert(place, entry)?;
+    touched.insert(place, one)?;
     Ok(())
 }
 
 pub(crate) fn ssn_skips(
     alloc: Global,
-    entries: &[SkipEntry],
+    touched: &[Touched],
 ) -> Result<Vec<SkippedStream>, AllocError>
-    ensures { IfOk result (λ skips. skips.items ≡ map ssn_skip entries.now) }
+    ensures { IfOk result (λ skips. skips.items ≡ map ssn_skip (entries_in touched.now)) }
 {
-    entries.iter().map(|entry| entry.ssn_skip()).collect(alloc)
+    touched
+        .iter()
+        .map(|one| one.entry.ssn_skip())
+        .collect(alloc)
 }
 
 pub(crate) fn mid_skips(
     alloc: Global,
-    entries: &[SkipEntry],
+    touched: &[Touched],
 ) -> Result<Vec<SkippedStream>, AllocError>
-    ensures { IfOk result (λ skips. skips.items ≡ map mid_skip entries.now) }
+    ensures { IfOk result (λ skips. skips.items ≡ map mid_skip (entries_in touched.now)) }
 {
-    entries.iter().map(|entry| entry.mid_skip()).collect(alloc)
+    touched
+        .iter()
+        .map(|one| one.entry.mid_skip())
+        .collect(alloc)
 }
 
-/// Puts the entry, if there is one, at its place. Without memory nothing changes.
+/// Puts the entry of the item of this number, if it has one, at its place. Without memory nothing changes.
 pub(crate) fn put_if(
-    entries: &mut Vec<SkipEntry>,
+    touched: &mut Vec<Touched>,
     entry: Option<SkipEntry>,
+    last: u128,
 ) -> Result<(), AllocError>
-    requires { Ascend entries.old.items }
-    ensures ok { OnOk result (entries.new.items ≡ with_entry entry entries.old.items) }
-    ensures err { OnErr result (entries.new.items ≡ entries.old.items) }
+    requires { Ascend (entries_in touched.old.items) }
+    ensures ok { OnOk result (touched.new.items ≡ touched_with entry last touched.old.items) }
+    ensures err { OnErr result (touched.new.items ≡ touched.old.items) }
 {
     if let Some(entry) = entry {
-        put(entries, entry)?;
+        put(touched, Touched { entry, last })?;
     }
     Ok(())
 }
@@ -123,15 +158,15 @@ pub(crate) fn put_if(
 pub(crate) fn chunk_size_with(
     is_interleaved: bool,
     entry: Option<SkipEntry>,
-    entries: &[SkipEntry],
+    touched: &[Touched],
 ) -> u128
-    requires { Ascend entries.now }
-    ensures { result ≡ size_with is_interleaved entry entries.now }
+    requires { Ascend (entries_in touched.now) }
+    ensures { result ≡ size_with is_interleaved entry (entries_in touched.now) }
 {
     let entry_size = if is_interleaved { 8 } else { 4 };
     let more = match entry {
-        Some(entry) if !is_named(entries, entry) => 1,
+        Some(entry) if !is_named(touched, entry) => 1,
         _ => 0,
     };
-    8 + entry_size * (entries.len() as u128 + more)
+    8 + entry_size * (touched.len() as u128 + more)
 }

@@ -20,8 +20,8 @@ fn due(line: &Line<'_>) -> Option<SocketTime> {
     if due.flag { Some(due.moment()) } else { None }
 }
 
-/// `send STREAM SSN MESSAGE BYTES LIMIT END LIFECYCLE DUE`: an ordered fragment that is sent at moment 0, with its limit of
-/// retransmissions, and the moment from which it isn't worth sending, 0 if there is none.
+/// `send STREAM SSN MESSAGE BYTES LIMIT END LIFECYCLE DUE UNORDERED`: a fragment that is sent at moment 0, with its limit of
+/// retransmissions, and the moment from which it isn't worth sending, 0 if there is none. Its MID is its SSN.
 fn send(alloc: Global, data: &mut OutstandingData, line: &Line<'_>) -> Answer {
     match bytes(alloc, usize::from(line.fourth.half)) {
         Ok(payload) => insert(data, payload, line),
@@ -35,9 +35,9 @@ fn insert(data: &mut OutstandingData, payload: Vec<u8>, line: &Line<'_>) -> Answ
         return Answer::Refused;
     }
     let fragment = Data {
-        stream_key: StreamKey::Ordered(StreamId(line.first.half)),
+        stream_key: StreamKey::new(line.number(9).flag, StreamId(line.first.half)),
         ssn: Ssn(line.second.half),
-        mid: Mid(0),
+        mid: Mid(u32::from(line.second.half)),
         fsn: Fsn(0),
         ppid: PpId(53),
         payload,
@@ -118,6 +118,12 @@ fn point(data: &OutstandingData, size: usize, output: &mut Output) -> Answer {
             Err(_) => Answer::NoMemory,
         }
     }
+}
+
+/// `prepare SIZE`: looks up how far a forward point of this size goes.
+fn prepare(data: &mut OutstandingData, size: usize) -> Answer {
+    data.prepare_forward_point(size);
+    Answer::Done
 }
 
 fn push_discarded(output: &mut Output, message: Discarded) {
@@ -247,6 +253,7 @@ fn change(data: &mut OutstandingData, events: &mut Events, line: &Line<'_>) -> A
         "time-out" => done(data.nack_all(events)),
         "expire" => done(data.expire_outstanding_chunks(line.first.moment(), events)),
         "begin-reset" => done(data.begin_reset_streams()),
+        "prepare" => prepare(data, line.first.size),
         _ => asked(data, line),
     }
 }

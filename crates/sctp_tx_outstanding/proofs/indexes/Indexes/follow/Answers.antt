@@ -5,11 +5,13 @@ use Rattle.sctp_tx_outstanding.specs.OutstandingData.{change_at}
 use Rattle.sctp_tx_outstanding.specs.LastBlocks.{Knows}
 use Rattle.sctp_tx_outstanding.specs.Messages.{Finds}
 use Rattle.sctp_tx_outstanding.specs.Expiries.{Expects}
+use Rattle.sctp_tx_outstanding.specs.Passed.{IsPassed}
 use Rattle.sctp_tx_outstanding.specs.Quiet.{IsQuiet}
 use Rattle.sctp_tx_outstanding.specs.Totals.{replace_part, AreTotals}
 use Rattle.sctp_tx_outstanding.proofs.TotalsLemmas.{totals_changed, totals_as, length_change, has_part}
 use Rattle.sctp_tx_outstanding.proofs.MessagesLemmas.{finds_changed}
 use Rattle.sctp_tx_outstanding.proofs.ExpiriesLemmas.{moves_changed}
+use Rattle.sctp_tx_outstanding.proofs.PassedLemmas.{passed_changed}
 use Rattle.sctp_tx_outstanding.proofs.indexes.Indexes.follow.Goals as goal
 
 pub returns : goal.returns
@@ -29,5 +31,7 @@ returns c = λ m is changed parts before.
       waiting = c.follow_waiting.ensures m how is changed parts totals.queued before.waiting;
       messages = subst (λ (xs : List Item). Finds c.args.self.now.messages xs) (sym changed) (finds_changed c.args.self.now.messages how k is before.messages);
       expiries = subst (λ (xs : List Item). Expects c.renew.new.self xs) (sym changed) (c.renew.ensures is js (moves_changed m how k is old new parts) before.expiries);
+      passed = subst (λ (xs : List Item). IsPassed m xs c.args.self.now.passed) (sym changed)
+          (passed_changed how m k is c.args.self.now.passed.count c.args.self.now.passed.left c.args.self.now.passed.touched.items before.passed);
       quiet = subst (λ (xs : List Item). IsQuiet c.follow_quiet.new.quiet xs) (sym changed) (c.follow_quiet.ensures m how is parts before.quiet);
     }

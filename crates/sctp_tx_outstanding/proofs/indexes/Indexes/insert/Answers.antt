@@ -7,6 +7,7 @@ use Rattle.sctp_tx_outstanding.specs.Totals.{replace_part, nothing, parts}
 use Rattle.sctp_tx_outstanding.proofs.TotalsLemmas.{totals_pushed, totals_as}
 use Rattle.sctp_tx_outstanding.proofs.WaitingLemmas.{turns_pushed, stays_pushed}
 use Rattle.sctp_tx_outstanding.proofs.ExpiriesLemmas.{moves_pushed}
+use Rattle.sctp_tx_outstanding.proofs.PassedLemmas.{passed_before}
 use Rattle.sctp_tx_outstanding.proofs.QuietLemmas.{still_pushed}
 use Rattle.sctp_tx_outstanding.proofs.indexes.Indexes.insert.Goals as goal
 
@@ -38,7 +39,7 @@ returns c =
     let earliest = ap (λ (t : Totals). t.earliest) c.of-part.ensures in
     let exchanged : c.with_part-self.result ≡ replace_part nothing (parts m i) old.totals =
     c.with_part-self.ensures ∙ ap (λ (t : Totals). replace_part nothing t old.totals) c.of-part.ensures in
-    subst (λ (js : List Item). AreIndexes m js (record { totals = c.with_part-self.result; last_blocks = c.take.new.self; waiting = c.follow.new.self; messages = c.add.new.self; expiries = c.renew.new.self; quiet = c.stir.new.self })) (sym all)
+    subst (λ (js : List Item). AreIndexes m js (record { totals = c.with_part-self.result; last_blocks = c.take.new.self; waiting = c.follow.new.self; messages = c.add.new.self; expiries = c.renew.new.self; quiet = c.stir.new.self; passed = old.passed })) (sym all)
     (record {
       totals = totals_as m (is ++ i ∷ []) (is ++ i ∷ []) (replace_part nothing (parts m i) old.totals) c.with_part-self.result
           (totals_pushed m is i old.totals before.totals few (omega (arith, size.size, size.small))) refl exchanged;
@@ -47,5 +48,6 @@ returns c =
           (stays_pushed c.payload_size.result c.should_be_retransmitted.result is i waits size.size) before.waiting;
       messages = c.add.ensures is i count (sym c.message_id.ensures) before.messages;
       expiries = c.renew.ensures is (is ++ i ∷ []) (moves_pushed place never c.of-part.result.earliest is i count refl earliest) before.expiries;
+      passed = passed_before m is (i ∷ []) old.passed.count old.passed.left old.passed.touched.items before.passed;
       quiet = c.stir.ensures is (is ++ i ∷ []) (still_pushed is i place count) before.quiet;
     })

@@ -25,4 +25,5 @@ returns c =
       messages = c.leave.ensures i is (sym c.message_id.ensures) c.requires.messages;
       expiries = c.leave-2.ensures i is (sym (ap (λ (t : Totals). t.earliest) c.of-part.ensures)) c.requires.expiries;
       quiet = c.pass-3.ensures i is c.requires.quiet;
+      passed = c.leave-3.ensures m i is c.requires.passed;
     }

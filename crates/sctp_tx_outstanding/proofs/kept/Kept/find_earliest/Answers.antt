@@ -19,4 +19,5 @@ invariant_of-self c =
       messages = before.messages;
       expiries = c.expect_all.ensures;
       quiet = before.quiet;
+      passed = before.passed;
     }
