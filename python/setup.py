@@ -1,5 +1,5 @@
 # SPDX-License-Identifier: Apache-2.0
-"""Puts the library into the wheel: the one that SHELFPIGEON_LIBRARY names, or build/libshelfpigeon.so.0.1 of the repository."""
+"""Puts the licence and the library into the wheel: the one that SHELFPIGEON_LIBRARY names, or build/libshelfpigeon.so.0.1 of the repository."""
 import os
 import shutil
 from pathlib import Path
@@ -22,7 +22,10 @@ class BuildWithLibrary(build_py):
         library = Path(os.environ.get("SHELFPIGEON_LIBRARY") or Path(__file__).resolve().parents[1] / "build" / NAME)
         if not library.exists():
             raise SystemExit(f"there is no {library}: scripts/c-library of the repository builds it, or SHELFPIGEON_LIBRARY names it")
-        shutil.copy(library, Path(self.build_lib) / "shelfpigeon" / NAME)
+        to = Path(self.build_lib) / "shelfpigeon"
+        shutil.copy(library, to / NAME)
+        for licence in ("LICENSE", "NOTICE"):
+            shutil.copy(Path(__file__).resolve().parents[1] / licence, to)
 
 
 class WheelOfPlatform(bdist_wheel):
