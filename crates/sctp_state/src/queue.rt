@@ -8,15 +8,17 @@ use std::collections::VecDeque;
 const MOST_SPARE_PLACES: usize = 1_024;
 
 /// Takes the first of a queue. Where none is left the room of more than 1,024 is given back.
+#[inline(always)]
 pub fn take_first<T>(queue: &mut VecDeque<T>) -> Option<T>
     ensures first { result ≡ slice_get queue.old.items 0 }
     ensures rest { queue.new.items ≡ drop 1 queue.old.items }
     ensures taken { queue.old.items ≡ option_to_list result ++ queue.new.items }
     ensures none { IfNone result (queue.old.items ≡ []) }
 {
-    let first = queue.pop_front();
-    if queue.is_empty() && queue.capacity() > MOST_SPARE_PLACES {
-        queue.shrink_to_fit();
+    if queue.len() > 1 || queue.capacity() <= MOST_SPARE_PLACES {
+        return queue.pop_front();
     }
+    let first = queue.pop_front();
+    queue.shrink_to_fit();
     first
 }
