@@ -1,2 +1,3 @@
 pub mod RunLemmas
 pub mod PlaceLemmas
+pub mod PieceLemmas

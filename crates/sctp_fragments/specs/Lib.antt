@@ -4,3 +4,4 @@ pub mod KeyLaws
 pub mod Held
 pub mod Interval
 pub mod Entries
+pub mod Pieces

@@ -6,7 +6,7 @@ pub mod interval;
 mod message;
 pub mod reassembly_key;
 
-pub use interval::{Entries, Entry, Interval, goes_on_to};
+pub use interval::{Entries, Entry, Interval, Pieces, Size, goes_on_to};
 pub use message::message_of;
 pub use reassembly_key::{
     InterleavedKey, ReassemblyKey, TraditionalKey, UnorderedInterleavedKey, is_before, is_same,

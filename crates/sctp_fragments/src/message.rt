@@ -5,17 +5,32 @@ ghost use Rattle.sctp_serial.specs.Messages.{message_of};
 ghost use Rattle.sctp_fragments.specs.Held.{bytes_of, message_of_run, payload_of};
 ghost use Rattle.sctp_fragments.specs.Interval.{held_of, run_of};
 
-use crate::interval::{Entries, Interval};
+use crate::interval::{Entries, Entry, Interval};
 use crate::reassembly_key::ReassemblyKey;
 use sctp_chunk::SpareBuffers;
 use sctp_serial::Message;
 use std::alloc::{AllocError, Global};
+use std::collections::VecDeque;
+
+/// Keeps the buffers of the entries' payloads.
+fn keep_all<K: ReassemblyKey>(spares: &mut SpareBuffers, entries: VecDeque<Entry<K>>) {
+    for entry in entries {
+        spares.keep(entry.fragment.payload);
+    }
+}
 
 /// Keeps the buffers of an interval's payloads.
 fn keep_buffers<K: ReassemblyKey>(spares: &mut SpareBuffers, interval: Interval<K>) {
-    if let Entries::Many(entries) = Box::into_inner(interval.entries) {
-        for entry in entries {
-            spares.keep(entry.fragment.payload);
+    match Box::into_inner(interval.entries) {
+        Entries::One(_, _) => {}
+        Entries::Many(entries) => keep_all(spares, entries),
+        Entries::Long(pieces) => {
+            let pieces = Box::into_inner(pieces);
+            keep_all(spares, pieces.first);
+            for piece in pieces.middle {
+                keep_all(spares, piece);
+            }
+            keep_all(spares, pieces.last);
         }
     }
 }
@@ -28,7 +43,7 @@ fn into_payload<K: ReassemblyKey>(
 ) -> Result<Vec<u8>, AllocError>
     ensures { IfOk result (λ payload. payload.items ≡ payload_of (run_of (held_of K.number K.index) interval)) }
 {
-    if interval.len() != 1 {
+    if !interval.is_single() {
         let payload = interval.collect_payload(alloc)?;
         keep_buffers(spares, interval);
         return Ok(payload);

@@ -17,7 +17,8 @@ use Rattle.sctp_fragments.specs.Runs.{last_of, end_of, AreRuns}
 use Rattle.sctp_fragments.specs.Held.{Held, rank_of, goes_on}
 use Rattle.sctp_fragments.specs.Interval.{held_of, run_of, lists_of}
 use Rattle.sctp_fragments.proofs.RunLemmas.{end_of_append}
-use Rattle.sctp_fragments.specs.Entries.{items_of, room_of}
+use Rattle.sctp_fragments.specs.Entries.{items_of}
+use Rattle.sctp_fragments.specs.declared.interval.entries.Entries.{Entries}
 use Rattle.sctp_reassembly.specs.Places.{AreNamed, AreLow, AreHigh, IsSplit, IsWithin, IsChanged, HasRoom, runs_at, last_key, first_key_of}
 
 nat_cmp_same : (k a : ℕ) → k ≡ a → nat_cmp k a ≡ Equal
@@ -214,9 +215,9 @@ module _ {K : Type 0} (cmp : K → K → Ordering) (is_key : K → Type 0) (numb
     run_is = run_is (read_there d found);
   }
 
-  pub room_at : (new : List (K × Interval K)) (d w : Interval K) (run : List Held) (count : ℕ) → Some d ≡ lookup (is_at (cmp k)) es → new ≡ set_value (is_at (cmp k)) es w → (d ≡ i → run_of (held_of number index) w ≡ run)
-      → length (items_of w.entries.value) + count ≤ room_of w.entries.value → HasRoom number index ps qs k run count new
-  room_at new d w run count found made run_is room = record {
+  pub room_at : (new : List (K × Interval K)) (d w : Interval K) (run : List Held) (Fits : Entries K → Type 0) → Some d ≡ lookup (is_at (cmp k)) es → new ≡ set_value (is_at (cmp k)) es w → (d ≡ i → run_of (held_of number index) w ≡ run)
+      → Fits w.entries.value → HasRoom number index ps qs k run Fits new
+  room_at new d w run Fits found made run_is room = record {
     interval = w;
     is = made ∙ (ap (λ (t : List (K × Interval K)). set_value (is_at (cmp k)) t w) is ∙ set_mid cmp is_key (rank_at number index) by_rank k p ps qs i w low);
     run_is = run_is (read_there d found);

@@ -6,7 +6,7 @@ use Rattle.sctp_fragments.specs.declared.interval.Interval.{Interval}
 use Rattle.sctp_fragments.specs.ReassemblyKey.{rank_at}
 use Rattle.sctp_fragments.specs.Runs.{flat, is_held, last_of, end_of, joins_left, joins_right, IsBelow, LeadsTo}
 use Rattle.sctp_fragments.specs.Held.{Held, rank_of, goes_on, bytes_of}
-use Rattle.sctp_fragments.specs.Entries.{items_of, room_of}
+use Rattle.sctp_fragments.specs.declared.interval.entries.Entries.{Entries}
 use Rattle.sctp_fragments.specs.Interval.{held_of, run_of, lists_of, entries_of, IsInRuns, IsInserted, AreIndexed}
 
 -- the intervals in order
@@ -80,12 +80,12 @@ pub record IsChanged {K : Type 0} (number index : K → ℕ) (ps qs : List (K ×
   pub is : new ≡ ps ++ (key, interval) ∷ qs
   pub run_is : run_of (held_of number index) interval ≡ run
 
--- the same, and there is room for so many entries more
-pub record HasRoom {K : Type 0} (number index : K → ℕ) (ps qs : List (K × Interval K)) (key : K) (run : List Held) (count : ℕ) (new : List (K × Interval K)) : Type 0 where
+-- the same, and its entries have room
+pub record HasRoom {K : Type 0} (number index : K → ℕ) (ps qs : List (K × Interval K)) (key : K) (run : List Held) (Fits : Entries K → Type 0) (new : List (K × Interval K)) : Type 0 where
   pub interval : Interval K
   pub is : new ≡ ps ++ (key, interval) ∷ qs
   pub run_is : run_of (held_of number index) interval ≡ run
-  pub room : length (items_of interval.entries.value) + count ≤ room_of interval.entries.value
+  pub room : Fits interval.entries.value
 
 -- two keys of entries one after the other
 pub record AreBeside {K X : Type 0} (is_key : K → Type 0) (rank : K → ℕ) (first second : K) (es : List (K × X)) : Type 0 where

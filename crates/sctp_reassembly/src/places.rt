@@ -2,7 +2,7 @@
 
 ghost use Rattle.std.specs.Prelude.{◌≡◌, ◌==◌, ◌+◌, ◌<◌, ◌≤◌, ◌^◌, ◌++◌, ◌∷◌, [], List, Option, Some, None, suc, true, false, length, IfOk, OnOk, OnErr, IfSome, IfNone};
 ghost use Rattle.std.specs.Option.{option_to_list};
-ghost use Rattle.sctp_fragments.specs.Entries.{items_of};
+ghost use Rattle.sctp_fragments.specs.Entries.{size_of, FitsBehind, FitsBefore};
 ghost use Rattle.sctp_fragments.specs.Held.{Held, rank_of, goes_on, is_complete, is_in_turn, NoneInTurn};
 ghost use Rattle.sctp_fragments.specs.Runs.{is_next, is_held, flat, last_of, end_of, joins_left, AreRuns, IsBelow, LeadsTo};
 ghost use Rattle.sctp_fragments.specs.ReassemblyKey.{rank_at};
@@ -11,7 +11,7 @@ ghost use Rattle.sctp_fragments.specs.declared.interval.Interval.{Interval};
 ghost use Rattle.sctp_reassembly.specs.Turns.{IsFirstOut, IsFirstPassing};
 ghost use Rattle.sctp_reassembly.specs.Places.{AreBeside, HasRoom, Holds, IsAmong, IsOut, IsFirstAt, all_of, runs_at, AreNamed, AreLow, AreHigh, IsLed, IsSplit, IsChanged, IsJoined, AreJoined, IsAdded, IsAnswer, IsSame, next_of, previous_of, ends_from, first_key_of, last_key};
 
-use sctp_fragments::{Entries, Entry, Interval, ReassemblyKey, goes_on_to, is_before};
+use sctp_fragments::{Entries, Entry, Interval, ReassemblyKey, Size, goes_on_to, is_before};
 use std::alloc::{AllocError, Global};
 use std::collections::BTreeMap;
 
@@ -55,8 +55,8 @@ pub(crate) fn drop_first<K: ReassemblyKey>(
     let Some(interval) = first else {
         return 0;
     };
-    if interval.len() == 1 {
-        let bytes = interval.at(0).fragment.payload.len();
+    if interval.is_single() {
+        let bytes = interval.first().fragment.payload.len();
         drop(take_first(first, later));
         return bytes;
     }
@@ -571,37 +571,51 @@ fn push_back_at<K: ReassemblyKey>(
     Ok(())
 }
 
-/// How many entries the interval at the place has.
-fn count_at<K: ReassemblyKey>(later: &BTreeMap<K, Interval<K>>, place: K) -> usize
-    ensures small { result < 2 ^ 63 }
-    ensures count { (ps qs : List (K × Interval K)) (i : Interval K) → later.now.entries ≡ ps ++ (place, i) ∷ qs → AreLow K.is_key (rank_at K.number K.index) (rank_at K.number K.index place) ps → result ≡ length (items_of i.entries.value) }
+/// How much room the interval at the place takes at another one.
+fn size_at<K: ReassemblyKey>(later: &BTreeMap<K, Interval<K>>, place: K) -> Size
+    ensures { (ps qs : List (K × Interval K)) (i : Interval K) → later.now.entries ≡ ps ++ (place, i) ∷ qs → AreLow K.is_key (rank_at K.number K.index) (rank_at K.number K.index place) ps → result ≡ size_of i.entries.value }
 {
     place.known();
     match later.get(&place) {
-        Some(interval) => interval.len(),
-        None => 0,
+        Some(interval) => interval.size(),
+        None => Size::Entries(0),
     }
 }
 
-/// Makes room at the interval at the place.
-fn reserve_at<K: ReassemblyKey>(
+/// Makes room behind the interval at the place for one of this size.
+fn reserve_behind<K: ReassemblyKey>(
     later: &mut BTreeMap<K, Interval<K>>,
     place: K,
-    count: usize,
+    size: Size,
 ) -> Result<(), AllocError>
-    requires { count ≤ 2 ^ 63 }
-    ensures ok { OnOk result ((ps qs : List (K × Interval K)) (i : Interval K) → later.old.entries ≡ ps ++ (place, i) ∷ qs → AreLow K.is_key (rank_at K.number K.index) (rank_at K.number K.index place) ps → HasRoom K.number K.index ps qs place (run_of (held_of K.number K.index) i) count later.new.entries) }
+    ensures ok { OnOk result ((ps qs : List (K × Interval K)) (i : Interval K) → later.old.entries ≡ ps ++ (place, i) ∷ qs → AreLow K.is_key (rank_at K.number K.index) (rank_at K.number K.index place) ps → HasRoom K.number K.index ps qs place (run_of (held_of K.number K.index) i) (FitsBehind size) later.new.entries) }
     ensures kept { (ps qs : List (K × Interval K)) (i : Interval K) → later.old.entries ≡ ps ++ (place, i) ∷ qs → AreLow K.is_key (rank_at K.number K.index) (rank_at K.number K.index place) ps → IsChanged K.number K.index ps qs place (run_of (held_of K.number K.index) i) later.new.entries }
 {
     place.known();
     let Some(interval) = later.get_mut(&place) else {
         return Err(AllocError);
     };
-    interval.reserve(count)
+    interval.reserve_behind(size)
 }
 
-/// Makes one interval of the first and the next one with the entry between them. The shorter one's entries move, so that an
-/// entry moves no more often than the logarithm of how many there are.
+/// The same in front of it.
+fn reserve_before<K: ReassemblyKey>(
+    later: &mut BTreeMap<K, Interval<K>>,
+    place: K,
+    size: Size,
+) -> Result<(), AllocError>
+    ensures ok { OnOk result ((ps qs : List (K × Interval K)) (i : Interval K) → later.old.entries ≡ ps ++ (place, i) ∷ qs → AreLow K.is_key (rank_at K.number K.index) (rank_at K.number K.index place) ps → HasRoom K.number K.index ps qs place (run_of (held_of K.number K.index) i) (FitsBefore size) later.new.entries) }
+    ensures kept { (ps qs : List (K × Interval K)) (i : Interval K) → later.old.entries ≡ ps ++ (place, i) ∷ qs → AreLow K.is_key (rank_at K.number K.index) (rank_at K.number K.index place) ps → IsChanged K.number K.index ps qs place (run_of (held_of K.number K.index) i) later.new.entries }
+{
+    place.known();
+    let Some(interval) = later.get_mut(&place) else {
+        return Err(AllocError);
+    };
+    interval.reserve_before(size)
+}
+
+/// Makes one interval of the first and the next one with the entry between them. What the shorter one has moves, its entries or,
+/// where it is long, its pieces.
 fn join_first<K: ReassemblyKey>(
     first: &mut Interval<K>,
     later: &mut BTreeMap<K, Interval<K>>,
@@ -613,7 +627,7 @@ fn join_first<K: ReassemblyKey>(
     ensures first { OnErr result (run_of (held_of K.number K.index) first.new ≡ run_of (held_of K.number K.index) first.old) }
     ensures later { OnErr result ((j : Interval K) (qs : List (K × Interval K)) → later.old.entries ≡ (place, j) ∷ qs → IsChanged K.number K.index [] qs place (run_of (held_of K.number K.index) j) later.new.entries) }
 {
-    if first.len() < count_at(later, place) {
+    if first.size().is_below(size_at(later, place)) {
         return join_first_to_second(first, later, place, entry);
     }
     join_second_to_first(first, later, place, entry)
@@ -632,8 +646,8 @@ fn join_second_to_first<K: ReassemblyKey>(
     ensures later { OnErr result ((j : Interval K) (qs : List (K × Interval K)) → later.old.entries ≡ (place, j) ∷ qs → IsChanged K.number K.index [] qs place (run_of (held_of K.number K.index) j) later.new.entries) }
 {
     place.known();
-    let count = count_at(later, place);
-    first.reserve(count + 1)?;
+    let size = size_at(later, place);
+    first.reserve_behind(size)?;
     let Some(moved) = later.remove(&place) else {
         return Err(AllocError);
     };
@@ -654,8 +668,7 @@ fn join_first_to_second<K: ReassemblyKey>(
     ensures later { OnErr result ((j : Interval K) (qs : List (K × Interval K)) → later.old.entries ≡ (place, j) ∷ qs → IsChanged K.number K.index [] qs place (run_of (held_of K.number K.index) j) later.new.entries) }
 {
     place.known();
-    let count = first.len();
-    reserve_at(later, place, count + 1)?;
+    reserve_before(later, place, first.size())?;
     let Some(next) = later.remove(&place) else {
         return Err(AllocError);
     };
@@ -677,7 +690,7 @@ fn join<K: ReassemblyKey>(
 {
     place.known();
     next.known();
-    if count_at(later, place) < count_at(later, next) {
+    if size_at(later, place).is_below(size_at(later, next)) {
         return join_to_second(later, place, next, entry);
     }
     join_to_first(later, place, next, entry)
@@ -696,8 +709,8 @@ fn join_to_first<K: ReassemblyKey>(
 {
     place.known();
     next.known();
-    let count = count_at(later, next);
-    reserve_at(later, place, count + 1)?;
+    let size = size_at(later, next);
+    reserve_behind(later, place, size)?;
     let Some(moved) = later.remove(&next) else {
         return Err(AllocError);
     };
@@ -721,8 +734,8 @@ fn join_to_second<K: ReassemblyKey>(
 {
     place.known();
     next.known();
-    let count = count_at(later, place);
-    reserve_at(later, next, count + 1)?;
+    let size = size_at(later, place);
+    reserve_before(later, next, size)?;
     let Some(moved) = later.remove(&place) else {
         return Err(AllocError);
     };

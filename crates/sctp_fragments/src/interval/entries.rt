@@ -1,11 +1,12 @@
 //! The entries of an interval.
 
-ghost use Rattle.std.specs.Prelude.{◌≡◌, ◌+◌, ◌<◌, ◌≤◌, ◌^◌, ◌++◌, ◌∷◌, [], length, is_ok, if◌then◌else◌, IfOk, OnOk, IsSome, slice_index_or};
+ghost use Rattle.std.specs.Prelude.{◌≡◌, ◌==◌, ◌+◌, ◌-◌, ◌<◌, ◌≤◌, ◌++◌, ◌∷◌, [], length, is_ok, if◌then◌else◌, IfOk, OnOk, IsSome, slice_index_or};
 ghost use Rattle.std.specs.Option.{option_to_list};
-ghost use Rattle.std.specs.VecDeque.{deque_len, deque_capacity};
-ghost use Rattle.sctp_fragments.specs.Entries.{items_of, room_of, IsOne, IsMany};
+ghost use Rattle.std.specs.VecDeque.{deque_len};
+ghost use Rattle.sctp_fragments.specs.Entries.{items_of, size_of, spare_behind, spare_before, FitsBehind, FitsBefore, IsOne, IsMany, IsLong};
 
-use crate::interval::{Entry, Interval};
+use crate::interval::pieces::{FULL, Pieces, give_room_back};
+use crate::interval::{Entry, Interval, Size};
 use crate::reassembly_key::ReassemblyKey;
 use std::alloc::{AllocError, Global};
 use std::collections::VecDeque;
@@ -17,65 +18,50 @@ pub enum Entries<K> {
     One(Global, Entry<K>),
     /// One or more.
     Many(VecDeque<Entry<K>>),
-}
-
-/// Puts the entry and then the others behind these, where there is room.
-fn append_to<K: Copy>(
-    entries: &mut VecDeque<Entry<K>>,
-    entry: Entry<K>,
-    mut others: VecDeque<Entry<K>>,
-)
-    requires { deque_len entries.old + (deque_len others + 1) ≤ deque_capacity entries.old }
-    ensures { entries.new.items ≡ entries.old.items ++ entry ∷ others.items }
-{
-    entries.push_back_reserved(entry);
-    while let Some(next) = others.pop_front() {
-        entries.push_back_reserved(next);
-    }
-}
-
-/// Puts the others and then the entry in front of these, where there is room.
-fn prepend_to<K: Copy>(
-    entries: &mut VecDeque<Entry<K>>,
-    entry: Entry<K>,
-    mut others: VecDeque<Entry<K>>,
-)
-    requires { deque_len entries.old + (deque_len others + 1) ≤ deque_capacity entries.old }
-    ensures { entries.new.items ≡ others.items ++ entry ∷ entries.old.items }
-{
-    entries.push_front_reserved(entry);
-    while let Some(last) = others.pop_back() {
-        entries.push_front_reserved(last);
-    }
+    /// So many that they stand in pieces.
+    Long(Box<Pieces<K>>),
 }
 
 /// Moves a single entry to where there is room for more.
-fn widen<K: Copy>(entries: &mut Entries<K>, room: VecDeque<Entry<K>>)
-    requires one { IsOne entries.old }
-    requires none { room.items ≡ [] }
-    requires empty { deque_len room ≡ 0 }
-    requires room { 0 < deque_capacity room }
+fn widen<K: Copy>(entries: &mut Entries<K>) -> Result<(), AllocError>
     ensures items { items_of entries.new ≡ items_of entries.old }
-    ensures room { room_of entries.new ≡ deque_capacity room }
-    ensures many { IsMany entries.new }
+    ensures many { OnOk result (IsOne entries.old → IsMany entries.new) }
+    ensures other { OnOk result ((IsOne entries.old → ⊥) → entries.new ≡ entries.old) }
 {
-    let old = std::mem::replace(entries, Entries::Many(room));
-    let Entries::One(_, entry) = old else {
-        return;
+    let Entries::One(alloc, _) = entries else {
+        return Ok(());
     };
-    if let Entries::Many(many) = entries {
-        many.push_back_reserved(entry);
+    let room = VecDeque::with_capacity(*alloc, 2)?;
+    if let Entries::One(_, entry) = std::mem::replace(entries, Entries::Many(room)) {
+        if let Entries::Many(many) = entries {
+            many.push_back_reserved(entry);
+        }
     }
+    Ok(())
 }
 
-/// Gives room back where there is clearly more than twice what is taken, and leaves a sixteenth more than is. So an entry that is
-/// taken out or added moves some sixteen others at most, over all of them. Without memory the room stays.
-fn give_room_back<K: Copy>(entries: &mut VecDeque<Entry<K>>)
-    ensures { entries.new.items ≡ entries.old.items }
+/// Makes pieces of the entries. Without memory nothing changes.
+fn lengthen<K: Copy>(many: &mut Entries<K>) -> Result<(), AllocError>
+    requires { 0 < length (items_of many.old) }
+    ensures items { items_of many.new ≡ items_of many.old }
+    ensures long { OnOk result (IsLong many.new) }
 {
-    let wanted = entries.len() + entries.len() / 16;
-    if wanted < entries.capacity() / 2 {
-        entries.shrink_to(wanted);
+    widen(many)?;
+    let Entries::Many(entries) = many else {
+        return Ok(());
+    };
+    let alloc = *entries.allocator();
+    let first = std::mem::replace(entries, VecDeque::new(alloc));
+    match Box::new(alloc, Pieces::of(alloc, first)) {
+        Ok(pieces) => {
+            *many = Entries::Long(pieces);
+            Ok(())
+        }
+        Err(failed) => {
+            let pieces = failed.value;
+            *many = Entries::Many(pieces.first);
+            Err(AllocError)
+        }
     }
 }
 
@@ -104,63 +90,168 @@ impl<K: Copy> Entries<K> {
         Ok(Box::new(alloc, Entries::One(alloc, entry))?)
     }
 
-    /// How many there are.
-    pub fn len(&self) -> usize
-        ensures count { result ≡ length (items_of self.now) }
-        ensures small { result < 2 ^ 63 }
-    {
-        match self {
-            Entries::One(_, _) => 1,
-            Entries::Many(entries) => entries.len(),
-        }
-    }
-
-    /// The entry at a place.
-    pub fn at(&self, index: usize) -> &Entry<K>
-        requires { index < length (items_of self.now) }
-        ensures { result.now ≡ slice_index_or (items_of self.now) index result.now }
+    /// The first entry.
+    pub fn front(&self) -> &Entry<K>
+        requires { 0 < length (items_of self.now) }
+        ensures { result.now ≡ slice_index_or (items_of self.now) 0 result.now }
     {
         match self {
             Entries::One(_, entry) => entry,
-            Entries::Many(entries) => &entries[index],
+            Entries::Many(entries) => &entries[0],
+            Entries::Long(pieces) => pieces.front(),
         }
     }
 
-    /// Makes room for more. Without memory nothing changes.
-    pub fn reserve(&mut self, more: usize) -> Result<(), AllocError>
-        requires { more ≤ 2 ^ 63 }
-        ensures items { items_of self.new ≡ items_of self.old }
-        ensures ok { OnOk result (length (items_of self.new) + more ≤ room_of self.new) }
+    /// The last entry.
+    pub fn back(&self) -> &Entry<K>
+        requires { 0 < length (items_of self.now) }
+        ensures { result.now ≡ slice_index_or (items_of self.now) (length (items_of self.now) - 1) result.now }
     {
         match self {
-            Entries::Many(entries) => entries.reserve(more),
-            Entries::One(alloc, _) => {
-                let room = VecDeque::with_capacity(*alloc, more + 1)?;
-                widen(self, room);
-                Ok(())
-            }
+            Entries::One(_, entry) => entry,
+            Entries::Many(entries) => &entries[entries.len() - 1],
+            Entries::Long(pieces) => pieces.back(),
         }
     }
 
-    /// Adds an entry behind the others. Without memory nothing changes.
+    /// Whether there is one alone.
+    pub fn is_single(&self) -> bool
+        ensures { result ≡ (length (items_of self.now) == 1) }
+    {
+        match self {
+            Entries::One(_, _) => true,
+            Entries::Many(entries) => entries.len() == 1,
+            Entries::Long(pieces) => pieces.is_single(),
+        }
+    }
+
+    /// How much room they take at others.
+    pub fn size(&self) -> Size
+        ensures { result ≡ size_of self.now }
+    {
+        match self {
+            Entries::One(_, _) => Size::Entries(2),
+            Entries::Many(entries) => Size::Entries(entries.len() + 1),
+            Entries::Long(pieces) => Size::Pieces(pieces.middle.len() + 2),
+        }
+    }
+
+    /// Makes room behind them for others of this size. Without memory nothing changes but that.
+    pub fn reserve_behind(&mut self, size: Size) -> Result<(), AllocError>
+        requires { 0 < length (items_of self.old) }
+        ensures items { items_of self.new ≡ items_of self.old }
+        ensures ok { OnOk result (FitsBehind size self.new) }
+    {
+        match size {
+            Size::Entries(_) => widen(self)?,
+            Size::Pieces(_) => lengthen(self)?,
+        }
+        match (self, size) {
+            (Entries::Many(entries), Size::Entries(more)) => entries.reserve(more),
+            (Entries::Long(pieces), size) => pieces.reserve_back(size),
+            _ => unreachable!(),
+        }
+    }
+
+    /// The same in front of them.
+    pub fn reserve_before(&mut self, size: Size) -> Result<(), AllocError>
+        requires { 0 < length (items_of self.old) }
+        ensures items { items_of self.new ≡ items_of self.old }
+        ensures ok { OnOk result (FitsBefore size self.new) }
+    {
+        match size {
+            Size::Entries(_) => widen(self)?,
+            Size::Pieces(_) => lengthen(self)?,
+        }
+        match (self, size) {
+            (Entries::Many(entries), Size::Entries(more)) => entries.reserve(more),
+            (Entries::Long(pieces), size) => pieces.reserve_front(size),
+            _ => unreachable!(),
+        }
+    }
+
+    /// Adds an entry behind the others, where there is room.
+    fn push_back_reserved(&mut self, entry: Entry<K>)
+        requires { 0 < spare_behind self.old }
+        ensures items { items_of self.new ≡ items_of self.old ++ entry ∷ [] }
+        ensures room { spare_behind self.new + 1 ≡ spare_behind self.old }
+    {
+        match self {
+            Entries::One(_, _) => {}
+            Entries::Many(entries) => entries.push_back_reserved(entry),
+            Entries::Long(pieces) => pieces.last.push_back_reserved(entry),
+        }
+    }
+
+    /// Adds an entry in front of the others, where there is room.
+    fn push_front_reserved(&mut self, entry: Entry<K>)
+        requires { 0 < spare_before self.old }
+        ensures items { items_of self.new ≡ entry ∷ items_of self.old }
+        ensures room { spare_before self.new + 1 ≡ spare_before self.old }
+    {
+        match self {
+            Entries::One(_, _) => {}
+            Entries::Many(entries) => entries.push_front_reserved(entry),
+            Entries::Long(pieces) => pieces.first.push_front_reserved(entry),
+        }
+    }
+
+    /// Adds the others behind these, where there is room.
+    fn append_few(&mut self, mut others: VecDeque<Entry<K>>)
+        requires { deque_len others ≤ spare_behind self.old }
+        ensures { items_of self.new ≡ items_of self.old ++ others.items }
+    {
+        while let Some(next) = others.pop_front() {
+            self.push_back_reserved(next);
+        }
+    }
+
+    /// Adds the others in front of these, where there is room.
+    fn prepend_few(&mut self, mut others: VecDeque<Entry<K>>)
+        requires { deque_len others ≤ spare_before self.old }
+        ensures { items_of self.new ≡ others.items ++ items_of self.old }
+    {
+        while let Some(last) = others.pop_back() {
+            self.push_front_reserved(last);
+        }
+    }
+
+    /// Makes pieces of the entries where one has as many as it may.
+    fn lengthen_full(&mut self) -> Result<(), AllocError>
+        requires { 0 < length (items_of self.old) }
+        ensures items { items_of self.new ≡ items_of self.old }
+    {
+        match self {
+            Entries::Many(entries) if entries.len() >= FULL => lengthen(self),
+            _ => Ok(()),
+        }
+    }
+
+    /// Adds an entry behind the others. Without memory none is added.
     pub fn push_back(&mut self, entry: Entry<K>) -> Result<(), AllocError>
+        requires { 0 < length (items_of self.old) }
         ensures items { items_of self.new ≡ (if is_ok result then items_of self.old ++ entry ∷ [] else items_of self.old) }
     {
-        self.reserve(1)?;
-        if let Entries::Many(entries) = self {
-            entries.push_back_reserved(entry);
+        self.lengthen_full()?;
+        if let Entries::Long(pieces) = self {
+            return pieces.push_back(entry);
         }
+        self.reserve_behind(Size::Entries(1))?;
+        self.push_back_reserved(entry);
         Ok(())
     }
 
-    /// Adds an entry in front of the others. Without memory nothing changes.
+    /// Adds an entry in front of the others. Without memory none is added.
     pub fn push_front(&mut self, entry: Entry<K>) -> Result<(), AllocError>
+        requires { 0 < length (items_of self.old) }
         ensures items { items_of self.new ≡ (if is_ok result then entry ∷ items_of self.old else items_of self.old) }
     {
-        self.reserve(1)?;
-        if let Entries::Many(entries) = self {
-            entries.push_front_reserved(entry);
+        self.lengthen_full()?;
+        if let Entries::Long(pieces) = self {
+            return pieces.push_front(entry);
         }
+        self.reserve_before(Size::Entries(1))?;
+        self.push_front_reserved(entry);
         Ok(())
     }
 
@@ -170,12 +261,15 @@ impl<K: Copy> Entries<K> {
         ensures items { items_of self.old ≡ option_to_list result ++ items_of self.new }
         ensures some { IsSome result }
     {
-        let Entries::Many(entries) = self else {
-            return None;
-        };
-        let first = entries.pop_front();
-        narrow(self);
-        first
+        match self {
+            Entries::One(_, _) => None,
+            Entries::Many(entries) => {
+                let first = entries.pop_front();
+                narrow(self);
+                first
+            }
+            Entries::Long(pieces) => pieces.pop_front(),
+        }
     }
 
     /// The first entry, of those that are no more needed.
@@ -183,63 +277,78 @@ impl<K: Copy> Entries<K> {
         requires { 0 < length (items_of self) }
         ensures { result ≡ slice_index_or (items_of self) 0 result }
     {
-        match self {
-            Entries::One(_, entry) => entry,
-            Entries::Many(mut entries) => {
-                let Some(entry) = entries.pop_front() else {
-                    unreachable!();
-                };
-                entry
-            }
-        }
+        let mut entries = match self {
+            Entries::One(_, entry) => return entry,
+            Entries::Many(entries) => entries,
+            Entries::Long(pieces) => Box::into_inner(pieces).first,
+        };
+        let Some(entry) = entries.pop_front() else {
+            unreachable!();
+        };
+        entry
     }
 
     /// Puts the entry and then the others behind these, where there is room.
     pub fn append(&mut self, entry: Entry<K>, others: Box<Entries<K>>)
-        requires some { 0 < length (items_of others.value) }
-        requires room { length (items_of self.old) + (length (items_of others.value) + 1) ≤ room_of self.old }
+        requires room { FitsBehind (size_of others.value) self.old }
         ensures { items_of self.new ≡ items_of self.old ++ entry ∷ items_of others.value }
     {
-        let Entries::Many(entries) = self else {
-            return;
-        };
         match Box::into_inner(others) {
             Entries::One(_, other) => {
-                entries.push_back_reserved(entry);
-                entries.push_back_reserved(other);
+                self.push_back_reserved(entry);
+                self.push_back_reserved(other);
             }
-            Entries::Many(others) => append_to(entries, entry, others),
+            Entries::Many(others) => {
+                self.push_back_reserved(entry);
+                self.append_few(others);
+            }
+            Entries::Long(others) => {
+                if let Entries::Long(pieces) = self {
+                    pieces.append(entry, Box::into_inner(others));
+                }
+            }
         }
     }
 
     /// Puts the others and then the entry in front of these, where there is room.
     pub fn prepend(&mut self, entry: Entry<K>, others: Box<Entries<K>>)
-        requires some { 0 < length (items_of others.value) }
-        requires room { length (items_of self.old) + (length (items_of others.value) + 1) ≤ room_of self.old }
+        requires room { FitsBefore (size_of others.value) self.old }
         ensures { items_of self.new ≡ items_of others.value ++ entry ∷ items_of self.old }
     {
-        let Entries::Many(entries) = self else {
-            return;
-        };
         match Box::into_inner(others) {
             Entries::One(_, other) => {
-                entries.push_front_reserved(entry);
-                entries.push_front_reserved(other);
+                self.push_front_reserved(entry);
+                self.push_front_reserved(other);
             }
-            Entries::Many(others) => prepend_to(entries, entry, others),
+            Entries::Many(others) => {
+                self.push_front_reserved(entry);
+                self.prepend_few(others);
+            }
+            Entries::Long(others) => {
+                if let Entries::Long(pieces) = self {
+                    pieces.prepend(entry, Box::into_inner(others));
+                }
+            }
         }
     }
 }
 
 impl<K: ReassemblyKey> Interval<K> {
-    /// Adds an entry at the back. Without memory nothing changes.
+    /// How much room it takes at another one.
+    pub fn size(&self) -> Size
+        ensures { result ≡ size_of self.now.entries.value }
+    {
+        self.entries.size()
+    }
+
+    /// Adds an entry at the back. Without memory none is added.
     pub fn push_back(&mut self, entry: Entry<K>) -> Result<(), AllocError>
         ensures items { items_of self.new.entries.value ≡ (if is_ok result then items_of self.old.entries.value ++ entry ∷ [] else items_of self.old.entries.value) }
     {
         self.entries.push_back(entry)
     }
 
-    /// Adds an entry in front. Without memory nothing changes.
+    /// Adds an entry in front. Without memory none is added.
     pub fn push_front(&mut self, entry: Entry<K>) -> Result<(), AllocError>
         ensures items { items_of self.new.entries.value ≡ (if is_ok result then entry ∷ items_of self.old.entries.value else items_of self.old.entries.value) }
     {
@@ -255,18 +364,25 @@ impl<K: ReassemblyKey> Interval<K> {
         self.entries.pop_front()
     }
 
-    /// Makes room for more entries. Without memory nothing changes.
-    pub fn reserve(&mut self, more: usize) -> Result<(), AllocError>
-        requires { more ≤ 2 ^ 63 }
+    /// Makes room at the back for an interval of this size.
+    pub fn reserve_behind(&mut self, size: Size) -> Result<(), AllocError>
         ensures items { items_of self.new.entries.value ≡ items_of self.old.entries.value }
-        ensures ok { OnOk result (length (items_of self.new.entries.value) + more ≤ room_of self.new.entries.value) }
+        ensures ok { OnOk result (FitsBehind size self.new.entries.value) }
     {
-        self.entries.reserve(more)
+        self.entries.reserve_behind(size)
+    }
+
+    /// Makes room in front for an interval of this size.
+    pub fn reserve_before(&mut self, size: Size) -> Result<(), AllocError>
+        ensures items { items_of self.new.entries.value ≡ items_of self.old.entries.value }
+        ensures ok { OnOk result (FitsBefore size self.new.entries.value) }
+    {
+        self.entries.reserve_before(size)
     }
 
     /// Puts the entry and then the others at the back, where there is room.
     pub fn append(&mut self, entry: Entry<K>, others: Interval<K>)
-        requires { length (items_of self.old.entries.value) + (length (items_of others.entries.value) + 1) ≤ room_of self.old.entries.value }
+        requires { FitsBehind (size_of others.entries.value) self.old.entries.value }
         ensures { items_of self.new.entries.value ≡ items_of self.old.entries.value ++ entry ∷ items_of others.entries.value }
     {
         self.entries.append(entry, others.entries)
@@ -274,7 +390,7 @@ impl<K: ReassemblyKey> Interval<K> {
 
     /// Puts the others and then the entry in front, where there is room.
     pub fn prepend(&mut self, entry: Entry<K>, others: Interval<K>)
-        requires { length (items_of self.old.entries.value) + (length (items_of others.entries.value) + 1) ≤ room_of self.old.entries.value }
+        requires { FitsBefore (size_of others.entries.value) self.old.entries.value }
         ensures { items_of self.new.entries.value ≡ items_of others.entries.value ++ entry ∷ items_of self.old.entries.value }
     {
         self.entries.prepend(entry, others.entries)

@@ -1,40 +1,41 @@
-use Rattle.std.proofs.Common.{ap, ◌∙◌, ◌∷◌, ◌++◌, [], arith, append_assoc, length}
+use Rattle.std.proofs.Common.{ap, ◌∙◌, ◌∷◌, ◌++◌, [], sym, subst, append_assoc}
 use Rattle.std.proofs.lemmas.Result.{err_from_is_err_and}
 use Rattle.sctp_fragments.specs.Interval.{held_of, run_of}
 use Rattle.sctp_reassembly.proofs.MapLemmas.{changed_at, read_there, not_absent, low_second, low_b, second_is, first_gone, run_joined}
-use Rattle.sctp_fragments.specs.Entries.{items_of, room_of}
+use Rattle.sctp_fragments.specs.Entries.{size_of, FitsBefore}
 use Rattle.sctp_reassembly.proofs.places.join_to_second.Goals as goal
 
-pub returns-in_err-reserve_at-clause-err : goal.returns-in_err-reserve_at-clause-err
-returns-in_err-reserve_at-clause-err g c =
+pub returns-in_err-reserve_before-clause-err : goal.returns-in_err-reserve_before-clause-err
+returns-in_err-reserve_before-clause-err g c =
     let p = err_from_is_err_and c.from_residual.result c.from_residual.ensures.1 in
-    rw p.1 (λ ps qs i j is low up. c.reserve_at.ensures.kept (ps ++ (c.args.place, i) ∷ []) qs j
+    rw p.1 (λ ps qs i j is low up. c.reserve_before.ensures.kept (ps ++ (c.args.place, i) ∷ []) qs j
     (second_is g.K.Ord.cmp g.K.ReassemblyKey.is_key g.K.ReassemblyKey.number g.K.ReassemblyKey.index g.met.K.ReassemblyKey.by_rank c.args.place c.args.next c.known.ensures c.known-2.ensures up c.args.later.now.entries ps qs i j is)
     (low_second g.K.Ord.cmp g.K.ReassemblyKey.is_key g.K.ReassemblyKey.number g.K.ReassemblyKey.index g.met.K.ReassemblyKey.by_rank c.args.place c.args.next c.known.ensures c.known-2.ensures up ps i low))
 
 pub returns-in_default-clause-err : goal.returns-in_default-clause-err
 returns-in_default-clause-err g c ps qs i j is low up =
-    let r = c.in_ok-reserve_at.ensures.ok (ps ++ (c.args.place, i) ∷ []) qs j (second_is g.K.Ord.cmp g.K.ReassemblyKey.is_key g.K.ReassemblyKey.number g.K.ReassemblyKey.index g.met.K.ReassemblyKey.by_rank c.args.place c.args.next c.known.ensures c.known-2.ensures up c.args.later.now.entries ps qs i j is) (low_second g.K.Ord.cmp g.K.ReassemblyKey.is_key g.K.ReassemblyKey.number g.K.ReassemblyKey.index g.met.K.ReassemblyKey.by_rank c.args.place c.args.next c.known.ensures c.known-2.ensures up ps i low) in
-    not_absent g.K.Ord.cmp g.K.ReassemblyKey.is_key g.K.ReassemblyKey.number g.K.ReassemblyKey.index g.met.K.ReassemblyKey.by_rank c.args.place c.known.ensures c.reserve_at.new.later.entries ps ((c.args.next, r.interval) ∷ qs) i (r.is ∙ append_assoc ps ((c.args.place, i) ∷ []) ((c.args.next, r.interval) ∷ qs)) low c.in_default.ensures.value
+    let r = c.in_ok-reserve_before.ensures.ok (ps ++ (c.args.place, i) ∷ []) qs j (second_is g.K.Ord.cmp g.K.ReassemblyKey.is_key g.K.ReassemblyKey.number g.K.ReassemblyKey.index g.met.K.ReassemblyKey.by_rank c.args.place c.args.next c.known.ensures c.known-2.ensures up c.args.later.now.entries ps qs i j is) (low_second g.K.Ord.cmp g.K.ReassemblyKey.is_key g.K.ReassemblyKey.number g.K.ReassemblyKey.index g.met.K.ReassemblyKey.by_rank c.args.place c.args.next c.known.ensures c.known-2.ensures up ps i low) in
+    not_absent g.K.Ord.cmp g.K.ReassemblyKey.is_key g.K.ReassemblyKey.number g.K.ReassemblyKey.index g.met.K.ReassemblyKey.by_rank c.args.place c.known.ensures c.reserve_before.new.later.entries ps ((c.args.next, r.interval) ∷ qs) i (r.is ∙ append_assoc ps ((c.args.place, i) ∷ []) ((c.args.next, r.interval) ∷ qs)) low c.in_default.ensures.value
 
 pub returns-in_default-get_mut-clause-err : goal.returns-in_default-get_mut-clause-err
 returns-in_default-get_mut-clause-err g c ps qs i j is low up =
-    let r = c.in_ok-reserve_at.ensures.ok (ps ++ (c.args.place, i) ∷ []) qs j (second_is g.K.Ord.cmp g.K.ReassemblyKey.is_key g.K.ReassemblyKey.number g.K.ReassemblyKey.index g.met.K.ReassemblyKey.by_rank c.args.place c.args.next c.known.ensures c.known-2.ensures up c.args.later.now.entries ps qs i j is) (low_second g.K.Ord.cmp g.K.ReassemblyKey.is_key g.K.ReassemblyKey.number g.K.ReassemblyKey.index g.met.K.ReassemblyKey.by_rank c.args.place c.args.next c.known.ensures c.known-2.ensures up ps i low) in
-    let s = first_gone g.K.Ord.cmp g.K.ReassemblyKey.is_key g.K.ReassemblyKey.number g.K.ReassemblyKey.index g.met.K.ReassemblyKey.by_rank c.args.place c.args.next c.known.ensures c.known-2.ensures up c.reserve_at.new.later.entries c.remove.new.self.entries ps qs i r.interval c.in-Some.moved (r.is ∙ append_assoc ps ((c.args.place, i) ∷ []) ((c.args.next, r.interval) ∷ qs)) low c.in-Some.ensures.value c.in-Some.ensures.entries in
+    let r = c.in_ok-reserve_before.ensures.ok (ps ++ (c.args.place, i) ∷ []) qs j (second_is g.K.Ord.cmp g.K.ReassemblyKey.is_key g.K.ReassemblyKey.number g.K.ReassemblyKey.index g.met.K.ReassemblyKey.by_rank c.args.place c.args.next c.known.ensures c.known-2.ensures up c.args.later.now.entries ps qs i j is) (low_second g.K.Ord.cmp g.K.ReassemblyKey.is_key g.K.ReassemblyKey.number g.K.ReassemblyKey.index g.met.K.ReassemblyKey.by_rank c.args.place c.args.next c.known.ensures c.known-2.ensures up ps i low) in
+    let s = first_gone g.K.Ord.cmp g.K.ReassemblyKey.is_key g.K.ReassemblyKey.number g.K.ReassemblyKey.index g.met.K.ReassemblyKey.by_rank c.args.place c.args.next c.known.ensures c.known-2.ensures up c.reserve_before.new.later.entries c.remove.new.self.entries ps qs i r.interval c.in-Some.moved (r.is ∙ append_assoc ps ((c.args.place, i) ∷ []) ((c.args.next, r.interval) ∷ qs)) low c.in-Some.ensures.value c.in-Some.ensures.entries in
     not_absent g.K.Ord.cmp g.K.ReassemblyKey.is_key g.K.ReassemblyKey.number g.K.ReassemblyKey.index g.met.K.ReassemblyKey.by_rank c.args.next c.known-2.ensures c.remove.new.self.entries ps qs r.interval s.left_is (low_b g.K.Ord.cmp g.K.ReassemblyKey.is_key g.K.ReassemblyKey.number g.K.ReassemblyKey.index g.met.K.ReassemblyKey.by_rank c.args.place c.args.next c.known.ensures c.known-2.ensures up ps low) c.in_default-get_mut.ensures.value
 
 pub prepend-requires : goal.prepend-requires
 prepend-requires g c =
     let w = c.requires in
-    let r = c.in_ok-reserve_at.ensures.ok (w.front ++ (c.args.place, w.here) ∷ []) w.back w.there (second_is g.K.Ord.cmp g.K.ReassemblyKey.is_key g.K.ReassemblyKey.number g.K.ReassemblyKey.index g.met.K.ReassemblyKey.by_rank c.args.place c.args.next c.known.ensures c.known-2.ensures w.ascend c.args.later.now.entries w.front w.back w.here w.there w.is) (low_second g.K.Ord.cmp g.K.ReassemblyKey.is_key g.K.ReassemblyKey.number g.K.ReassemblyKey.index g.met.K.ReassemblyKey.by_rank c.args.place c.args.next c.known.ensures c.known-2.ensures w.ascend w.front w.here w.low) in
-    let s = first_gone g.K.Ord.cmp g.K.ReassemblyKey.is_key g.K.ReassemblyKey.number g.K.ReassemblyKey.index g.met.K.ReassemblyKey.by_rank c.args.place c.args.next c.known.ensures c.known-2.ensures w.ascend c.reserve_at.new.later.entries c.remove.new.self.entries w.front w.back w.here r.interval c.in-Some.moved (r.is ∙ append_assoc w.front ((c.args.place, w.here) ∷ []) ((c.args.next, r.interval) ∷ w.back)) w.low c.in-Some.ensures.value c.in-Some.ensures.entries in
+    let r = c.in_ok-reserve_before.ensures.ok (w.front ++ (c.args.place, w.here) ∷ []) w.back w.there (second_is g.K.Ord.cmp g.K.ReassemblyKey.is_key g.K.ReassemblyKey.number g.K.ReassemblyKey.index g.met.K.ReassemblyKey.by_rank c.args.place c.args.next c.known.ensures c.known-2.ensures w.ascend c.args.later.now.entries w.front w.back w.here w.there w.is) (low_second g.K.Ord.cmp g.K.ReassemblyKey.is_key g.K.ReassemblyKey.number g.K.ReassemblyKey.index g.met.K.ReassemblyKey.by_rank c.args.place c.args.next c.known.ensures c.known-2.ensures w.ascend w.front w.here w.low) in
+    let s = first_gone g.K.Ord.cmp g.K.ReassemblyKey.is_key g.K.ReassemblyKey.number g.K.ReassemblyKey.index g.met.K.ReassemblyKey.by_rank c.args.place c.args.next c.known.ensures c.known-2.ensures w.ascend c.reserve_before.new.later.entries c.remove.new.self.entries w.front w.back w.here r.interval c.in-Some.moved (r.is ∙ append_assoc w.front ((c.args.place, w.here) ∷ []) ((c.args.next, r.interval) ∷ w.back)) w.low c.in-Some.ensures.value c.in-Some.ensures.entries in
     let d = read_there g.K.Ord.cmp g.K.ReassemblyKey.is_key g.K.ReassemblyKey.number g.K.ReassemblyKey.index g.met.K.ReassemblyKey.by_rank c.args.next c.known-2.ensures c.remove.new.self.entries w.front w.back r.interval s.left_is (low_b g.K.Ord.cmp g.K.ReassemblyKey.is_key g.K.ReassemblyKey.number g.K.ReassemblyKey.index g.met.K.ReassemblyKey.by_rank c.args.place c.args.next c.known.ensures c.known-2.ensures w.ascend w.front w.low) c.in-Some-get_mut.interval.now c.in-Some-get_mut.ensures.value in
-    let count = c.count_at-count.ensures.count w.front ((c.args.next, w.there) ∷ w.back) w.here w.is w.low in
-    omega (arith, r.room, count, ap (λ t. length (items_of t.entries.value)) d, ap (λ t. room_of t.entries.value) d, ap (λ t. length (items_of t.entries.value)) s.moved_is)
+    let size = c.size_at-size.ensures w.front ((c.args.next, w.there) ∷ w.back) w.here w.is w.low in
+    subst (λ i. FitsBefore (size_of c.in-Some.moved.entries.value) i.entries.value) (sym d)
+        (subst (λ s. FitsBefore s r.interval.entries.value) (size ∙ ap (λ t. size_of t.entries.value) (sym s.moved_is)) r.room)
 
 pub returns-clause-ok : goal.returns-clause-ok
 returns-clause-ok g c ps qs i j is low up =
-    let r = c.in_ok-reserve_at.ensures.ok (ps ++ (c.args.place, i) ∷ []) qs j (second_is g.K.Ord.cmp g.K.ReassemblyKey.is_key g.K.ReassemblyKey.number g.K.ReassemblyKey.index g.met.K.ReassemblyKey.by_rank c.args.place c.args.next c.known.ensures c.known-2.ensures up c.args.later.now.entries ps qs i j is) (low_second g.K.Ord.cmp g.K.ReassemblyKey.is_key g.K.ReassemblyKey.number g.K.ReassemblyKey.index g.met.K.ReassemblyKey.by_rank c.args.place c.args.next c.known.ensures c.known-2.ensures up ps i low) in
-    let s = first_gone g.K.Ord.cmp g.K.ReassemblyKey.is_key g.K.ReassemblyKey.number g.K.ReassemblyKey.index g.met.K.ReassemblyKey.by_rank c.args.place c.args.next c.known.ensures c.known-2.ensures up c.reserve_at.new.later.entries c.remove.new.self.entries ps qs i r.interval c.in-Some.moved (r.is ∙ append_assoc ps ((c.args.place, i) ∷ []) ((c.args.next, r.interval) ∷ qs)) low c.in-Some.ensures.value c.in-Some.ensures.entries in
+    let r = c.in_ok-reserve_before.ensures.ok (ps ++ (c.args.place, i) ∷ []) qs j (second_is g.K.Ord.cmp g.K.ReassemblyKey.is_key g.K.ReassemblyKey.number g.K.ReassemblyKey.index g.met.K.ReassemblyKey.by_rank c.args.place c.args.next c.known.ensures c.known-2.ensures up c.args.later.now.entries ps qs i j is) (low_second g.K.Ord.cmp g.K.ReassemblyKey.is_key g.K.ReassemblyKey.number g.K.ReassemblyKey.index g.met.K.ReassemblyKey.by_rank c.args.place c.args.next c.known.ensures c.known-2.ensures up ps i low) in
+    let s = first_gone g.K.Ord.cmp g.K.ReassemblyKey.is_key g.K.ReassemblyKey.number g.K.ReassemblyKey.index g.met.K.ReassemblyKey.by_rank c.args.place c.args.next c.known.ensures c.known-2.ensures up c.reserve_before.new.later.entries c.remove.new.self.entries ps qs i r.interval c.in-Some.moved (r.is ∙ append_assoc ps ((c.args.place, i) ∷ []) ((c.args.next, r.interval) ∷ qs)) low c.in-Some.ensures.value c.in-Some.ensures.entries in
     changed_at g.K.Ord.cmp g.K.ReassemblyKey.is_key g.K.ReassemblyKey.number g.K.ReassemblyKey.index g.met.K.ReassemblyKey.by_rank c.args.next c.known-2.ensures c.remove.new.self.entries ps qs r.interval s.left_is (low_b g.K.Ord.cmp g.K.ReassemblyKey.is_key g.K.ReassemblyKey.number g.K.ReassemblyKey.index g.met.K.ReassemblyKey.by_rank c.args.place c.args.next c.known.ensures c.known-2.ensures up ps low) _ c.in-Some-get_mut.interval.now _ _ c.in-Some-get_mut.ensures.value (c.get_mut.follows.holds _).0
     (λ same. run_joined (held_of g.K.ReassemblyKey.number g.K.ReassemblyKey.index) _ c.in-Some.moved c.in-Some-get_mut.interval.now c.args.entry _ _ c.prepend.ensures (ap (run_of (held_of g.K.ReassemblyKey.number g.K.ReassemblyKey.index)) s.moved_is) (ap (run_of (held_of g.K.ReassemblyKey.number g.K.ReassemblyKey.index)) same ∙ r.run_is))
