@@ -21,12 +21,19 @@ overflow_add-bytes g c =
     let m = summed (held_of g.K.ReassemblyKey.number g.K.ReassemblyKey.index) (values_of c.args.later.now.entries) s.0 c.next.new.self c.in-Some.interval.now (s.1.0 ∙ ap (λ t. s.0 ++ t) c.in-Some.ensures.steps) in
     omega (arith, m.bytes, s.1.1.0, c.total_bytes-bytes.ensures, c.requires.bytes)
 
+pub len-fragments-requires : goal.len-fragments-requires
+len-fragments-requires g c =
+    let s = c.loop-interval.invariant.sums in
+    let f = held_of g.K.ReassemblyKey.number g.K.ReassemblyKey.index in
+    let m = summed f (values_of c.args.later.now.entries) s.0 c.next.new.self c.in-Some.interval.now (s.1.0 ∙ ap (λ t. s.0 ++ t) c.in-Some.ensures.steps) in
+    omega (arith, m.fragments, run_length f c.in-Some.interval.now, c.requires.fragments)
+
 pub overflow_add-fragments : goal.overflow_add-fragments
 overflow_add-fragments g c =
     let s = c.loop-interval.invariant.sums in
     let f = held_of g.K.ReassemblyKey.number g.K.ReassemblyKey.index in
     let m = summed f (values_of c.args.later.now.entries) s.0 c.next.new.self c.in-Some.interval.now (s.1.0 ∙ ap (λ t. s.0 ++ t) c.in-Some.ensures.steps) in
-    omega (arith, m.fragments, s.1.1.1, c.len-fragments.ensures.count, run_length f c.in-Some.interval.now, c.requires.fragments)
+    omega (arith, m.fragments, s.1.1.1, c.len-fragments.ensures, run_length f c.in-Some.interval.now, c.requires.fragments)
 
 pub loop-interval-preserved : goal.loop-interval-preserved
 loop-interval-preserved g c =
@@ -36,7 +43,7 @@ loop-interval-preserved g c =
     record {
       next = tt;
       finite = tt;
-      sums = (s.0 ++ c.in-Some.interval.now ∷ [], (m.on, (omega (arith, m.bytes_on, s.1.1.0, c.total_bytes-bytes.ensures), omega (arith, m.fragments_on, s.1.1.1, c.len-fragments.ensures.count, run_length f c.in-Some.interval.now))));
+      sums = (s.0 ++ c.in-Some.interval.now ∷ [], (m.on, (omega (arith, m.bytes_on, s.1.1.0, c.total_bytes-bytes.ensures), omega (arith, m.fragments_on, s.1.1.1, c.len-fragments.ensures, run_length f c.in-Some.interval.now))));
     }
 
 pub returns-clause-bytes : goal.returns-clause-bytes

@@ -11,8 +11,8 @@ prepend-requires g c =
     let r = c.in_ok-reserve_before.ensures.ok [] w.back w.there w.is tt in
     let m = read_there g.K.Ord.cmp g.K.ReassemblyKey.is_key g.K.ReassemblyKey.number g.K.ReassemblyKey.index g.met.K.ReassemblyKey.by_rank c.args.place c.known.ensures c.reserve_before.new.later.entries [] w.back r.interval r.is tt c.in-Some.next c.in-Some.ensures.value in
     subst (λ i. FitsBefore (size_of c.replace-moved.result.entries.value) i.entries.value) (sym c.replace-moved.ensures.after)
-        (subst (λ i. FitsBefore (size_of i.entries.value) c.in-Some.next.entries.value) (sym c.replace-moved.ensures.value)
-            (subst (λ s. FitsBefore s c.in-Some.next.entries.value) c.size.ensures (subst (λ i. FitsBefore c.size.result i.entries.value) (sym m) r.room)))
+    (subst (λ i. FitsBefore (size_of i.entries.value) c.in-Some.next.entries.value) (sym c.replace-moved.ensures.value)
+    (subst (λ s. FitsBefore s c.in-Some.next.entries.value) c.size.ensures (subst (λ i. FitsBefore c.size.result i.entries.value) (sym m) r.room)))
 
 pub returns-clause-ok : goal.returns-clause-ok
 returns-clause-ok g c j qs is =

@@ -32,7 +32,7 @@ append-requires g c =
     let size = c.size_at-size.ensures (w.front ++ (c.args.place, w.here) ∷ []) w.back w.there (second_is g.K.Ord.cmp g.K.ReassemblyKey.is_key g.K.ReassemblyKey.number g.K.ReassemblyKey.index g.met.K.ReassemblyKey.by_rank c.args.place c.args.next c.known.ensures c.known-2.ensures w.ascend c.args.later.now.entries w.front w.back w.here w.there w.is)
     (low_second g.K.Ord.cmp g.K.ReassemblyKey.is_key g.K.ReassemblyKey.number g.K.ReassemblyKey.index g.met.K.ReassemblyKey.by_rank c.args.place c.args.next c.known.ensures c.known-2.ensures w.ascend w.front w.here w.low) in
     subst (λ i. FitsBehind (size_of c.in-Some.moved.entries.value) i.entries.value) (sym d)
-        (subst (λ s. FitsBehind s r.interval.entries.value) (size ∙ ap (λ t. size_of t.entries.value) (sym s.moved_is)) r.room)
+    (subst (λ s. FitsBehind s r.interval.entries.value) (size ∙ ap (λ t. size_of t.entries.value) (sym s.moved_is)) r.room)
 
 pub returns-clause-ok : goal.returns-clause-ok
 returns-clause-ok g c ps qs i j is low up =

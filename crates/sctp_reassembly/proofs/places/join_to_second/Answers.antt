@@ -31,7 +31,7 @@ prepend-requires g c =
     let d = read_there g.K.Ord.cmp g.K.ReassemblyKey.is_key g.K.ReassemblyKey.number g.K.ReassemblyKey.index g.met.K.ReassemblyKey.by_rank c.args.next c.known-2.ensures c.remove.new.self.entries w.front w.back r.interval s.left_is (low_b g.K.Ord.cmp g.K.ReassemblyKey.is_key g.K.ReassemblyKey.number g.K.ReassemblyKey.index g.met.K.ReassemblyKey.by_rank c.args.place c.args.next c.known.ensures c.known-2.ensures w.ascend w.front w.low) c.in-Some-get_mut.interval.now c.in-Some-get_mut.ensures.value in
     let size = c.size_at-size.ensures w.front ((c.args.next, w.there) ∷ w.back) w.here w.is w.low in
     subst (λ i. FitsBefore (size_of c.in-Some.moved.entries.value) i.entries.value) (sym d)
-        (subst (λ s. FitsBefore s r.interval.entries.value) (size ∙ ap (λ t. size_of t.entries.value) (sym s.moved_is)) r.room)
+    (subst (λ s. FitsBefore s r.interval.entries.value) (size ∙ ap (λ t. size_of t.entries.value) (sym s.moved_is)) r.room)
 
 pub returns-clause-ok : goal.returns-clause-ok
 returns-clause-ok g c ps qs i j is low up =

@@ -1,6 +1,6 @@
 use Rattle.std.proofs.Common.{◌≡◌, ◌≤◌, ◌<◌, ◌+◌, ◌^◌, ◌++◌, ◌∷◌, ℕ, max, true, false, nat_lt, [], ap, sym, subst, ◌∙◌, append-nil, length, OnOk, OnErr, rules}
 use Rattle.sctp_serial.specs.Unwrapped.{origin}
-use Rattle.std.proofs.lemmas.Result.{on_ok_weaker}
+use Rattle.std.proofs.lemmas.Result.{on_ok_weaker, on_err_weaker}
 use Rattle.sctp_fragments.specs.Held.{bytes_of, is_complete}
 use Rattle.sctp_fragments.specs.Interval.{as_held}
 use Rattle.sctp_reassembly.specs.Delivery.{UnorderedStream, unordered_arrival, ready_bytes}
@@ -74,3 +74,10 @@ returns-then-is_whole-clause-ready g c =
     let due : nat_lt x.number c.in-Idle.passed ≡ false = search rules in
     let all = ap (λ s. unordered_arrival x (unordered_of s)) c.in-Idle.is ∙ whole_alone x c.in-Idle.near c.in-Idle.passed whole due in
     on_ok_weaker c.hand_on.result (λ e. e ∙ ap (λ ms. c.args.ready.now ++ ms) (sym (ap (λ d. d.messages) all))) c.hand_on.ensures.ready
+
+pub returns-then-is_whole-clause-err : goal.returns-then-is_whole-clause-err
+returns-then-is_whole-clause-err g c =
+    let x = as_held (g.K.ReassemblyKey.number c.args.key) (g.K.ReassemblyKey.index c.args.key) c.args.fragment in
+    let idle : ℕ → UnorderedStream = λ k. record { near = k; passed = c.in-Idle.passed; held = [] } in
+    let near : c.max.result ≡ max origin (g.K.ReassemblyKey.number c.args.key) = search rules in
+    on_err_weaker c.hand_on.result (λ same. (0, (ap idle near ∙ sym (ap (λ s. (unordered_arrival_in_part 0 x (unordered_of s)).stream) c.in-Idle.is), same ∙ sym (append-nil c.args.ready.now)))) c.hand_on.ensures.err

@@ -22,10 +22,15 @@ overflow_sub-self g c =
     let t = takes (lists_of (held_of g.K.ReassemblyKey.number g.K.ReassemblyKey.index) (all_of c.self.inside.first c.self.inside.later.entries)) (lists_of (held_of g.K.ReassemblyKey.number g.K.ReassemblyKey.index) (all_of c.take_in_turn.new.first c.take_in_turn.new.later.entries)) (run_of (held_of g.K.ReassemblyKey.number g.K.ReassemblyKey.index) c.in_ok-interval.interval) c.self.invariant.kept.runs c.in_ok-interval.ensures.taken.out (turn_complete c.args.number (run_of (held_of g.K.ReassemblyKey.number g.K.ReassemblyKey.index) c.in_ok-interval.interval) c.in_ok-interval.ensures.taken.passes) in
     omega (arith, t.bytes, c.self.invariant.kept.counted, c.total_bytes.ensures)
 
+pub len-requires : goal.len-requires
+len-requires g c =
+    let t = takes (lists_of (held_of g.K.ReassemblyKey.number g.K.ReassemblyKey.index) (all_of c.self.inside.first c.self.inside.later.entries)) (lists_of (held_of g.K.ReassemblyKey.number g.K.ReassemblyKey.index) (all_of c.take_in_turn.new.first c.take_in_turn.new.later.entries)) (run_of (held_of g.K.ReassemblyKey.number g.K.ReassemblyKey.index) c.in_ok-interval.interval) c.self.invariant.kept.runs c.in_ok-interval.ensures.taken.out (turn_complete c.args.number (run_of (held_of g.K.ReassemblyKey.number g.K.ReassemblyKey.index) c.in_ok-interval.interval) c.in_ok-interval.ensures.taken.passes) in
+    omega (arith, counts_taken _ _ _ t.taken, c.self.invariant.counted, c.self.ranges, run_length (held_of g.K.ReassemblyKey.number g.K.ReassemblyKey.index) c.in_ok-interval.interval)
+
 pub overflow_sub-self-2 : goal.overflow_sub-self-2
 overflow_sub-self-2 g c =
     let t = takes (lists_of (held_of g.K.ReassemblyKey.number g.K.ReassemblyKey.index) (all_of c.self.inside.first c.self.inside.later.entries)) (lists_of (held_of g.K.ReassemblyKey.number g.K.ReassemblyKey.index) (all_of c.take_in_turn.new.first c.take_in_turn.new.later.entries)) (run_of (held_of g.K.ReassemblyKey.number g.K.ReassemblyKey.index) c.in_ok-interval.interval) c.self.invariant.kept.runs c.in_ok-interval.ensures.taken.out (turn_complete c.args.number (run_of (held_of g.K.ReassemblyKey.number g.K.ReassemblyKey.index) c.in_ok-interval.interval) c.in_ok-interval.ensures.taken.passes) in
-    omega (arith, counts_taken _ _ _ t.taken, c.self.invariant.counted, c.len.ensures.count, run_length (held_of g.K.ReassemblyKey.number g.K.ReassemblyKey.index) c.in_ok-interval.interval)
+    omega (arith, counts_taken _ _ _ t.taken, c.self.invariant.counted, c.len.ensures, run_length (held_of g.K.ReassemblyKey.number g.K.ReassemblyKey.index) c.in_ok-interval.interval)
 
 pub invariant_of-self-2 : goal.invariant_of-self-2
 invariant_of-self-2 g c =
@@ -38,7 +43,7 @@ invariant_of-self-2 g c =
         counted = omega (arith, t.bytes, c.self.invariant.kept.counted, c.total_bytes.ensures);
         small = taken_indexed _ _ _ t.taken c.self.invariant.kept.small;
       };
-      counted = omega (arith, c.self.invariant.counted, counts_taken _ _ _ t.taken, c.len.ensures.count, run_length (held_of g.K.ReassemblyKey.number g.K.ReassemblyKey.index) c.in_ok-interval.interval);
+      counted = omega (arith, c.self.invariant.counted, counts_taken _ _ _ t.taken, c.len.ensures, run_length (held_of g.K.ReassemblyKey.number g.K.ReassemblyKey.index) c.in_ok-interval.interval);
     }
 
 pub returns-clause-taken : goal.returns-clause-taken
