@@ -1,21 +1,20 @@
--- What a reset goes over, once a message was added or a fragment sent.
+-- What a reset goes over, once a message was added, a fragment sent or a stream changed.
 use Rattle.std.proofs.Common.{◌≡◌, ℕ, ◌==◌, Bool, true, false, cond, List, [], ◌∷◌, ◌++◌, Option, Some, None, refl, ap, sym, subst, ◌∙◌, inl, inr, ◌⊎◌}
-use Rattle.std.specs.Prelude.{not, is_some, unwrap_or, ◌&&◌, IsSome}
-use Rattle.std.specs.Map.{lookup, set_value, remove_entry}
+use Rattle.std.specs.Prelude.{not, is_some, ◌&&◌, IsSome}
+use Rattle.std.specs.Map.{lookup}
 use Rattle.std.specs.Ordering.{nat_cmp}
 use Rattle.std.specs.BTreeMap.{is_at, insert_entry}
 use Rattle.std.proofs.lemmas.Bool.{eqb-true, and_parts}
-use Rattle.sctp_serial.proofs.NumberLemmas.{is_itself}
 use Rattle.sctp_stream_scheduler.specs.StreamScheduler.{Scheduler, finish_time, is_active, finish_now, leave, enter, set_bytes_remaining}
 use Rattle.sctp_tx_queue.specs.declared.send_queue.stream.PauseState.{PauseState}
 use Rattle.sctp_tx_queue.specs.declared.send_queue.stream.PauseState.TheVariants.{NotPaused, Pending, Paused, Resetting}
 use Rattle.sctp_tx_queue.specs.SendQueue.{Queue, Queued, Stream, Streams, stream, blank, put_stream, with_stream, front_left, is_stopped, remaining_bytes, sendable, push}
 use Rattle.sctp_tx_queue.specs.Produced.{Produced, in_line, begun_by, streams_after}
 use Rattle.sctp_tx_queue.specs.Readiness.{waits, has_reset_pending}
-use Rattle.sctp_tx_queue.specs.Restarted.{is_unbegun, is_front_unbegun, has_first_numbers, is_restarted, is_in_line, is_begun, is_settled_as, is_settled, may_differ, ResetKeeps, Joins}
-use Rattle.sctp_tx_queue.proofs.InOrderLemmas.{inserted_here, is_none}
+use Rattle.sctp_tx_queue.specs.Restarted.{is_unbegun, is_front_unbegun, has_first_numbers, is_restarted, is_in_line, is_begun, is_settled_as, is_settled, ResetKeeps, Joins}
+use Rattle.sctp_tx_queue.proofs.InOrderLemmas.{inserted_here}
 use Rattle.sctp_tx_queue.proofs.RestartLemmas.{never_there}
-use Rattle.sctp_tx_queue.proofs.SettledLemmas.{IsBeside, kept_by, keeps_by, settled_beside, keeps_beside, set_beside, line_beside, begun_beside}
+use Rattle.sctp_tx_queue.proofs.SettledLemmas.{kept_by, keeps_by, settled_beside, keeps_beside, set_beside, line_beside, begun_beside}
 use Rattle.sctp_tx_queue.proofs.StaysBegunLemmas.{written_elsewhere, inserted_elsewhere}
 use Rattle.sctp_tx_queue.proofs.StreamsLemmas.{stream_there, stream_nowhere, lookup_written}
 
@@ -211,4 +210,31 @@ keeps_one id bytes priority s log after q r h joins streams line begun =
       streams = ap (λ (ss : Streams). lookup (is_at (nat_cmp k)) ss.entries) streams ∙ written_elsewhere k id s q.streams.entries d;
       active = ap (is_active k) line ∙ set_beside k id bytes priority q.scheduler d;
       begun = λ b. begun k b;
+    })
+
+-- the scheduler has no part in it
+pub keeps_put : (id : ℕ) (s : Stream) (log after : Option (List ℕ)) (q r : Queue) → ResetKeeps log q → Joins true id log after → r.streams ≡ put_stream id s q.streams → r.scheduler ≡ q.scheduler → r.begun ≡ q.begun → ResetKeeps after r
+keeps_put id s log after q r h joins streams line begun =
+    keeps_beside id log after q r h joins (λ k d. record {
+      streams = ap (λ (ss : Streams). lookup (is_at (nat_cmp k)) ss.entries) streams ∙ written_elsewhere k id s q.streams.entries d;
+      active = ap (is_active k) line;
+      begun = λ b. ap (is_begun k) begun ∙ b;
+    })
+
+-- a stream that is there from then on
+pub keeps_opened : (id : ℕ) (log after : Option (List ℕ)) (q r : Queue) → ResetKeeps log q → Joins true id log after → r.streams ≡ with_stream id q.streams → ((k : ℕ) → (k == id) ≡ false → is_active k r.scheduler ≡ is_active k q.scheduler)
+    → r.begun ≡ q.begun → ResetKeeps after r
+keeps_opened id log after q r h joins streams line begun =
+    keeps_beside id log after q r h joins (λ k d. record {
+      streams = ap (λ (ss : Streams). lookup (is_at (nat_cmp k)) ss.entries) streams ∙ opened_elsewhere k id q.streams d;
+      active = line k d;
+      begun = λ b. ap (is_begun k) begun ∙ b;
+    })
+
+pub keeps_set : (id : ℕ) (s : Stream) (log after : Option (List ℕ)) (q r : Queue) → ResetKeeps log q → Joins true id log after → r.streams ≡ put_stream id s (with_stream id q.streams) → r.scheduler ≡ q.scheduler → r.begun ≡ q.begun → ResetKeeps after r
+keeps_set id s log after q r h joins streams line begun =
+    keeps_beside id log after q r h joins (λ k d. record {
+      streams = ap (λ (ss : Streams). lookup (is_at (nat_cmp k)) ss.entries) streams ∙ written_elsewhere k id s (with_stream id q.streams).entries d ∙ opened_elsewhere k id q.streams d;
+      active = ap (is_active k) line;
+      begun = λ b. ap (is_begun k) begun ∙ b;
     })

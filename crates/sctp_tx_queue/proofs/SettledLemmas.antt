@@ -1,8 +1,7 @@
 -- Streams that a restart leaves as they are, and what a reset goes over.
 use Rattle.std.proofs.Common.{◌≡◌, ℕ, zero, suc, ◌+◌, ◌<◌, ◌==◌, Bool, true, false, cond, List, [], ◌∷◌, Option, Some, None, length, take, get_or, refl, ap, sym, subst, ◌∙◌, arith, add-one}
-use Rattle.std.specs.Prelude.{map, filter, not, is_some, unwrap_or, ◌&&◌, ◌||◌}
-use Rattle.std.specs.List.{list_any}
-use Rattle.std.specs.Map.{lookup, set_value, remove_entry, keys_of}
+use Rattle.std.specs.Prelude.{map, filter, not, is_some, ◌&&◌, ◌||◌}
+use Rattle.std.specs.Map.{lookup, remove_entry, keys_of}
 use Rattle.std.specs.Ordering.{nat_cmp}
 use Rattle.std.specs.BTreeMap.{is_at}
 use Rattle.std.proofs.lemmas.Bool.{eqb-true, and_parts}
@@ -11,14 +10,16 @@ use Rattle.std.proofs.lemmas.Map.{keys-set_value}
 use Rattle.sctp_serial.specs.declared.api.StreamId.{StreamId}
 use Rattle.sctp_serial.proofs.NumberLemmas.{at_itself, at_equal, equal_at}
 use Rattle.sctp_stream_scheduler.specs.StreamScheduler.{Times, Scheduler, finish_time, is_active, finish_now, leave, enter, accept, accepted_at, set_bytes_remaining}
-use Rattle.sctp_tx_queue.specs.SendQueue.{Queue, Queued, Stream, Streams, Entries, stream, blank, put_stream, with_stream, sendable, set_sendable, push, add}
-use Rattle.sctp_tx_queue.specs.Produced.{Produced, in_line, begun_by}
-use Rattle.sctp_tx_queue.specs.Settings.{begun_without, set_mode}
+use Rattle.sctp_tx_queue.specs.SendQueue.{Queue, Queued, Stream, Streams, stream, put_stream, sendable, set_sendable}
+use Rattle.sctp_state.specs.Events.{Emitted}
+use Rattle.sctp_tx_queue.specs.Interrupted.{Same}
+use Rattle.sctp_tx_queue.specs.Produced.{Produced, in_line, begun_by, pause_if_pending}
+use Rattle.sctp_tx_queue.specs.Settings.{begun_without, front_discarded, without_front, streams_discarded, discard_from, discard}
 use Rattle.sctp_tx_queue.specs.Restarted.{restart, restarted_one, each_restarted, is_restarted, is_in_line, is_begun, is_kept, is_settled_as, is_settled, is_among, may_differ, ResetKeeps, AreSettled, Joins, after_reset, unbegun, reset, SomeRestarted}
 use Rattle.sctp_tx_queue.proofs.CommonLemmas.{there_among}
 use Rattle.sctp_tx_queue.proofs.RestartLemmas.{restart_same, line_same}
 use Rattle.sctp_tx_queue.proofs.StaysBegunLemmas.{written_elsewhere, inserted_elsewhere}
-use Rattle.sctp_tx_queue.proofs.StreamsLemmas.{put_nowhere, put_same, stream_there, stream_put}
+use Rattle.sctp_tx_queue.proofs.StreamsLemmas.{put_nowhere, put_same, stream_there}
 
 -- ---- those that may have changed
 
@@ -144,6 +145,24 @@ put_back id ss = go (lookup (is_at (nat_cmp id)) ss.entries) refl
     go : (o : Option Stream) → lookup (is_at (nat_cmp id)) ss.entries ≡ o → put_stream id (stream id ss) ss ≡ ss
     go None e = put_nowhere id (stream id ss) ss (sym e)
     go (Some s) e = put_same id (stream id ss) ss (ap (λ t. Some t) (stream_there id s ss (sym e)) ∙ sym e)
+
+-- a message that isn't the first of its stream
+none_dropped : (number : ℕ) (ms : List Queued) (s : Stream) → None ≡ front_discarded number ms → without_front number ms s ≡ s
+none_dropped number [] s h = refl
+none_dropped number (m ∷ rest) s h = go (m.number == number) h
+  where
+    go : (b : Bool) → None ≡ cond b (Some m.lifecycle) None → cond b (record s { messages = rest; pause = pause_if_pending s.pause }) s ≡ s
+    go true h = absurd (cc)
+    go false h = refl
+
+pub discard_none : {P : Type 0} (id number : ℕ) (q : Queue) (emitted : Emitted P) → None ≡ front_discarded number (stream id q.streams).messages → Same q emitted (discard id number q emitted).queue (discard id number q emitted).emitted
+discard_none {P} id number q emitted h = record {
+  queue = ap (λ o. (discard_from id (streams_discarded id number q.streams) o q emitted).queue) (sym h) ∙ ap (λ (ss : Streams). let r : Queue = record q { streams = ss } in r) streams;
+  events = ap (λ o. (discard_from id (streams_discarded id number q.streams) o q emitted).emitted) (sym h);
+}
+  where
+    streams : streams_discarded id number q.streams ≡ q.streams
+    streams = ap (λ t. put_stream id t q.streams) (none_dropped number (stream id q.streams).messages (stream id q.streams) h) ∙ put_back id q.streams
 
 none_left : (id : ℕ) (o : Option ℕ) → is_begun id o ≡ false → begun_without id o ≡ o
 none_left id None h = refl

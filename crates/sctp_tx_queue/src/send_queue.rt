@@ -196,7 +196,6 @@ impl SendQueue {
     }
 
     /// Drops the messages at the front of a stream that expired before they were begun. Without memory nothing changes.
-    #[tactic(auto, using(crate::proofs::AddedLemmas::any_keeps))]
     fn drop_stale(
         &mut self,
         now: SocketTime,
@@ -209,7 +208,7 @@ impl SendQueue {
         if !self.streams.is_stale(id, now) {
             return Ok(());
         }
-        self.changed = ChangedStreams::any();
+        self.changed.add(id);
         let mark = events.mark();
         if self.streams.emit_stale(id, now, events).is_err() {
             events.roll_back(mark);
@@ -354,7 +353,6 @@ impl SendQueue {
 
     /// Sets the amount at which a stream is low. Where its amount was above the old one and is at most the new one, an
     /// event says so.
-    #[tactic(auto, using(crate::proofs::AddedLemmas::any_keeps))]
     pub fn set_buffered_amount_low_threshold(
         &mut self,
         id: StreamId,
@@ -365,7 +363,7 @@ impl SendQueue {
         ensures emitted { OnOk result (events.new ≡ (set_low_threshold id.0 bytes self.old events.old).emitted) }
         ensures err { OnErr result (Same self.old events.old self.new events.new) }
     {
-        self.changed = ChangedStreams::any();
+        self.changed.add(id);
         let mark = events.mark();
         let is_low = self.streams.is_low_at(id, bytes);
         if emit_low(events, id, is_low).is_err() {
@@ -388,12 +386,11 @@ impl SendQueue {
     }
 
     /// Sets the priority of a stream, for its later fragments.
-    #[tactic(auto, using(crate::proofs::AddedLemmas::any_keeps))]
     pub fn set_priority(&mut self, id: StreamId, priority: u16) -> Result<(), AllocError>
         ensures ok { OnOk result (self.new ≡ set_priority id.0 priority self.old) }
         ensures err { OnErr result (self.new ≡ self.old) }
     {
-        self.changed = ChangedStreams::any();
+        self.changed.add(id);
         self.streams.open(id)?;
         self.streams.change(id, StreamChange::Priority(priority));
         Ok(())
@@ -415,7 +412,6 @@ impl SendQueue {
 
     /// Drops what is left of a message that was given up, where it is the first of its stream, as a partly sent message
     /// is. Its lifecycle ends.
-    #[tactic(auto, using(crate::proofs::AddedLemmas::any_keeps))]
     pub fn discard(
         &mut self,
         id: StreamId,
@@ -426,11 +422,10 @@ impl SendQueue {
         ensures emitted { OnOk result (events.new ≡ (discard id.0 message_id.0 self.old events.old).emitted) }
         ensures err { OnErr result (Same self.old events.old self.new events.new) }
     {
-        self.changed = ChangedStreams::any();
         let Some(discarded) = self.streams.front_discarded(id, message_id) else {
-            self.streams.change(id, StreamChange::Discard(message_id));
             return Ok(());
         };
+        self.changed.add(id);
         let demand = self.streams.demand_without(id, message_id);
         let lifecycle_id = discarded.lifecycle_id;
         leave_line(&mut self.scheduler, events, id, demand, lifecycle_id)?;
@@ -442,7 +437,6 @@ impl SendQueue {
     /// Prepares the reset of a stream: its messages of which nothing is sent are given up, and their lifecycles end.
     /// The stream can be reset once its partly sent message has ended, and sends no other one until the reset is
     /// answered.
-    #[tactic(auto, using(crate::proofs::AddedLemmas::any_keeps))]
     pub fn prepare_reset_stream(
         &mut self,
         id: StreamId,
@@ -456,7 +450,7 @@ impl SendQueue {
         let bytes = self.streams.sendable_prepared(id);
         match self.emit_and_open(id, bytes, events) {
             Ok(()) => {
-                self.changed = ChangedStreams::any();
+                self.changed.add(id);
                 self.streams.change(id, StreamChange::Prepare);
                 Ok(())
             }
@@ -468,7 +462,6 @@ impl SendQueue {
     }
 
     /// Takes the memory for a stream that is to be reset, and emits the events of the messages that it drops.
-    #[tactic(auto, using(crate::proofs::AddedLemmas::any_keeps))]
     fn emit_and_open(
         &mut self,
         id: StreamId,
@@ -483,7 +476,7 @@ impl SendQueue {
         ensures err { OnErr result (self.new ≡ self.old) }
         ensures grown { OnErr result (Grown events.old events.new) }
     {
-        self.changed = ChangedStreams::any();
+        self.changed.add(id);
         self.streams.emit_waiting(id, events)?;
         let priority = self.streams.priority(id);
         self.streams.open(id)?;
@@ -591,7 +584,6 @@ impl SendQueue {
 
     /// The association has ended: all messages are given up, each with its record, and their lifecycles end. Streams keep
     /// their settings and numbers. Without memory nothing changes.
-    #[tactic(auto, using(crate::proofs::AddedLemmas::any_keeps))]
     pub fn empty(&mut self, events: &mut Events) -> Result<(), AllocError>
         ensures queue { OnOk result (self.new ≡ (empty self.old events.old).queue) }
         ensures emitted { OnOk result (events.new ≡ (empty self.old events.old).emitted) }
@@ -600,7 +592,6 @@ impl SendQueue {
         if self.is_idle() {
             return Ok(());
         }
-        self.changed = ChangedStreams::any();
         let ids = self.streams.ids(self.alloc)?;
         let mark = events.mark();
         if self.streams.emit_ended(events).is_err() {
@@ -608,7 +599,6 @@ impl SendQueue {
             return Err(AllocError);
         }
         self.empty_each(&ids);
-        self.changed = ChangedStreams::any();
         self.begun = None;
         Ok(())
     }
@@ -676,12 +666,11 @@ impl SendQueue {
     }
 
     /// Takes a step of a stream's reset. Without memory nothing changes.
-    #[tactic(auto, using(crate::proofs::AddedLemmas::any_keeps))]
     fn take_step(&mut self, id: StreamId, step: ResetStep) -> Result<(), AllocError>
         ensures ok { OnOk result (self.new ≡ apply_reset_step step id.0 self.old) }
         ensures err { OnErr result (self.new ≡ self.old) }
     {
-        self.changed = ChangedStreams::any();
+        self.changed.add(id);
         let demand = self.streams.demand_stepped(id, step);
         self.scheduler
             .set_bytes_remaining(id, demand.bytes, demand.priority)?;
@@ -699,12 +688,11 @@ impl SendQueue {
         Ok(())
     }
 
-    /// A stream goes into a request, which takes no memory: it has nothing to send from then on.
-    #[tactic(auto, using(crate::proofs::AddedLemmas::any_keeps))]
+    /// A stream goes into a request, which needs no memory: it has nothing to send from then on.
     fn request_one(&mut self, id: StreamId)
         ensures { self.new ≡ apply_reset_step Requested id.0 self.old }
     {
-        self.changed = ChangedStreams::any();
+        self.changed.add(id);
         self.scheduler.leave(id);
         self.streams
             .change(id, StreamChange::Step(ResetStep::Requested));
