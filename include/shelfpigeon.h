@@ -603,7 +603,7 @@ uint32_t pigeon_channel_close(pigeon_socket *socket, uint32_t channel);
 
 /* Why something that came was not taken. */
 enum {
-    PIGEON_REFUSED_BAD_MESSAGE = 1,  /* no message of the opening; the stream is reset */
+    PIGEON_REFUSED_BAD_MESSAGE = 1,  /* no message of the opening; the stream is reset, where the association has it */
     PIGEON_REFUSED_PARITY = 2,       /* an opening on a stream that is this end's to open; the stream is reset */
     PIGEON_REFUSED_STREAM = 3,       /* an opening on a stream that the association doesn't have */
     PIGEON_REFUSED_IN_USE = 4,       /* an opening on a stream that has a channel, which is closed */

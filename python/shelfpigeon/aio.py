@@ -99,20 +99,20 @@ class Driver:
             self.turn()
 
     def soon(self) -> None:
-        """Has a turn come once the callbacks that are due have run, so that several calls share it."""
+        """Has a turn come once the callbacks that are due have run, so that several calls share it, unless one comes before."""
         if not self._planned and not self._stopped:
             self._planned = True
             self._loop.call_soon(self._planned_turn)
 
     def _planned_turn(self) -> None:
-        self._planned = False
-        self.turn()
+        if self._planned:
+            self.turn()
 
     def turn(self) -> None:
         """Takes all that was emitted, and sets the timer."""
         if self._stopped or self._turning:
             return
-        self._turning = True
+        self._planned, self._turning = False, True
         try:
             while not self._stopped and (event := self.channels.next_event()) is not None:
                 if isinstance(event, events.Packet):

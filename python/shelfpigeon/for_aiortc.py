@@ -98,14 +98,13 @@ class SctpTransport(RTCSctpTransport):
         )
         self._state_name = "connecting"
         self._driver = Driver(channels, self._send_packet, self._handle, self._ended, self._count)
-        self._driver.advance()
-        for channel in sorted(self._waiting, key=lambda it: not it.negotiated):  # those that have their numbers, then those that take a free one
-            self._begin(channel)
-        self._waiting.clear()
         self.transport._register_data_receiver(self)
         self.transport.on("statechange", self._transport_changed)
-        channels.connect()
-        self._driver.turn()
+        with self._driver.calls():
+            for channel in sorted(self._waiting, key=lambda it: not it.negotiated):  # those that have their numbers, then those that take a free one
+                self._begin(channel)
+            self._waiting.clear()
+            channels.connect()
 
     async def stop(self) -> None:
         """Ends the association by an ABORT, at which browsers close their channels."""

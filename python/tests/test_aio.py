@@ -340,6 +340,20 @@ async def test_records_are_taken_each_turn():
 
 
 @run
+async def test_a_turn_that_comes_before_is_the_planned_one():
+    turns = []
+    driver = aio.Driver(Emitted(), print, print, print, lambda: turns.append("turned"))
+    driver.soon()
+    driver.turn()
+    await asyncio.sleep(0)
+    assert turns == ["turned"]
+    driver.soon()
+    await asyncio.sleep(0)
+    assert turns == ["turned"] * 2
+    driver.stop()
+
+
+@run
 async def test_a_turn_goes_on_where_the_owner_fails():
     told = []
     asyncio.get_running_loop().set_exception_handler(lambda loop, context: told.append(str(context["exception"])))

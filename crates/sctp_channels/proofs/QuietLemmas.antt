@@ -1,5 +1,5 @@
 -- Rows of the table that tell no message, and leave no message in parts.
-use Rattle.std.proofs.Common.{◌≡◌, ℕ, ◌==◌, nat_le, cond, Bool, true, false, Option, Some, None, List, [], ◌∷◌, ◌++◌, map, refl, ap, subst, ◌∙◌}
+use Rattle.std.proofs.Common.{◌≡◌, ℕ, ◌==◌, cond, Bool, true, false, Option, Some, None, List, [], ◌∷◌, ◌++◌, map, refl, ap, subst, ◌∙◌}
 use Rattle.std.specs.Prelude.{All, IfSome}
 use Rattle.std.specs.BTreeMap.{is_at}
 use Rattle.std.specs.List.{flat_map}
@@ -10,7 +10,7 @@ use Rattle.std.proofs.lemmas.List.{append-nil}
 use Rattle.std.proofs.lemmas.List.Elements.{All-nil}
 use Rattle.std.proofs.lemmas.Map.Views.{All-map-remove_entry, All-values-insert_entry, All-values-set_value, IfSome-lookup_from_All}
 use Rattle.sctp_channels.specs.Channel.{Channel, change_lifecycle, kept_by, new_channel, reset_incoming, with_lifecycle}
-use Rattle.sctp_channels.specs.Channels.{Channels, Output, acknowledge, change, close, denied, drain, emit, end, has_room, is_denied, is_own, is_shown, no_description, on_ack, on_establishment, on_incoming_reset, on_open, on_reset_denied, on_reset_performed, open_from, place, prioritize, reopen_if, reset, settle, shown_streams, take_open, tell_closed, tell_end, tell_opened, tell_refused, turn_down, turn_down_from, weigh, where_there, with_entries}
+use Rattle.sctp_channels.specs.Channels.{Channels, Output, acknowledge, change, close, denied, drain, emit, end, has_room, has_stream, is_denied, is_own, is_shown, no_description, on_ack, on_establishment, on_incoming_reset, on_open, on_reset_denied, on_reset_performed, open_from, place, prioritize, refuse, reopen_if, reset, settle, shown_streams, take_open, tell_closed, tell_end, tell_opened, tell_refused, turn_down, turn_down_from, weigh, where_there, with_entries}
 use Rattle.sctp_channels.specs.Steps.{each}
 use Rattle.sctp_channels.proofs.StandsLemmas.{confirm_from}
 use Rattle.sctp_channels.specs.Entries.{Entries, channel_at, changed_from, forget, put}
@@ -84,8 +84,9 @@ closes id cs = changes (change_lifecycle life.close) id cs (λ c h. keeps_parts 
 
 turns_down_from : (o : Option Channel) (id : ℕ) (why : Refusal) (cs : Channels) → IsQuiet cs (turn_down_from o id why cs)
 turns_down_from None id why cs =
-    and_then cs (with_entries (put id (new_channel life.refused no_description) cs.entries) cs) (turn_down_from None id why cs) (puts life.refused no_description id cs)
-    (emits (tell_refused id why) (with_entries (put id (new_channel life.refused no_description) cs.entries) cs) refl)
+    let kept = cond (has_stream id cs) (refuse id cs) cs in
+    and_then cs kept (turn_down_from None id why cs) (either (has_stream id cs) cs (refuse id cs) cs (puts life.refused no_description id cs) (same cs))
+    (emits (tell_refused id why) kept refl)
 turns_down_from (Some c) id why cs = and_then cs (close id cs) (turn_down_from (Some c) id why cs) (closes id cs) (emits (tell_refused id why) (close id cs) refl)
 
 pub turns_down : (id : ℕ) (why : Refusal) (cs : Channels) → IsQuiet cs (turn_down id why cs)
@@ -121,10 +122,10 @@ opens_from (Some c) id description cs = reopens_if (life.may_reopen c.lifecycle)
 
 on_opening : (id : ℕ) (description : Open) (cs : Channels) → IsQuiet cs (on_open id description cs)
 on_opening id description cs =
-    either (nat_le cs.stream_count id) cs (emit (tell_refused id NoSuchStream) cs)
-    (cond (is_own cs.is_client id) (turn_down id WrongParity cs) (open_from (channel_at id cs.entries) id description cs)) (emits (tell_refused id NoSuchStream) cs refl)
+    either (has_stream id cs) cs (cond (is_own cs.is_client id) (turn_down id WrongParity cs) (open_from (channel_at id cs.entries) id description cs))
+    (emit (tell_refused id NoSuchStream) cs)
     (either (is_own cs.is_client id) cs (turn_down id WrongParity cs) (open_from (channel_at id cs.entries) id description cs) (turns_down id WrongParity cs)
-    (opens_from (channel_at id cs.entries) id description cs))
+    (opens_from (channel_at id cs.entries) id description cs)) (emits (tell_refused id NoSuchStream) cs refl)
 
 confirms : (id : ℕ) (cs : Channels) → IsQuiet cs (emit (tell_opened id) (change (change_lifecycle life.confirm) id cs))
 confirms id cs =

@@ -1,6 +1,6 @@
 -- The channels of an association: what each call of the owner, and each thing that the socket hands out, makes of them (RFC 8831 sections 6.5 to 6.7,
 -- RFC 8832 sections 4 and 6).
-use Rattle.std.specs.Prelude.{◌≡◌, ◌≢◌, ◌⊎◌, ℕ, ◌+◌, ◌-◌, ◌%◌, ◌==◌, ◌&&◌, nat_le, min, cond, Bool, true, false, not, Option, Some, None, List, [], ◌∷◌, ◌++◌, length, map}
+use Rattle.std.specs.Prelude.{◌≡◌, ◌≢◌, ◌⊎◌, ℕ, ◌+◌, ◌-◌, ◌%◌, ◌==◌, ◌&&◌, nat_le, nat_lt, min, cond, Bool, true, false, not, Option, Some, None, List, [], ◌∷◌, ◌++◌, length, map}
 use Rattle.std.specs.Map.{keys_of}
 use Rattle.sctp_channels.specs.declared.fault.ChannelMessageFault.{ChannelMessageFault}
 use Rattle.sctp_channels.specs.declared.fault.ChannelMessageFault.TheVariants.{Memory}
@@ -78,6 +78,10 @@ abbrev pub is_own : Bool → ℕ → Bool
 is_own true id = id % 2 == 0
 is_own false id = id % 2 == 1
 
+-- the association has the stream
+abbrev pub has_stream : ℕ → Channels → Bool
+has_stream id cs = nat_lt id cs.stream_count
+
 -- the stream is to have this priority; 0 leaves the one that it has
 abbrev pub weigh : (id priority : ℕ) → Channels → Channels
 weigh id priority cs = cond (priority == 0) cs (emit (prioritize id priority) cs)
@@ -112,9 +116,13 @@ Emits old new = (more : List Output) × (new ≡ record old { outputs = old.outp
 abbrev pub no_description : Open
 no_description = record { unordered = false; reliability = Reliable; priority = 0; label = []; protocol = [] }
 
--- what was opened isn't taken: its stream is reset; where there is a channel on it, that channel is closed
+-- the stream is to be reset
+abbrev pub refuse : ℕ → Channels → Channels
+refuse id cs = with_entries (put id (new_channel life.refused no_description) cs.entries) cs
+
+-- what was opened isn't taken: its stream is reset, where the association has it; where there is a channel on it, that channel is closed
 abbrev pub turn_down_from : Option Channel → ℕ → Refusal → Channels → Channels
-turn_down_from None id why cs = emit (tell_refused id why) (with_entries (put id (new_channel life.refused no_description) cs.entries) cs)
+turn_down_from None id why cs = emit (tell_refused id why) (cond (has_stream id cs) (refuse id cs) cs)
 turn_down_from (Some c) id why cs = emit (tell_refused id why) (close id cs)
 
 abbrev pub turn_down : ℕ → Refusal → Channels → Channels
@@ -144,8 +152,8 @@ open_from (Some c) id description cs = reopen_if (life.may_reopen c.lifecycle) (
 -- the peer opens a channel: on a stream of its own parity that there is
 abbrev pub on_open : ℕ → Open → Channels → Channels
 on_open id description cs =
-    cond (nat_le cs.stream_count id) (emit (tell_refused id NoSuchStream) cs)
-    (cond (is_own cs.is_client id) (turn_down id WrongParity cs) (open_from (channel_at id cs.entries) id description cs))
+    cond (has_stream id cs) (cond (is_own cs.is_client id) (turn_down id WrongParity cs) (open_from (channel_at id cs.entries) id description cs))
+    (emit (tell_refused id NoSuchStream) cs)
 
 -- an answer, or a message, that says that the peer has the channel
 abbrev pub on_ack : ℕ → Channels → Channels

@@ -8,7 +8,7 @@ ghost use Rattle.sctp_channels.specs.Payload.{protocol_of};
 ghost use Rattle.sctp_channels.specs.Steps.{each};
 ghost use Rattle.sctp_channels.specs.Views.{open_of};
 ghost use Rattle.sctp_channels.specs.Channel.{count_received, new_channel, received_as, takes_whole, with_lifecycle};
-ghost use Rattle.sctp_channels.specs.Channels.{Emits, OnControl, OnMessage, Output as output, Stands, change, close, deliver, drain, emit, end, hand, has_room, incoming_streams, is_denied, is_own, is_shown, limit_of, negotiate, no_channels, on_ack, on_incoming_reset, on_open, on_payload, on_reset_denied, on_reset_performed, open_from, open_own, output_of, place, room, sent, shown_streams, take_open, tell_closed, tell_end, turn_down, with_entries};
+ghost use Rattle.sctp_channels.specs.Channels.{Emits, OnControl, OnMessage, Output as output, Stands, change, close, deliver, drain, emit, end, hand, has_room, has_stream, incoming_streams, is_denied, is_own, is_shown, limit_of, negotiate, no_channels, on_ack, on_incoming_reset, on_open, on_payload, on_reset_denied, on_reset_performed, open_from, open_own, output_of, place, refuse, room, sent, shown_streams, take_open, tell_closed, tell_end, turn_down, with_entries};
 ghost use Rattle.sctp_channels.specs.DataChannels.{IsOpenAt};
 ghost use Rattle.sctp_channels.specs.Entries.{KeepsIncoming, channel_at, forget, put};
 
@@ -272,7 +272,14 @@ impl Channels {
         self.entries.send(socket, &id.0, size, given)
     }
 
-    /// What was opened isn't taken: its stream is reset, and a channel on it is closed.
+    /// Whether the association has the stream.
+    fn has_stream(&self, id: StreamId) -> bool
+        ensures { result ≡ has_stream id.0 self.now }
+    {
+        id.0 < self.stream_count
+    }
+
+    /// What was opened isn't taken: its stream is reset, where the association has it, and a channel on it is closed.
     fn turn_down(&mut self, id: StreamId, why: Refusal) -> Result<(), AllocError>
         ensures ok { OnOk result (self.new ≡ turn_down id.0 why self.old) }
         ensures err { OnErr result (Emits self.old self.new) }
@@ -282,6 +289,17 @@ impl Channels {
             self.close(id);
             return Ok(());
         }
+        if self.has_stream(id) {
+            return self.refuse(id);
+        }
+        Ok(())
+    }
+
+    /// The stream, which has no channel, is to be reset.
+    fn refuse(&mut self, id: StreamId) -> Result<(), AllocError>
+        ensures ok { OnOk result (self.new ≡ refuse id.0 self.old) }
+        ensures err { OnErr result (self.new ≡ self.old) }
+    {
         let nothing = DataChannelOpen {
             unordered: false,
             reliability: Reliability::Reliable,
@@ -406,7 +424,7 @@ impl Channels {
         ensures ok { OnOk result (self.new ≡ on_open id.0 (open_of description) self.old) }
         ensures err { OnErr result (Emits self.old self.new) }
     {
-        if self.stream_count <= id.0 {
+        if !self.has_stream(id) {
             return self.tell(Output::Refused(id, Refusal::NoSuchStream));
         }
         if is_own(self.is_client, id.0) {

@@ -25,7 +25,7 @@ use std::marker::Model;
 /// More events are not looked for in one `collect`.
 const MANY: u32 = 1_000_000;
 
-/// So many closing streams are looked at in a row, from where the last look ended and from the first on.
+/// So many closing streams are looked at in a row at most, from where the last look ended; behind the last one comes the first.
 const IN_TURN: usize = 64;
 
 /// The channels of an association.
@@ -583,17 +583,19 @@ impl DataChannels {
     {
         let before = self.closing.len();
         for id in &self.next_closing()? {
-            self.drain(*id, socket.buffered_amount(*id))?;
+            if socket.buffered_amount(*id) == 0 {
+                self.drain(*id)?;
+            }
         }
         Ok(self.closing.len() < before)
     }
 
-    /// A stream whose reset was asked for isn't looked at again.
-    fn drain(&mut self, id: StreamId, buffered_amount: usize) -> Result<(), AllocError>
-        ensures row { OnOk result (self.new ≡ with_channels (drain id.0 buffered_amount self.old.channels) self.old) }
+    /// Nothing of the stream waits in the socket. One whose reset was asked for isn't looked at again.
+    fn drain(&mut self, id: StreamId) -> Result<(), AllocError>
+        ensures row { OnOk result (self.new ≡ with_channels (drain id.0 0 self.old.channels) self.old) }
         ensures told { self.new.events ≡ self.old.events }
     {
-        self.channels.drain(id, buffered_amount)?;
+        self.channels.drain(id, 0)?;
         if !self.is_draining(id) {
             self.closing.remove(&id.0);
         }
@@ -607,10 +609,8 @@ impl DataChannels {
         let is_many = self.closing.len() > IN_TURN;
         let from = if is_many { self.next_closing } else { 0 };
         let mut ids = Vec::new(self.alloc);
-        for id in self.closing.range(from..).take(IN_TURN) {
-            ids.push(StreamId(*id))?;
-        }
-        for id in self.closing.range(..from).take(IN_TURN) {
+        let behind = self.closing.range(from..);
+        for id in behind.chain(self.closing.range(..from)).take(IN_TURN) {
             ids.push(StreamId(*id))?;
         }
         if let Some(last) = ids.last() {

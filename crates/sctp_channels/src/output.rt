@@ -6,7 +6,7 @@ use sctp_wire::StreamId;
 /// Why something that came was not taken.
 #[derive(Clone, Copy, Debug)]
 pub enum Refusal {
-    /// What came under the PPID 50 is no message that opens a channel, or answers. The stream is reset.
+    /// What came under the PPID 50 is no message that opens a channel, or answers. The stream is reset, where the association has it.
     BadMessage(ChannelMessageFault),
     /// The peer opened a channel on a stream that is this end's to open. The stream is reset.
     WrongParity,
