@@ -1,10 +1,10 @@
 -- A forward point goes on item by item.
 use Rattle.std.proofs.Common.{◌≡◌, ℕ, zero, suc, ◌+◌, ◌≤◌, Bool, true, false, cond, List, [], ◌∷◌, length, refl, ap, sym, ◌∙◌, arith}
-use Rattle.std.specs.Prelude.{slice_get}
+use Rattle.std.specs.Prelude.{◌&&◌, not, nat_le, Option, Some, None, slice_get}
 use Rattle.sctp_tx_outstanding.specs.declared.skips.SkipEntry.{SkipEntry}
-use Rattle.sctp_tx_outstanding.specs.Item.{Item}
+use Rattle.sctp_tx_outstanding.specs.Item.{Item, is_abandoned}
 use Rattle.sctp_tx_outstanding.specs.OutstandingData.{Items}
-use Rattle.sctp_tx_outstanding.specs.Forward.{ForwardPoint, passes, pass_item, passes_of, entry_in, with_entry, walk, walk_from}
+use Rattle.sctp_tx_outstanding.specs.Forward.{ForwardPoint, entry_of, size_with, stops, passes, pass_item, passes_of, is_next, entry_in, with_entry, walk, walk_from}
 
 pub yes : (b : Bool) (f g : ForwardPoint) → b ≡ true → cond b f g ≡ f
 yes true f g h = refl
@@ -35,6 +35,10 @@ walk_end most s f (suc k) (i ∷ is) h = walk_end most s f k is (omega (arith, h
 
 abbrev pub at : ℕ → List SkipEntry → ForwardPoint
 at k es = record { count = k; entries = es }
+
+pub next_passes : (most : ℕ) (s : Items) (k : ℕ) (es : List SkipEntry) (o : Option Item) → stops k s ≡ false → is_next s.is_interleaved most es o ≡ passes_of most s (at k es) o
+next_passes most s k es None h = refl
+next_passes most s k es (Some i) h = ap (λ b. is_abandoned i && (not b && nat_le (size_with s.is_interleaved (entry_of s.is_interleaved i) es) most)) (sym h)
 
 module _ (most : ℕ) (s : Items) (k : ℕ) (es : List SkipEntry) (whole : ForwardPoint) (so_far : walk_from k most s (at k es) s.kept ≡ whole) where
   pub forward_on : (js : List SkipEntry) → passes_of most s (at k es) (slice_get s.kept k) ≡ true → js ≡ with_entry (entry_in s.is_interleaved (slice_get s.kept k)) es

@@ -1,6 +1,8 @@
 -- A forward point begins with what is known of the first items.
 use Rattle.std.proofs.Common.{◌≡◌, inl, inr, ℕ, zero, suc, ◌+◌, ◌≤◌, ◌<◌, ◌++◌, Bool, true, false, cond, Option, Some, None, List, [], ◌∷◌, length, length-append, filter, take, refl, ap, sym, subst, ◌∙◌, arith}
-use Rattle.std.specs.Prelude.{◌||◌, ◌==◌, ◌*◌, not, slice_get}
+use Rattle.std.specs.Prelude.{◌||◌, ◌==◌, ◌*◌, not, option_map, slice_get, slice_index_or, IfSome}
+use Rattle.std.specs.Option.{IsSome}
+use Rattle.std.proofs.lemmas.Option.{slice_get_past, slice_get_read}
 use Rattle.std.specs.List.{list_all, list_any}
 use Rattle.std.proofs.lemmas.Bool.{cases_lt, and_from, and_parts, eqb-true, le-leb}
 use Rattle.std.proofs.lemmas.Bool.Decides.{nat_tests}
@@ -13,7 +15,7 @@ use Rattle.sctp_tx_outstanding.specs.Change.{apply_change}
 use Rattle.sctp_tx_outstanding.specs.Item.{Item, is_abandoned}
 use Rattle.sctp_tx_outstanding.specs.Keeps.{Remains}
 use Rattle.sctp_tx_outstanding.specs.OutstandingData.{Items, change_at, when}
-use Rattle.sctp_tx_outstanding.specs.Forward.{ForwardPoint, entry_of, entry_size, is_alike, is_before, put_entry, with_entry, count_with, size_with, stops, passes, pass_item, walk, walk_from, forward_point}
+use Rattle.sctp_tx_outstanding.specs.Forward.{ForwardPoint, entry_of, entry_size, is_alike, is_before, put_entry, with_entry, count_with, size_with, stops, passes, is_next, entry_in, pass_item, walk, walk_from, forward_point}
 use Rattle.sctp_tx_outstanding.specs.Point.{Ascend, named_number, last_number}
 use Rattle.sctp_tx_outstanding.specs.Touched.{entries_in, find, last_touch, touch_by, touched_with, is_kept, kept_of}
 use Rattle.sctp_tx_outstanding.specs.Passed.{ArePassed, BeginsPoint, entries_over}
@@ -24,6 +26,14 @@ use Rattle.sctp_tx_outstanding.proofs.PointLemmas.{with_is}
 use Rattle.sctp_tx_outstanding.proofs.TotalsLemmas.{length_change}
 use Rattle.sctp_tx_outstanding.proofs.TouchedLemmas.{first_gone, kept_more, push_kept, touched_entries, kept_ascends, find_kept, kept_once, number_of, last_is_number, named_is_found}
 use Rattle.sctp_serial.proofs.NumberLemmas.{less_differs}
+
+-- what a look-up finds at a place
+pub looked_up : {B : Type 0} (now : B → Item) (is : List Item) (n k : ℕ) (o : Option B) → n ≡ length is → (IsSome o → k < n) × (k < n → IsSome o) → IfSome o (λ b. now b ≡ slice_index_or is k (now b)) → option_map now o ≡ slice_get is k
+looked_up now is n k None len inside at = elim (cases_lt k n) [
+  | inl within ↦ let some = inside.1 within in absurd (cc)
+  | inr beyond ↦ sym (slice_get_past is k (omega (arith, len, beyond)))
+]
+looked_up now is n k (Some b) len inside at = sym (slice_get_read is n k (now b) len (inside.0 refl) at)
 
 -- ---- items come, leave and change
 
@@ -65,7 +75,7 @@ is_within n [] i here = absurd (cc)
 is_within zero (j ∷ is) i here = omega arith
 is_within (suc n) (j ∷ is) i here = let ih = is_within n is i here in omega (arith, ih)
 
-pub passed_on : (m : Bool) (is : List Item) (count left : ℕ) (ts : List Touched) (i : Item) → slice_get is count ≡ Some i → is_abandoned i ≡ true → ArePassed m is count left ts
+passed_on : (m : Bool) (is : List Item) (count left : ℕ) (ts : List Touched) (i : Item) → slice_get is count ≡ Some i → is_abandoned i ≡ true → ArePassed m is count left ts
     → ArePassed m is (suc count) left (touched_with (entry_of m i) (left + count) ts)
 passed_on m is count left ts i here up h = record {
   within = is_within count is i here;
@@ -73,6 +83,18 @@ passed_on m is count left ts i here up h = record {
   ascends = subst Ascend (sym (touched_entries (entry_of m i) (left + count) ts)) (ascends_with (entry_of m i) (entries_in ts) h.ascends);
   named = λ e. push_kept m e left count is i ts here (h.named e);
 }
+
+pub passed_next : (m : Bool) (most : ℕ) (is : List Item) (count left : ℕ) (ts us : List Touched) → is_next m most (entries_in ts) (slice_get is count) ≡ true
+    → us ≡ touched_with (entry_in m (slice_get is count)) (left + count) ts → ArePassed m is count left ts → ArePassed m is (suc count) left us
+passed_next m most is count left ts us next put h = go (slice_get is count) refl where
+  go : (o : Option Item) → slice_get is count ≡ o → ArePassed m is (suc count) left us
+  go None here =
+      let none : is_next m most (entries_in ts) None ≡ true = ap (λ (o : Option Item). is_next m most (entries_in ts) o) (sym here) ∙ next in
+      absurd (cc)
+  go (Some i) here =
+      let some : is_next m most (entries_in ts) (Some i) ≡ true = ap (λ (o : Option Item). is_next m most (entries_in ts) o) (sym here) ∙ next in
+      let up = (and_parts (is_abandoned i) _ some).0 in
+      subst (λ (xs : List Touched). ArePassed m is (suc count) left xs) (sym (put ∙ ap (λ (o : Option Item). touched_with (entry_in m o) (left + count) ts) here)) (passed_on m is count left ts i here up h)
 
 pub passed_kept : (m : Bool) (is : List Item) (count left : ℕ) (ts : List Touched) → ArePassed m is count left ts → ArePassed m is count left (filter (λ t. is_kept left t) ts)
 passed_kept m is count left ts h = record {

@@ -1,5 +1,5 @@
 -- Forward points: what the sender gave up and sends no more (RFC 3758 section 3.5, RFC 8260 section 2.3).
-use Rattle.std.specs.Prelude.{ℕ, zero, suc, ◌+◌, ◌*◌, ◌==◌, ◌&&◌, ◌||◌, not, nat_lt, nat_le, Bool, true, false, if◌then◌else◌, Option, Some, None, List, [], ◌∷◌, length, slice_get}
+use Rattle.std.specs.Prelude.{ℕ, zero, suc, ◌+◌, ◌*◌, ◌==◌, ◌&&◌, ◌||◌, not, nat_lt, nat_le, Bool, true, false, if◌then◌else◌, Option, Some, None, List, [], ◌∷◌, length}
 use Rattle.std.specs.List.{list_any}
 use Rattle.sctp_tx_outstanding.specs.declared.skips.SkipEntry.{SkipEntry}
 use Rattle.sctp_tx_outstanding.specs.Item.{Item, is_abandoned}
@@ -99,8 +99,10 @@ abbrev pub entry_in : (is_interleaved : Bool) → Option Item → Option SkipEnt
 entry_in m None = None
 entry_in m (Some i) = entry_of m i
 
-abbrev pub entry_at : Items → ℕ → Option SkipEntry
-entry_at s k = entry_in s.is_interleaved (slice_get s.kept k)
+-- whether the next item is given up, and its entry has room
+abbrev pub is_next : (is_interleaved : Bool) → (most : ℕ) → List SkipEntry → Option Item → Bool
+is_next m most es None = false
+is_next m most es (Some i) = is_abandoned i && nat_le (size_with m (entry_of m i) es) most
 
 -- how many entries stand before the place of this one
 abbrev pub entries_before : SkipEntry → List SkipEntry → ℕ

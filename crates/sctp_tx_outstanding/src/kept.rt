@@ -13,7 +13,7 @@ ghost use Rattle.sctp_tx_outstanding.specs.Views.{last_tree, point_of};
 ghost use Rattle.sctp_tx_outstanding.specs.LastBlocks.{Rest, RestBelow, RestFrom};
 ghost use Rattle.sctp_tx_outstanding.specs.Sack.{all_leaving_events};
 ghost use Rattle.sctp_tx_outstanding.specs.Messages.{Finds, NoneIsOf};
-ghost use Rattle.sctp_tx_outstanding.specs.Quiet.{flies_at, NoneFlies};
+ghost use Rattle.sctp_tx_outstanding.specs.Quiet.{NoneFlies};
 ghost use Rattle.sctp_tx_outstanding.specs.Waiting.{NoneWaits};
 ghost use Rattle.sctp_state.specs.Events.{emit_events, Grown};
 
@@ -26,7 +26,6 @@ use crate::item::{Item, header_size};
 use crate::last_blocks::{alike, reach};
 use crate::messages::Messages;
 use crate::passed::ForwardPoint;
-use crate::quiet::flies;
 use crate::sack::highest_end;
 use crate::totals::Totals;
 use sctp_chunk::{Data, GapAckBlock, are_runs};
@@ -318,13 +317,6 @@ impl Kept {
         ensures { option_map (λ i. i.now) result ≡ slice_get self.now.items place }
     {
         self.items.get(place)
-    }
-
-    /// Whether the item at the place is in flight or missing.
-    pub(crate) fn flies(&self, place: usize) -> bool
-        ensures { result ≡ flies_at place self.now.items }
-    {
-        flies(&self.items, place)
     }
 
     /// A place from this one on up to which no item is in flight or missing, and at which one may be.

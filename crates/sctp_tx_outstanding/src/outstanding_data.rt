@@ -1,6 +1,6 @@
 //! The fragments that have their TSN and are not acknowledged for good.
 
-ghost use Rattle.std.specs.Prelude.{◌≡◌, ◌⊎◌, ℕ, ◌+◌, ◌-◌, ◌<◌, ◌≤◌, ◌^◌, ◌&&◌, [], not, nat_lt, min, length, map, slice_get, option_map, filter, take, true, ◌||◌, drop, ◌==◌, Option, Some, None, false, IsTrue, IfOk, OnOk, OnErr};
+ghost use Rattle.std.specs.Prelude.{◌≡◌, ◌⊎◌, ℕ, ◌+◌, ◌-◌, ◌<◌, ◌≤◌, ◌^◌, ◌&&◌, [], not, nat_lt, min, length, map, slice_get, option_map, filter, take, true, ◌||◌, drop, ◌==◌, Option, Some, None, false, IsTrue, IfOk, IfSome, IfNone, OnOk, OnErr};
 ghost use Rattle.std.specs.List.{list_any};
 ghost use Rattle.std.specs.Duration.{as_nanos};
 ghost use Rattle.sctp_chunk.specs.Views.{forward_tsn_tree, i_forward_tsn_tree};
@@ -13,11 +13,10 @@ ghost use Rattle.sctp_tx_outstanding.specs.Views.{discard_of, point_of};
 ghost use Rattle.sctp_tx_outstanding.specs.Losses.{loss_of};
 ghost use Rattle.sctp_tx_outstanding.specs.OutstandingData.{append_item, begin_reset, is_last, begun_at};
 ghost use Rattle.sctp_tx_outstanding.specs.LastBlocks.{Rest};
+ghost use Rattle.sctp_tx_outstanding.specs.Quiet.{flies_at};
 ghost use Rattle.sctp_tx_outstanding.specs.Expiries.{FindsDue};
 ghost use Rattle.sctp_tx_outstanding.specs.Interrupted.{Same, SomeNacked, SomeExpired, SackPartlyTaken};
-ghost use Rattle.sctp_tx_outstanding.specs.Forward.{is_forward_due, entry_at, stops, passes_of, forward_point};
-ghost use Rattle.sctp_tx_outstanding.specs.Point.{Ascend};
-ghost use Rattle.sctp_tx_outstanding.specs.Touched.{entries_in};
+ghost use Rattle.sctp_tx_outstanding.specs.Forward.{is_forward_due, stops, forward_point};
 ghost use Rattle.sctp_tx_outstanding.specs.Sack.{sample, is_in_range, is_valid, staying, leaving, departing_bytes, all_leaving_events, receive_sack, acked_bytes, highest_end};
 ghost use Rattle.sctp_state.specs.Events.{first_of};
 
@@ -31,7 +30,7 @@ use crate::item::Item;
 use crate::kept::{Change, Kept, placeholder};
 use crate::passed::ForwardPoint;
 use crate::sack::{AckInfo, highest_end, settle_all, take_out};
-use crate::skips::{SkipEntry, Touched, chunk_size_with, entry_of, mid_skips, put_if, ssn_skips};
+use crate::skips::{mid_skips, pass, ssn_skips};
 use sctp_chunk::{
     Data, ForwardTsnChunk, GapAckBlock, IForwardTsnChunk, SackChunk, SpareBuffers, are_runs,
 };
@@ -313,12 +312,16 @@ impl OutstandingData {
         Ok(())
     }
 
-    /// What a missing report, or a timeout, finds of the item at the place.
+    /// What a missing report, or a timeout, finds of the item at the place, if it is in flight or missing.
     fn loss_at(&self, place: usize, at_once: bool) -> Option<Loss>
-        ensures { result ≡ option_map (loss_of self.now.items.is_partial at_once) (slice_get self.now.items.kept place) }
+        ensures loss { IfSome result (λ loss. Some loss ≡ option_map (loss_of self.now.items.is_partial at_once) (slice_get self.now.items.kept place)) }
+        ensures none { IfNone result (flies_at place self.now.items.kept ≡ false) }
     {
         let item = self.kept.get(place)?;
-        let is_lost = item.is_outstanding() && item.is_lost(at_once);
+        if !item.is_outstanding() {
+            return None;
+        }
+        let is_lost = item.is_lost(at_once);
         let may_give_up = self.is_partial && item.is_used_up();
         Some(Loss {
             is_lost,
@@ -342,9 +345,6 @@ impl OutstandingData {
         ensures err { OnErr result (self.new ≡ self.old) }
         ensures silent { OnErr result (events.new ≡ events.old) }
     {
-        if !self.kept.flies(place) {
-            return Ok(false);
-        }
         let Some(loss) = self.loss_at(place, at_once) else {
             return Ok(false);
         };
@@ -603,14 +603,6 @@ impl OutstandingData {
         })
     }
 
-    /// What the item at the place says of its stream.
-    fn entry_at(&self, place: usize) -> Option<SkipEntry>
-        ensures { result ≡ entry_at self.now.items place }
-    {
-        let item = self.kept.get(place)?;
-        entry_of(item, self.kept.is_interleaved())
-    }
-
     /// How many items stand before the first breakpoint that ends a forward point, or all, if none does.
     fn items_before_break(&self) -> usize
         ensures within { result ≤ length self.now.items.kept }
@@ -622,22 +614,6 @@ impl OutstandingData {
             .breakpoints
             .next(first, first + self.kept.len() as u128);
         (next - first) as usize
-    }
-
-    /// Whether a forward point passes the item at the place too, before which no breakpoint ends it.
-    fn passes(&self, place: usize, touched: &[Touched], max_size: usize) -> bool
-        requires unbroken { stops place self.now.items ≡ false }
-        requires ascending { Ascend (entries_in touched.now) }
-        ensures { result ≡ passes_of max_size self.now.items (record { count = place; entries = entries_in touched.now }) (slice_get self.now.items.kept place) }
-    {
-        let Some(item) = self.kept.get(place) else {
-            return false;
-        };
-        if !item.is_abandoned() {
-            return false;
-        }
-        let entry = self.entry_at(place);
-        chunk_size_with(self.kept.is_interleaved(), entry, touched) <= max_size as u128
     }
 
     /// Looks up how far a forward point goes that fits `max_size` bytes, so that it goes on from there later.
@@ -656,13 +632,14 @@ impl OutstandingData {
         let begun = self.kept.begun_point(self.alloc, end, max_size)?;
         let mut touched = begun.touched;
         for place in begun.count..end {
-            if !self.passes(place, &touched, max_size) {
+            let item = self.kept.get(place);
+            let is_interleaved = self.is_interleaved();
+            if !pass(&mut touched, item, place as u64, is_interleaved, max_size)? {
                 return Ok(ForwardPoint {
                     count: place,
                     touched,
                 });
             }
-            put_if(&mut touched, self.entry_at(place), place as u128)?;
         }
         Ok(ForwardPoint {
             count: end,

@@ -7,7 +7,7 @@ ghost use Rattle.sctp_tx_outstanding.specs.Touched.{is_kept};
 ghost use Rattle.sctp_tx_outstanding.specs.Passed.{IsPassed, BeginsPoint};
 
 use crate::item::Item;
-use crate::skips::{Touched, chunk_size_with, entry_of, put_if};
+use crate::skips::{Touched, chunk_size_with, pass};
 use std::alloc::{AllocError, Global};
 use std::collections::VecDeque;
 
@@ -32,7 +32,6 @@ pub struct ForwardPoint {
 fn forget_left(touched: &mut Vec<Touched>, left: u64)
     ensures { touched.new.items ≡ filter (λ t. is_kept left t) touched.old.items }
 {
-    let left = u128::from(left);
     touched.retain(|one| left <= one.last);
 }
 
@@ -98,23 +97,18 @@ impl Passed {
         requires { IsPassed is_interleaved items.now.items self.old }
         ensures { IsPassed is_interleaved items.now.items self.new }
     {
-        let Some(item) = items.get(self.count) else {
+        let Some(number) = self.left.checked_add(self.count as u64) else {
             return false;
         };
-        if !item.is_abandoned() {
-            return false;
-        }
-        let entry = entry_of(item, is_interleaved);
-        if chunk_size_with(is_interleaved, entry, &self.touched) > most as u128 {
-            return false;
-        }
-        let last = u128::from(self.left) + self.count as u128;
-        if put_if(&mut self.touched, entry, last).is_err() {
+        let item = items.get(self.count);
+        let Ok(passes) = pass(&mut self.touched, item, number, is_interleaved, most) else {
             self.forget();
             return false;
+        };
+        if passes {
+            self.count += 1;
         }
-        self.count += 1;
-        true
+        passes
     }
 
     /// Forgets the streams of items that left, and all where it ends behind this place or the chunk is longer than this.

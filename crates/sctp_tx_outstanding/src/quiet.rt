@@ -17,7 +17,7 @@ pub struct Quiet {
 }
 
 /// Whether the item at the place is in flight or missing.
-pub(crate) fn flies(items: &VecDeque<Item>, place: usize) -> bool
+fn flies(items: &VecDeque<Item>, place: usize) -> bool
     ensures { result ≡ flies_at place items.now.items }
 {
     match items.get(place) {

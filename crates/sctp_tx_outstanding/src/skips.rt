@@ -1,8 +1,8 @@
 //! Entries of forward points, which ascend by stream, so that one is found by halves. Each has the number of its last item.
 
-ghost use Rattle.std.specs.Prelude.{◌≡◌, ◌+◌, ◌<◌, ◌≤◌, length, map, IfOk, OnOk, OnErr, ◌&&◌};
+ghost use Rattle.std.specs.Prelude.{◌≡◌, ◌+◌, ◌<◌, ◌≤◌, length, map, option_map, true, false, IfOk, OnOk, OnErr, ◌&&◌};
 ghost use Rattle.std.specs.List.{list_any};
-ghost use Rattle.sctp_tx_outstanding.specs.Forward.{entry_of, is_before, is_alike, entries_before, size_with};
+ghost use Rattle.sctp_tx_outstanding.specs.Forward.{entry_of, entry_in, is_before, is_alike, entries_before, size_with, is_next};
 ghost use Rattle.sctp_tx_outstanding.specs.Touched.{entries_in, put_touched, touched_with};
 ghost use Rattle.sctp_tx_outstanding.specs.Entries.{ssn_skip, mid_skip};
 ghost use Rattle.sctp_tx_outstanding.specs.Point.{Ascend};
@@ -57,11 +57,11 @@ impl SkipEntry {
 #[derive(Clone, Copy)]
 pub struct Touched {
     pub entry: SkipEntry,
-    pub last: u128,
+    pub last: u64,
 }
 
 /// What an item says of its stream.
-pub(crate) fn entry_of(item: &Item, is_interleaved: bool) -> Option<SkipEntry>
+fn entry_of(item: &Item, is_interleaved: bool) -> Option<SkipEntry>
     ensures { result ≡ entry_of is_interleaved item.now }
 {
     let fragment = item.data();
@@ -138,22 +138,6 @@ pub(crate) fn mid_skips(
         .collect(alloc)
 }
 
-/// Puts the entry of the item of this number, if it has one, at its place. Without memory nothing changes.
-pub(crate) fn put_if(
-    touched: &mut Vec<Touched>,
-    entry: Option<SkipEntry>,
-    last: u128,
-) -> Result<(), AllocError>
-    requires { Ascend (entries_in touched.old.items) }
-    ensures ok { OnOk result (touched.new.items ≡ touched_with entry last touched.old.items) }
-    ensures err { OnErr result (touched.new.items ≡ touched.old.items) }
-{
-    if let Some(entry) = entry {
-        put(touched, Touched { entry, last })?;
-    }
-    Ok(())
-}
-
 /// The bytes of a forward chunk with these entries and one more, if it isn't named.
 pub(crate) fn chunk_size_with(
     is_interleaved: bool,
@@ -169,4 +153,35 @@ pub(crate) fn chunk_size_with(
         _ => 0,
     };
     8 + entry_size * (touched.len() as u128 + more)
+}
+
+/// Goes on over the item of this number, if it is given up and its stream has room in a chunk of `max_size` bytes: its entry,
+/// if it has one, comes to its place. Says whether it did. Without memory nothing changes.
+pub(crate) fn pass(
+    touched: &mut Vec<Touched>,
+    item: Option<&Item>,
+    last: u64,
+    is_interleaved: bool,
+    max_size: usize,
+) -> Result<bool, AllocError>
+    requires { Ascend (entries_in touched.old.items) }
+    ensures passes { IfOk result (λ passes. passes ≡ is_next is_interleaved max_size (entries_in touched.old.items) (option_map (λ i. i.now) item.entry)) }
+    ensures on { IfOk result (λ passes. passes ≡ true → touched.new.items ≡ touched_with (entry_in is_interleaved (option_map (λ i. i.now) item.entry)) last touched.old.items) }
+    ensures off { IfOk result (λ passes. passes ≡ false → touched.new.items ≡ touched.old.items) }
+    ensures err { OnErr result (touched.new.items ≡ touched.old.items) }
+{
+    let Some(item) = item else {
+        return Ok(false);
+    };
+    if !item.is_abandoned() {
+        return Ok(false);
+    }
+    let entry = entry_of(item, is_interleaved);
+    if chunk_size_with(is_interleaved, entry, touched) > max_size as u128 {
+        return Ok(false);
+    }
+    if let Some(entry) = entry {
+        put(touched, Touched { entry, last })?;
+    }
+    Ok(true)
 }

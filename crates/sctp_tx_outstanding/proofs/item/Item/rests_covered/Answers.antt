@@ -1,4 +1,4 @@
-use Rattle.std.proofs.Common.{◌≡◌, arith, rules}
+use Rattle.std.proofs.Common.{arith, rules}
 use Rattle.std.proofs.lemmas.Bool.Decides.{nat_tests}
 use Rattle.sctp_tx_outstanding.proofs.ReceivedLemmas.{acked_rests, given_up_rests}
 use Rattle.sctp_tx_outstanding.proofs.item.Item.rests_covered.Goals as goal

@@ -1,19 +1,19 @@
-use Rattle.std.proofs.Common.{◌≡◌, refl, false, rules}
+use Rattle.std.proofs.Common.{◌≡◌, refl, false}
 use Rattle.sctp_tx_outstanding.specs.Quiet.{flies_at}
 use Rattle.sctp_tx_outstanding.proofs.QuietLemmas.{still_items, still_emitted, still_lossy}
 use Rattle.sctp_tx_outstanding.proofs.outstanding_data.OutstandingData.nack_item.Goals as goal
 
-pub returns-then-not-flies-clause-items : goal.returns-then-not-flies-clause-items
-returns-then-not-flies-clause-items c =
-    let quiet : flies_at c.args.place c.args.self.now.items.kept ≡ false = search rules in
+pub returns-in_default-clause-items : goal.returns-in_default-clause-items
+returns-in_default-clause-items c =
+    let quiet : flies_at c.args.place c.args.self.now.items.kept ≡ false = c.in_default.ensures.none in
     still_items c.args.at_once c.args.fast c.args.place c.args.self.now.items c.args.events.now quiet c.args.self.now refl
 
-pub returns-then-not-flies-clause-emitted : goal.returns-then-not-flies-clause-emitted
-returns-then-not-flies-clause-emitted c =
-    let quiet : flies_at c.args.place c.args.self.now.items.kept ≡ false = search rules in
+pub returns-in_default-clause-emitted : goal.returns-in_default-clause-emitted
+returns-in_default-clause-emitted c =
+    let quiet : flies_at c.args.place c.args.self.now.items.kept ≡ false = c.in_default.ensures.none in
     still_emitted c.args.at_once c.args.fast c.args.place c.args.self.now.items c.args.events.now quiet
 
-pub returns-then-not-flies-clause-lossy : goal.returns-then-not-flies-clause-lossy
-returns-then-not-flies-clause-lossy c =
-    let quiet : flies_at c.args.place c.args.self.now.items.kept ≡ false = search rules in
+pub returns-in_default-clause-lossy : goal.returns-in_default-clause-lossy
+returns-in_default-clause-lossy c =
+    let quiet : flies_at c.args.place c.args.self.now.items.kept ≡ false = c.in_default.ensures.none in
     still_lossy c.args.at_once c.args.fast c.args.place c.args.self.now.items c.args.events.now quiet
