@@ -1,7 +1,9 @@
 //! Tests of the layers below the association that are no rows of a script: numbers that wrap, through their bound, buffers that are used
-//! again, and sender and receiver in want of memory. Apart, so that each crate is proved once.
+//! again, messages of many fragments, and sender and receiver in want of memory. Apart, so that each crate is proved once.
 #![tactic(auto)]
 
+#[cfg(test)]
+mod long;
 #[cfg(test)]
 mod receiver;
 #[cfg(test)]
