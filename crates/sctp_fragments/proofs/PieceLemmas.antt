@@ -120,10 +120,10 @@ module _ {D E : Type 0} (f : D → List E) where
   pub pieces_front : (old more new : List D) → new ≡ more ++ old → flat (map f new) ≡ flat (map f more) ++ flat (map f old)
   pieces_front old more new is = pieces_append more old new is
 
-  -- an entry, and a new piece behind it
-  pub pushed : (first last : List E) (x : E) (m0 m1 : List D) (a : D) (more : List E) → f a ≡ last → m1 ≡ m0 ++ a ∷ [] → more ≡ x ∷ []
-      → first ++ (flat (map f m1) ++ more) ≡ (first ++ (flat (map f m0) ++ last)) ++ x ∷ []
-  pushed first last x m0 m1 a more is put new = rw new (rw (pieces_back m0 m1 a put) (rw is (simp append_assoc)))
+  -- the last piece came to the others
+  pub begun : (first last : List E) (m0 m1 : List D) (a : D) (rest : List E) → f a ≡ last → m1 ≡ m0 ++ a ∷ [] → rest ≡ []
+      → first ++ (flat (map f m1) ++ rest) ≡ first ++ (flat (map f m0) ++ last)
+  begun first last m0 m1 a rest is put none = rw none (rw (pieces_back m0 m1 a put) (rw is (ap (λ (t : List E). first ++ t) (append-nil (flat (map f m0) ++ last)))))
 
   -- an entry and others behind it
   pub appended : (first last first2 last2 : List E) (x : E) (m0 m1 m2 m3 more : List D) (a b : D) → f a ≡ last ++ x ∷ [] → f b ≡ first2

@@ -75,3 +75,10 @@ abbrev pub IsLong : {K : Type 0} → Entries K → Type 0
 IsLong (One a e) = ⊥
 IsLong (Many d) = ⊥
 IsLong (Long b) = Unit {0}
+
+-- room can be made for others of the size
+abbrev pub IsReady : {K : Type 0} → Size → Entries K → Type 0
+IsReady s (One a e) = ⊥
+IsReady (OfEntries n) (Many d) = Unit {0}
+IsReady (OfPieces n) (Many d) = ⊥
+IsReady s (Long b) = Unit {0}

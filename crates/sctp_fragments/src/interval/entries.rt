@@ -3,9 +3,9 @@
 ghost use Rattle.std.specs.Prelude.{◌≡◌, ◌==◌, ◌+◌, ◌-◌, ◌<◌, ◌≤◌, ◌++◌, ◌∷◌, [], length, is_ok, if◌then◌else◌, IfOk, OnOk, IsSome, slice_index_or};
 ghost use Rattle.std.specs.Option.{option_to_list};
 ghost use Rattle.std.specs.VecDeque.{deque_len};
-ghost use Rattle.sctp_fragments.specs.Entries.{items_of, size_of, spare_behind, spare_before, FitsBehind, FitsBefore, IsOne, IsMany, IsLong};
+ghost use Rattle.sctp_fragments.specs.Entries.{items_of, size_of, spare_behind, spare_before, FitsBehind, FitsBefore, IsOne, IsMany, IsLong, IsReady};
 
-use crate::interval::pieces::{FULL, Pieces, give_room_back};
+use crate::interval::pieces::{Pieces, admits, give_room_back};
 use crate::interval::{Entry, Interval, Size};
 use crate::reassembly_key::ReassemblyKey;
 use std::alloc::{AllocError, Global};
@@ -136,16 +136,29 @@ impl<K: Copy> Entries<K> {
         }
     }
 
+    /// A single one becomes one of many, and those that are too many with others of this size, or are joined to pieces, become pieces.
+    fn prepare(&mut self, size: Size) -> Result<(), AllocError>
+        requires { 0 < length (items_of self.old) }
+        ensures items { items_of self.new ≡ items_of self.old }
+        ensures ok { OnOk result (IsReady size self.new) }
+    {
+        let Size::Entries(more) = size else {
+            return lengthen(self);
+        };
+        widen(self)?;
+        match self {
+            Entries::Many(entries) if !admits(entries.len(), more) => lengthen(self),
+            _ => Ok(()),
+        }
+    }
+
     /// Makes room behind them for others of this size. Without memory nothing changes but that.
     pub fn reserve_behind(&mut self, size: Size) -> Result<(), AllocError>
         requires { 0 < length (items_of self.old) }
         ensures items { items_of self.new ≡ items_of self.old }
         ensures ok { OnOk result (FitsBehind size self.new) }
     {
-        match size {
-            Size::Entries(_) => widen(self)?,
-            Size::Pieces(_) => lengthen(self)?,
-        }
+        self.prepare(size)?;
         match (self, size) {
             (Entries::Many(entries), Size::Entries(more)) => entries.reserve(more),
             (Entries::Long(pieces), size) => pieces.reserve_back(size),
@@ -159,10 +172,7 @@ impl<K: Copy> Entries<K> {
         ensures items { items_of self.new ≡ items_of self.old }
         ensures ok { OnOk result (FitsBefore size self.new) }
     {
-        match size {
-            Size::Entries(_) => widen(self)?,
-            Size::Pieces(_) => lengthen(self)?,
-        }
+        self.prepare(size)?;
         match (self, size) {
             (Entries::Many(entries), Size::Entries(more)) => entries.reserve(more),
             (Entries::Long(pieces), size) => pieces.reserve_front(size),
@@ -216,26 +226,11 @@ impl<K: Copy> Entries<K> {
         }
     }
 
-    /// Makes pieces of the entries where one has as many as it may.
-    fn lengthen_full(&mut self) -> Result<(), AllocError>
-        requires { 0 < length (items_of self.old) }
-        ensures items { items_of self.new ≡ items_of self.old }
-    {
-        match self {
-            Entries::Many(entries) if entries.len() >= FULL => lengthen(self),
-            _ => Ok(()),
-        }
-    }
-
     /// Adds an entry behind the others. Without memory none is added.
     pub fn push_back(&mut self, entry: Entry<K>) -> Result<(), AllocError>
         requires { 0 < length (items_of self.old) }
         ensures items { items_of self.new ≡ (if is_ok result then items_of self.old ++ entry ∷ [] else items_of self.old) }
     {
-        self.lengthen_full()?;
-        if let Entries::Long(pieces) = self {
-            return pieces.push_back(entry);
-        }
         self.reserve_behind(Size::Entries(1))?;
         self.push_back_reserved(entry);
         Ok(())
@@ -246,10 +241,6 @@ impl<K: Copy> Entries<K> {
         requires { 0 < length (items_of self.old) }
         ensures items { items_of self.new ≡ (if is_ok result then entry ∷ items_of self.old else items_of self.old) }
     {
-        self.lengthen_full()?;
-        if let Entries::Long(pieces) = self {
-            return pieces.push_front(entry);
-        }
         self.reserve_before(Size::Entries(1))?;
         self.push_front_reserved(entry);
         Ok(())

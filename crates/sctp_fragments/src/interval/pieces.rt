@@ -8,7 +8,7 @@ ghost use Rattle.sctp_fragments.specs.Runs.{flat};
 mod ends;
 
 use crate::interval::Entry;
-pub(crate) use ends::FULL;
+pub(crate) use ends::admits;
 use std::collections::VecDeque;
 
 /// The entries of a long interval: those of the first piece, of the pieces behind it, and of the last one, which may have none.

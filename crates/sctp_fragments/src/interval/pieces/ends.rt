@@ -1,6 +1,6 @@
 //! What pieces have at either end, and what is added or taken there.
 
-ghost use Rattle.std.specs.Prelude.{◌≡◌, ◌==◌, ◌+◌, ◌-◌, ◌<◌, ◌≤◌, ◌++◌, ◌∷◌, [], length, is_ok, if◌then◌else◌, OnOk, IsSome, slice_index_or};
+ghost use Rattle.std.specs.Prelude.{◌≡◌, ◌==◌, ◌+◌, ◌-◌, ◌<◌, ◌≤◌, ◌++◌, ◌∷◌, length, OnOk, IsSome, slice_index_or};
 ghost use Rattle.std.specs.Option.{option_to_list};
 ghost use Rattle.std.specs.VecDeque.{deque_len};
 ghost use Rattle.sctp_fragments.specs.Entries.{all_in, size_between, EndsFit, BeginsFit};
@@ -12,11 +12,16 @@ use crate::interval::{Entry, Size};
 use std::alloc::{AllocError, Global};
 use std::collections::VecDeque;
 
-/// With so many entries a piece is full. One that others were joined to has up to twice as many.
-pub(crate) const FULL: usize = 1_024;
+/// With so many entries a piece is full. One that became a part of a longer interval may have one more.
+const FULL: usize = 512;
 
 /// So many places a new piece has.
 const FEW: usize = 16;
+
+/// Whether a piece of this length has so many more.
+pub(crate) fn admits(len: usize, more: usize) -> bool {
+    len.saturating_add(more) <= FULL
+}
 
 impl<K: Copy> Pieces<K> {
     /// A single piece. Takes no memory.
@@ -62,35 +67,28 @@ impl<K: Copy> Pieces<K> {
         self.first.len() + self.last.len() == 1
     }
 
-    /// Adds an entry behind the others. Without memory nothing changes.
-    pub(crate) fn push_back(&mut self, entry: Entry<K>) -> Result<(), AllocError>
-        ensures { all_in self.new ≡ (if is_ok result then all_in self.old ++ entry ∷ [] else all_in self.old) }
+    /// Begins a last piece, behind the one that there is.
+    fn begin_last(&mut self) -> Result<(), AllocError>
+        requires { 0 < length self.old.last.items }
+        ensures { all_in self.new ≡ all_in self.old }
     {
-        if self.last.len() < FULL {
-            self.last.reserve(1)?;
-            self.last.push_back_reserved(entry);
-            return Ok(());
-        }
-        let mut piece = VecDeque::with_capacity(*self.last.allocator(), FEW)?;
         self.middle.reserve(1)?;
-        piece.push_back_reserved(entry);
+        let piece = VecDeque::new(*self.last.allocator());
         self.middle
             .push_back_reserved(std::mem::replace(&mut self.last, piece));
         Ok(())
     }
 
-    /// Adds an entry in front of the others. Without memory nothing changes.
-    pub(crate) fn push_front(&mut self, entry: Entry<K>) -> Result<(), AllocError>
-        ensures { all_in self.new ≡ (if is_ok result then entry ∷ all_in self.old else all_in self.old) }
+    /// Begins a first piece, with the first entry, in front of the one that there is.
+    fn begin_first(&mut self) -> Result<(), AllocError>
+        requires { 1 < length self.old.first.items }
+        ensures { all_in self.new ≡ all_in self.old }
     {
-        if self.first.len() < FULL {
-            self.first.reserve(1)?;
-            self.first.push_front_reserved(entry);
-            return Ok(());
-        }
         let mut piece = VecDeque::with_capacity(*self.first.allocator(), FEW)?;
         self.middle.reserve(1)?;
-        piece.push_front_reserved(entry);
+        if let Some(entry) = self.first.pop_front() {
+            piece.push_back_reserved(entry);
+        }
         self.middle
             .push_front_reserved(std::mem::replace(&mut self.first, piece));
         Ok(())
@@ -117,7 +115,12 @@ impl<K: Copy> Pieces<K> {
         ensures ok { OnOk result (EndsFit size self.new) }
     {
         match size {
-            Size::Entries(more) => self.last.reserve(more),
+            Size::Entries(more) => {
+                if !self.last.is_empty() && !admits(self.last.len(), more) {
+                    self.begin_last()?;
+                }
+                self.last.reserve(more)
+            }
             Size::Pieces(more) => {
                 self.last.reserve(1)?;
                 self.middle.reserve(more)
@@ -131,7 +134,12 @@ impl<K: Copy> Pieces<K> {
         ensures ok { OnOk result (BeginsFit size self.new) }
     {
         match size {
-            Size::Entries(more) => self.first.reserve(more),
+            Size::Entries(more) => {
+                if self.first.len() > 1 && !admits(self.first.len(), more) {
+                    self.begin_first()?;
+                }
+                self.first.reserve(more)
+            }
             Size::Pieces(more) => {
                 self.first.reserve(1)?;
                 self.middle.reserve(more)
