@@ -8,6 +8,9 @@ use std::alloc::{AllocError, Global};
 /// So many fragments the message has, of one byte each.
 const COUNT: u32 = 5_000;
 
+/// Of so many the first comes last, where they come in blocks.
+const BLOCK: u32 = 300;
+
 /// In which order they come.
 #[derive(Clone, Copy)]
 enum Order {
@@ -15,6 +18,8 @@ enum Order {
     Falling,
     /// From the first one on, but this one, which comes last.
     Without(u32),
+    /// The first of each block behind all others.
+    Blocks,
 }
 
 impl Order {
@@ -30,6 +35,13 @@ impl Order {
                 }
             }
             Order::Without(_) => step,
+            Order::Blocks => {
+                let others = COUNT - COUNT.div_ceil(BLOCK);
+                if step < others {
+                    return step.saturating_add(step / (BLOCK - 1)).saturating_add(1);
+                }
+                (step - others).saturating_mul(BLOCK)
+            }
         }
     }
 }
@@ -95,6 +107,7 @@ fn are_cut(alloc: Global, last: u32) -> bool {
 #[test]
 fn a_long_message_comes_in_any_order(rt: HostRuntime) {
     assert!(rt; all_come(rt.alloc(), false, Order::Falling));
+    assert!(rt; all_come(rt.alloc(), false, Order::Blocks));
     for gap in [0, 100, 1_500, 2_500, 4_500, 4_999] {
         for is_interleaved in [false, true] {
             assert!(rt; all_come(rt.alloc(), is_interleaved, Order::Without(gap)));
@@ -104,7 +117,7 @@ fn a_long_message_comes_in_any_order(rt: HostRuntime) {
 
 #[test]
 fn a_long_message_is_cut(rt: HostRuntime) {
-    for last in [1, 1_024, 3_000, 4_998] {
+    for last in [1, 512, 3_000, 4_998] {
         assert!(rt; are_cut(rt.alloc(), last));
     }
 }
