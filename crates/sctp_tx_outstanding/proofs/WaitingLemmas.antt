@@ -1,5 +1,5 @@
 -- The items that wait to be sent again, as items come, change and leave.
-use Rattle.std.proofs.Common.{◌≡◌, ℕ, zero, suc, ◌+◌, ◌-◌, ◌<◌, ◌≤◌, ◌==◌, Bool, true, false, cond, List, [], ◌∷◌, ◌++◌, length, slice_index_or, refl, ap, sym, ◌∙◌, inl, inr, arith}
+use Rattle.std.proofs.Common.{◌≡◌, ℕ, zero, suc, ◌+◌, ◌-◌, ◌*◌, ◌/◌, ◌<◌, ◌≤◌, ◌==◌, Bool, true, false, cond, List, [], ◌∷◌, ◌++◌, length, slice_index_or, refl, ap, sym, ◌∙◌, inl, inr, arith}
 use Rattle.std.specs.Prelude.{nat_lt, nat_le, ◌&&◌}
 use Rattle.std.specs.List.{sum_by, All}
 use Rattle.std.specs.Ordering.{nat_cmp}
@@ -312,10 +312,13 @@ none_small least (i ∷ is) h =
     let sum = sum_by-cons queued_part i is in
     All-cons (IsAtLeast least) i is (λ t. absurd (both_ways (should_be_retransmitted i) (false_from_none (should_be_retransmitted i) (omega (arith, sum, h))) t)) (none_small least is (omega (arith, sum, h)))
 
-chunk_at_least : (m : Bool) (least size : ℕ) (i : Item) → size ≤ header_size m + least → IsAtLeast least i → should_be_retransmitted i ≡ true → size ≤ chunk_size m i
-chunk_at_least m least size i le h = λ t. omega (arith, le, h t)
+padded : (a b : ℕ) → a ≤ b → (a + 3) / 4 * 4 ≤ (b + 3) / 4 * 4
+padded a b le = omega (arith, le)
 
-pub chunks_at_least : (m : Bool) (least size : ℕ) (is : List Item) → size ≤ header_size m + least → All (IsAtLeast least) is → All (λ i. should_be_retransmitted i ≡ true → size ≤ chunk_size m i) is
-chunks_at_least m least size [] le h = All-nil (λ i. should_be_retransmitted i ≡ true → size ≤ chunk_size m i)
+chunk_at_least : (m : Bool) (least size : ℕ) (i : Item) → size ≤ least → IsAtLeast least i → should_be_retransmitted i ≡ true → (header_size m + size + 3) / 4 * 4 ≤ chunk_size m i
+chunk_at_least m least size i le h = λ t. padded (header_size m + size) (header_size m + length i.fragment.payload) (omega (arith, le, h t))
+
+pub chunks_at_least : (m : Bool) (least size : ℕ) (is : List Item) → size ≤ least → All (IsAtLeast least) is → All (λ i. should_be_retransmitted i ≡ true → (header_size m + size + 3) / 4 * 4 ≤ chunk_size m i) is
+chunks_at_least m least size [] le h = All-nil (λ i. should_be_retransmitted i ≡ true → (header_size m + size + 3) / 4 * 4 ≤ chunk_size m i)
 chunks_at_least m least size (i ∷ is) le h =
-    All-cons (λ j. should_be_retransmitted j ≡ true → size ≤ chunk_size m j) i is (chunk_at_least m least size i le (All-head (IsAtLeast least) i is h)) (chunks_at_least m least size is le (All-tail (IsAtLeast least) i is h))
+    All-cons (λ j. should_be_retransmitted j ≡ true → (header_size m + size + 3) / 4 * 4 ≤ chunk_size m j) i is (chunk_at_least m least size i le (All-head (IsAtLeast least) i is h)) (chunks_at_least m least size is le (All-tail (IsAtLeast least) i is h))

@@ -375,7 +375,8 @@ impl Kept {
     pub(crate) fn least_waiting(&self) -> usize
         ensures { All (λ i. should_be_retransmitted i ≡ true → result ≤ chunk_size self.now.is_interleaved i) self.now.items }
     {
-        header_size(self.is_interleaved) + self.indexes.waiting.least.min(1 << 32)
+        let payload = self.indexes.waiting.least.min(1 << 32);
+        (header_size(self.is_interleaved) + payload + 3) / 4 * 4
     }
 
     /// How many of the first items are already as these blocks say.
