@@ -379,6 +379,13 @@ impl Kept {
         (header_size(self.is_interleaved) + payload + 3) / 4 * 4
     }
 
+    /// Looks how small the items that wait to be sent again are.
+    pub(crate) fn renew_least(&mut self)
+        ensures { self.new ≡ self.old }
+    {
+        self.indexes.waiting.renew_least(&self.items);
+    }
+
     /// How many of the first items are already as these blocks say.
     pub(crate) fn front_as_in(&self, blocks: &[GapAckBlock]) -> usize
         ensures { RestBelow blocks.now result 1 self.now.items }
