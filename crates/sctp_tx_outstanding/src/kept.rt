@@ -375,7 +375,15 @@ impl Kept {
     pub(crate) fn least_waiting(&self) -> usize
         ensures { All (λ i. should_be_retransmitted i ≡ true → result ≤ chunk_size self.now.is_interleaved i) self.now.items }
     {
-        header_size(self.is_interleaved) + self.indexes.waiting.least.min(1 << 32)
+        let payload = self.indexes.waiting.least.min(1 << 32);
+        (header_size(self.is_interleaved) + payload + 3) / 4 * 4
+    }
+
+    /// Looks how small the items that wait to be sent again are.
+    pub(crate) fn renew_least(&mut self)
+        ensures { self.new ≡ self.old }
+    {
+        self.indexes.waiting.renew_least(&self.items);
     }
 
     /// How many of the first items are already as these blocks say.

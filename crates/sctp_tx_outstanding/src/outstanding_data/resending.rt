@@ -120,6 +120,17 @@ impl OutstandingData {
         self.allowed(filling) < self.kept.least_waiting()
     }
 
+    /// Where each item that waits had its turn, looks how small those are that don't fit: until one does, none is looked at
+    /// again.
+    fn see_left(&mut self, filling: &Filling)
+        ensures { self.new ≡ self.old }
+    {
+        if self.is_full(false, filling) {
+            return;
+        }
+        self.kept.renew_least();
+    }
+
     /// Gives each item that waits its turn, up to the last one that may be sent; no other has one.
     fn resend(&mut self, fast: bool, filling: &mut Filling) -> Result<(), AllocError>
         ensures ok { OnOk result (resent_of self.new filling.new ≡ resent_below fast (length self.old.items.kept) (resent_of self.old filling.old)) }
@@ -187,6 +198,7 @@ impl OutstandingData {
             window: rwnd,
         };
         self.resend(false, &mut filling)?;
+        self.see_left(&filling);
         Ok(filling.chunks)
     }
 }
