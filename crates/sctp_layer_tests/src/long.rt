@@ -27,13 +27,7 @@ impl Order {
     fn at(self, step: u32) -> u32 {
         match self {
             Order::Falling => COUNT.saturating_sub(step).saturating_sub(1),
-            Order::Without(gap) if step >= gap => {
-                if step >= COUNT - 1 {
-                    gap
-                } else {
-                    step + 1
-                }
-            }
+            Order::Without(gap) if step >= gap => { if step >= COUNT - 1 { gap } else { step + 1 } }
             Order::Without(_) => step,
             Order::Blocks => {
                 let others = COUNT - COUNT.div_ceil(BLOCK);
