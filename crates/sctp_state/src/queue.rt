@@ -7,7 +7,7 @@ use std::collections::VecDeque;
 /// A queue that became empty keeps at most so many places.
 const MOST_SPARE_PLACES: usize = 1_024;
 
-/// Takes the first of a queue. Where none is left the room of more than 1,024 is given back.
+/// Takes the first of a queue. Where none is left at most 1,024 places stay: room for more is given back.
 #[inline(always)]
 pub fn take_first<T>(queue: &mut VecDeque<T>) -> Option<T>
     ensures first { result ≡ slice_get queue.old.items 0 }
@@ -15,10 +15,8 @@ pub fn take_first<T>(queue: &mut VecDeque<T>) -> Option<T>
     ensures taken { queue.old.items ≡ option_to_list result ++ queue.new.items }
     ensures none { IfNone result (queue.old.items ≡ []) }
 {
-    if queue.len() > 1 || queue.capacity() <= MOST_SPARE_PLACES {
-        return queue.pop_front();
+    if queue.len() < 2 && queue.capacity() > MOST_SPARE_PLACES {
+        queue.shrink_to(MOST_SPARE_PLACES);
     }
-    let first = queue.pop_front();
-    queue.shrink_to_fit();
-    first
+    queue.pop_front()
 }

@@ -91,6 +91,7 @@ impl<K: Copy> Entries<K> {
     }
 
     /// The first entry.
+    #[inline(always)]
     pub fn front(&self) -> &Entry<K>
         requires { 0 < length (items_of self.now) }
         ensures { result.now ≡ slice_index_or (items_of self.now) 0 result.now }
@@ -103,6 +104,7 @@ impl<K: Copy> Entries<K> {
     }
 
     /// The last entry.
+    #[inline(always)]
     pub fn back(&self) -> &Entry<K>
         requires { 0 < length (items_of self.now) }
         ensures { result.now ≡ slice_index_or (items_of self.now) (length (items_of self.now) - 1) result.now }
@@ -115,6 +117,7 @@ impl<K: Copy> Entries<K> {
     }
 
     /// Whether there is one alone.
+    #[inline(always)]
     pub fn is_single(&self) -> bool
         ensures { result ≡ (length (items_of self.now) == 1) }
     {
@@ -126,6 +129,7 @@ impl<K: Copy> Entries<K> {
     }
 
     /// How much room they take at others.
+    #[inline(always)]
     pub fn size(&self) -> Size
         ensures { result ≡ size_of self.now }
     {
@@ -326,6 +330,7 @@ impl<K: Copy> Entries<K> {
 
 impl<K: ReassemblyKey> Interval<K> {
     /// How much room it takes at another one.
+    #[inline(always)]
     pub fn size(&self) -> Size
         ensures { result ≡ size_of self.now.entries.value }
     {

@@ -96,6 +96,7 @@ impl<K: ReassemblyKey> Interval<K> {
     ghost use Rattle.sctp_fragments.specs.Interval.{run_of};
 
     /// How many fragments it has.
+    #[inline(always)]
     pub fn len(&self) -> usize
         requires { length (items_of self.now.entries.value) < 2 ^ 64 }
         ensures { result ≡ length (items_of self.now.entries.value) }
@@ -108,6 +109,7 @@ impl<K: ReassemblyKey> Interval<K> {
     }
 
     /// Whether it has one alone.
+    #[inline(always)]
     pub fn is_single(&self) -> bool
         ensures { result ≡ (length (items_of self.now.entries.value) == 1) }
     {
@@ -115,6 +117,7 @@ impl<K: ReassemblyKey> Interval<K> {
     }
 
     /// The fragment with its least key.
+    #[inline(always)]
     pub fn first(&self) -> &Entry<K>
         ensures { (h : Held) (hs : List Held) → run_of (held_of K.number K.index) self.now ≡ h ∷ hs → held_of K.number K.index result.now ≡ h }
     {
@@ -122,6 +125,7 @@ impl<K: ReassemblyKey> Interval<K> {
     }
 
     /// The fragment with its greatest key.
+    #[inline(always)]
     pub fn last(&self) -> &Entry<K>
         ensures { (h : Held) (hs : List Held) → run_of (held_of K.number K.index) self.now ≡ h ∷ hs → held_of K.number K.index result.now ≡ last_of h hs }
     {
@@ -129,6 +133,7 @@ impl<K: ReassemblyKey> Interval<K> {
     }
 
     /// How many bytes of payload it holds.
+    #[inline(always)]
     pub fn total_bytes(&self) -> usize
         requires { bytes_of (run_of (held_of K.number K.index) self.now) < 2 ^ 64 }
         ensures { result ≡ bytes_of (run_of (held_of K.number K.index) self.now) }
@@ -164,6 +169,7 @@ impl<K: ReassemblyKey> Interval<K> {
     }
 
     /// Whether it is a message from its beginning to its end.
+    #[inline(always)]
     pub fn is_complete(&self) -> bool
         ensures { result ≡ is_complete (run_of (held_of K.number K.index) self.now) }
     {
@@ -171,6 +177,7 @@ impl<K: ReassemblyKey> Interval<K> {
     }
 
     /// Whether it is one with the number.
+    #[inline(always)]
     pub fn is_in_turn(&self, number: u128) -> bool
         ensures { result ≡ is_in_turn number (run_of (held_of K.number K.index) self.now) }
     {

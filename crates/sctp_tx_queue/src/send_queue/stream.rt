@@ -574,6 +574,7 @@ impl Stream {
     }
 
     /// Whether it is as a restart leaves it.
+    #[inline(always)]
     pub(crate) fn is_restarted(&self) -> bool
         ensures { result ≡ is_restarted self.now }
     {
