@@ -6,12 +6,9 @@ use Rattle.sctp_fragments.specs.declared.interval.Entry.{Entry}
 use Rattle.sctp_fragments.specs.Runs.{flat}
 use Rattle.sctp_fragments.specs.Held.{Held, bytes_of, payload_of}
 use Rattle.sctp_fragments.specs.Pieces.{are_some}
+use Rattle.sctp_fragments.proofs.RunLemmas.{flat_append}
 
 module _ {E : Type 0} where
-  pub flat_append : (xs ys : List (List E)) → flat (xs ++ ys) ≡ flat xs ++ flat ys
-  flat_append [] ys = refl
-  flat_append (x ∷ xs) ys = ap (λ (t : List E). x ++ t) (flat_append xs ys) ∙ sym (append_assoc x (flat xs) (flat ys))
-
   -- the first piece, and the others
   pub some_first : (x : List E) (xs : List (List E)) → are_some (x ∷ xs) ≡ true → (0 < length x) × (are_some xs ≡ true)
   some_first [] xs a = grind (arith, a)
@@ -117,9 +114,6 @@ module _ {D E : Type 0} (f : D → List E) where
   pub some_both : (old more new : List D) → new ≡ old ++ more → are_some (map f old) ≡ true → are_some (map f more) ≡ true → are_some (map f new) ≡ true
   some_both old more new is a b = rw is (rw (map-append f old more) (some_append (map f old) (map f more) a b))
 
-  pub pieces_front : (old more new : List D) → new ≡ more ++ old → flat (map f new) ≡ flat (map f more) ++ flat (map f old)
-  pieces_front old more new is = pieces_append more old new is
-
   -- the last piece came to the others
   pub begun : (first last : List E) (m0 m1 : List D) (a : D) (rest : List E) → f a ≡ last → m1 ≡ m0 ++ a ∷ [] → rest ≡ []
       → first ++ (flat (map f m1) ++ rest) ≡ first ++ (flat (map f m0) ++ last)
@@ -138,7 +132,7 @@ module _ {D E : Type 0} (f : D → List E) where
       → first2 ++ (flat (map f m3) ++ last) ≡ (first2 ++ (flat (map f more) ++ last2)) ++ x ∷ (first ++ (flat (map f m0) ++ last))
   prepended first last first2 last2 x m0 m1 m2 m3 more a is one two three =
       let flat1 : flat (map f m1) ≡ f a ++ flat (map f m0) = rw one refl in
-      rw (pieces_front m2 more m3 three) (rw two (rw flat1 (rw is (simp append_assoc))))
+      rw (pieces_append more m2 m3 three) (rw two (rw flat1 (rw is (simp append_assoc))))
 
   pub some_two : (last first2 : List E) (x : E) (m0 m1 m2 m3 more : List D) (a b : D) → f a ≡ last ++ x ∷ [] → f b ≡ first2
       → m1 ≡ m0 ++ a ∷ [] → m2 ≡ m1 ++ b ∷ [] → m3 ≡ m2 ++ more → 0 < length first2 → are_some (map f m0) ≡ true → are_some (map f more) ≡ true → are_some (map f m3) ≡ true

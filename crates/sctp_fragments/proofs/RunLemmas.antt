@@ -4,6 +4,11 @@ use Rattle.std.proofs.lemmas.Bool.{lt-ltb, le-ltb, cases_lt, cases_Bool}
 use Rattle.std.proofs.lemmas.Bool.Decides.{nat_tests}
 use Rattle.sctp_fragments.specs.Runs.{is_next, is_held, put_in, with_item, from_rank, last_of, IsLinked, attach, runs_of, flat, Starts, AreRuns, end_of, AllBelow, IsBelow, LeadsTo, IsMessage, joins_left, joins_right}
 
+module _ {E : Type 0} where
+  pub flat_append : (xs ys : List (List E)) → flat (xs ++ ys) ≡ flat xs ++ flat ys
+  flat_append [] ys = refl
+  flat_append (x ∷ xs) ys = ap (λ (t : List E). x ++ t) (flat_append xs ys) ∙ sym (append_assoc x (flat xs) (flat ys))
+
 module _ {E : Type 0} (rank : E → ℕ) (goes : E → E → Bool) where
   -- runs one after another
   pub AreRuns_front : (before : Option E) (xs ys : List (List E)) → AreRuns rank goes before (xs ++ ys) → AreRuns rank goes before xs
@@ -33,10 +38,6 @@ module _ {E : Type 0} (rank : E → ℕ) (goes : E → E → Bool) where
   end_of_append before [] ys = refl
   end_of_append before ([] ∷ xs) ys = end_of_append before xs ys
   end_of_append before ((e ∷ es) ∷ xs) ys = end_of_append (Some (last_of e es)) xs ys
-
-  pub flat_append : (xs ys : List (List E)) → flat (xs ++ ys) ≡ flat xs ++ flat ys
-  flat_append [] ys = refl
-  flat_append (x ∷ xs) ys = ap (λ (t : List E). x ++ t) (flat_append xs ys) ∙ sym (append_assoc x (flat xs) (flat ys))
 
   -- ranks rise along a run
   next_rank : (e f : E) → is_next rank goes e f ≡ true → rank f ≡ suc (rank e)

@@ -27,25 +27,32 @@ size_of (One a e) = OfEntries 2
 size_of (Many d) = OfEntries (deque_len d + 1)
 size_of (Long b) = size_between b.value
 
--- how many entries have room behind the others, and in front of them
+-- how many entries have room behind pieces, and in front of them
+abbrev pub spare_last : {K : Type 0} → Pieces K → ℕ
+spare_last p = deque_capacity p.last - deque_len p.last
+
+abbrev pub spare_first : {K : Type 0} → Pieces K → ℕ
+spare_first p = deque_capacity p.first - deque_len p.first
+
+-- the same of entries
 abbrev pub spare_behind : {K : Type 0} → Entries K → ℕ
 spare_behind (One a e) = 0
 spare_behind (Many d) = deque_capacity d - deque_len d
-spare_behind (Long b) = deque_capacity b.value.last - deque_len b.value.last
+spare_behind (Long b) = spare_last b.value
 
 abbrev pub spare_before : {K : Type 0} → Entries K → ℕ
 spare_before (One a e) = 0
 spare_before (Many d) = deque_capacity d - deque_len d
-spare_before (Long b) = deque_capacity b.value.first - deque_len b.value.first
+spare_before (Long b) = spare_first b.value
 
 -- others of a size have room behind pieces, and in front of them
 abbrev pub EndsFit : {K : Type 0} → Size → Pieces K → Type 0
-EndsFit (OfEntries n) p = n ≤ deque_capacity p.last - deque_len p.last
-EndsFit (OfPieces n) p = (1 ≤ deque_capacity p.last - deque_len p.last) × (deque_len p.middle + n ≤ deque_capacity p.middle)
+EndsFit (OfEntries n) p = n ≤ spare_last p
+EndsFit (OfPieces n) p = (1 ≤ spare_last p) × (deque_len p.middle + n ≤ deque_capacity p.middle)
 
 abbrev pub BeginsFit : {K : Type 0} → Size → Pieces K → Type 0
-BeginsFit (OfEntries n) p = n ≤ deque_capacity p.first - deque_len p.first
-BeginsFit (OfPieces n) p = (1 ≤ deque_capacity p.first - deque_len p.first) × (deque_len p.middle + n ≤ deque_capacity p.middle)
+BeginsFit (OfEntries n) p = n ≤ spare_first p
+BeginsFit (OfPieces n) p = (1 ≤ spare_first p) × (deque_len p.middle + n ≤ deque_capacity p.middle)
 
 -- the same of entries
 abbrev pub FitsBehind : {K : Type 0} → Size → Entries K → Type 0

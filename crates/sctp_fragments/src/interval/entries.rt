@@ -5,7 +5,7 @@ ghost use Rattle.std.specs.Option.{option_to_list};
 ghost use Rattle.std.specs.VecDeque.{deque_len};
 ghost use Rattle.sctp_fragments.specs.Entries.{items_of, size_of, spare_behind, spare_before, FitsBehind, FitsBefore, IsOne, IsMany, IsLong, IsReady};
 
-use crate::interval::pieces::{Pieces, admits, give_room_back};
+use crate::interval::pieces::{Pieces, admits, append_all, give_room_back, prepend_all};
 use crate::interval::{Entry, Interval, Size};
 use crate::reassembly_key::ReassemblyKey;
 use std::alloc::{AllocError, Global};
@@ -156,7 +156,7 @@ impl<K: Copy> Entries<K> {
         }
     }
 
-    /// Makes room behind them for others of this size. Without memory nothing changes but that.
+    /// Makes room behind them for others of this size. The entries stay as they are, in room of another form perhaps.
     pub fn reserve_behind(&mut self, size: Size) -> Result<(), AllocError>
         requires { 0 < length (items_of self.old) }
         ensures items { items_of self.new ≡ items_of self.old }
@@ -211,22 +211,26 @@ impl<K: Copy> Entries<K> {
     }
 
     /// Adds the others behind these, where there is room.
-    fn append_few(&mut self, mut others: VecDeque<Entry<K>>)
+    fn append_few(&mut self, others: VecDeque<Entry<K>>)
         requires { deque_len others ≤ spare_behind self.old }
         ensures { items_of self.new ≡ items_of self.old ++ others.items }
     {
-        while let Some(next) = others.pop_front() {
-            self.push_back_reserved(next);
+        match self {
+            Entries::One(_, _) => {}
+            Entries::Many(entries) => append_all(entries, others),
+            Entries::Long(pieces) => append_all(&mut pieces.last, others),
         }
     }
 
     /// Adds the others in front of these, where there is room.
-    fn prepend_few(&mut self, mut others: VecDeque<Entry<K>>)
+    fn prepend_few(&mut self, others: VecDeque<Entry<K>>)
         requires { deque_len others ≤ spare_before self.old }
         ensures { items_of self.new ≡ others.items ++ items_of self.old }
     {
-        while let Some(last) = others.pop_back() {
-            self.push_front_reserved(last);
+        match self {
+            Entries::One(_, _) => {}
+            Entries::Many(entries) => prepend_all(entries, others),
+            Entries::Long(pieces) => prepend_all(&mut pieces.first, others),
         }
     }
 

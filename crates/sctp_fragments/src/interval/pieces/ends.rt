@@ -109,7 +109,7 @@ impl<K: Copy> Pieces<K> {
         std::mem::replace(&mut self.first, next).pop_front()
     }
 
-    /// Makes room at the back for an interval of this size, and the entry before it. Without memory nothing changes.
+    /// Makes room at the back for an interval of this size, and the entry before it. The entries stay as they are; a piece may begin.
     pub(crate) fn reserve_back(&mut self, size: Size) -> Result<(), AllocError>
         ensures items { all_in self.new ≡ all_in self.old }
         ensures ok { OnOk result (EndsFit size self.new) }
@@ -128,7 +128,7 @@ impl<K: Copy> Pieces<K> {
         }
     }
 
-    /// Makes room at the front for an interval of this size, and the entry behind it. Without memory nothing changes.
+    /// Makes room at the front for an interval of this size, and the entry behind it. The entries stay as they are; a piece may begin.
     pub(crate) fn reserve_front(&mut self, size: Size) -> Result<(), AllocError>
         ensures items { all_in self.new ≡ all_in self.old }
         ensures ok { OnOk result (BeginsFit size self.new) }
