@@ -57,8 +57,8 @@ module _ (test : List Held → Bool) where
       record {
         front = flat s.front;
         back = flat s.back;
-        is = sym (flat_runs_of rank_of goes_on hs) ∙ (ap flat s.is ∙ flat_append rank_of goes_on s.front ((e ∷ es) ∷ s.back));
-        left_is = ap flat s.left_is ∙ flat_append rank_of goes_on s.front s.back;
+        is = sym (flat_runs_of rank_of goes_on hs) ∙ (ap flat s.is ∙ flat_append s.front ((e ∷ es) ∷ s.back));
+        left_is = ap flat s.left_is ∙ flat_append s.front s.back;
         linked = back.1.0;
       }
 

@@ -29,7 +29,7 @@ pub whole_interval : (hs r : List Held) (front back : List (List Held)) → AreI
 whole_interval hs r front back h is k = whole_at (end_of None front) r back (AreRuns_back rank_of goes_on None front (r ∷ back) (subst (AreRuns rank_of goes_on None) is h)) k
 
 pub split_around : (hs r : List Held) (front back : List (List Held)) → intervals_of hs ≡ front ++ r ∷ back → hs ≡ flat front ++ (r ++ flat back)
-split_around hs r front back is = sym (flat_runs_of rank_of goes_on hs) ∙ (ap flat is ∙ flat_append rank_of goes_on front (r ∷ back))
+split_around hs r front back is = sym (flat_runs_of rank_of goes_on hs) ∙ (ap flat is ∙ flat_append front (r ∷ back))
 
 -- fragments that are there, from a beginning to an end, are side by side
 pub is_in : (hs r : List Held) → AreInOrder hs → IsWhole r → AreHeld hs r → IsIn r hs
@@ -71,7 +71,7 @@ module _ (test : List Held → Bool) where
   taken_out hs r h is =
       let f = found_at (intervals_of hs) r is in
       let split : hs ≡ flat f.front ++ (r ++ flat f.back) = split_around hs r f.front f.back f.is in
-      let left : left_by test hs ≡ flat f.front ++ flat f.back = ap flat f.left ∙ flat_append rank_of goes_on f.front f.back in
+      let left : left_by test hs ≡ flat f.front ++ flat f.back = ap flat f.left ∙ flat_append f.front f.back in
       let up = subst (RisesFrom rank_of goes_on 0) (flat_runs_of rank_of goes_on hs ∙ split) (rises rank_of goes_on (intervals_of hs) h) in
       record {
         parts = λ n. subst (λ (t : List Held). ((held_at n (left_by test hs) ≡ held_at n t) × (held_at n r ≡ None)) ⊎ ((held_at n (left_by test hs) ≡ None) × (held_at n r ≡ held_at n t))) (sym split)

@@ -28,7 +28,7 @@ module _ (test : List Held → Bool) where
 
   pub taken_left : (old run new : List Held) (front back : List (List Held)) → intervals_of old ≡ front ++ run ∷ back → NonePass test front → test run ≡ true → new ≡ flat front ++ flat back → new ≡ left_by test old
   taken_left old run new front back runs none pass rest =
-      rest ∙ (sym (flat_append rank_of goes_on front back) ∙ ap flat (sym (without_found front back run none pass) ∙ ap (without_first_of test) (sym runs)))
+      rest ∙ (sym (flat_append front back) ∙ ap flat (sym (without_found front back run none pass) ∙ ap (without_first_of test) (sym runs)))
 
   pub taken_intervals : (old run new : List Held) (front back : List (List Held)) → intervals_of old ≡ front ++ run ∷ back → NonePass test front → test run ≡ true → intervals_of new ≡ front ++ back → intervals_of new ≡ without_first_of test (intervals_of old)
   taken_intervals old run new front back runs none pass rest = rest ∙ (sym (without_found front back run none pass) ∙ ap (without_first_of test) (sym runs))

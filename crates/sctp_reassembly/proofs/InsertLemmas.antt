@@ -41,7 +41,7 @@ inserts_alone ps qs x h below leads left right = record {
   back = qs;
   runs = refl;
   among = held_in [] [] x;
-  together = flat_append rank_of goes_on ps ((x ∷ []) ∷ qs);
+  together = flat_append ps ((x ∷ []) ∷ qs);
   others = λ test n. n;
 }
 
@@ -55,7 +55,7 @@ inserts_left ps qs d x ds h leads left right = record {
   runs = refl;
   among = held_in (d ∷ ds) [] x;
   together =
-      flat_append rank_of goes_on ps (((d ∷ ds) ++ x ∷ []) ∷ qs) ∙ (ap (λ (t : List Held). flat ps ++ t) (append_assoc (d ∷ ds) (x ∷ []) (flat qs))
+      flat_append ps (((d ∷ ds) ++ x ∷ []) ∷ qs) ∙ (ap (λ (t : List Held). flat ps ++ t) (append_assoc (d ∷ ds) (x ∷ []) (flat qs))
       ∙ (sym (append_assoc (flat ps) (d ∷ ds) (x ∷ flat qs)) ∙ ap (λ (t : List Held). t ++ x ∷ flat qs) (sym (flat_last ps (d ∷ ds)))));
   others = λ test n. NonePass_without test ps qs (d ∷ ds) (subst (NonePass test) (append_assoc ps ((d ∷ ds) ∷ []) qs) n);
 }
@@ -69,7 +69,7 @@ inserts_right ps qs f x fs h below left right = record {
   back = qs;
   runs = refl;
   among = held_in [] (f ∷ fs) x;
-  together = flat_append rank_of goes_on ps ((x ∷ (f ∷ fs)) ∷ qs);
+  together = flat_append ps ((x ∷ (f ∷ fs)) ∷ qs);
   others = λ test n. NonePass_without test ps qs (f ∷ fs) n;
 }
 
@@ -83,7 +83,7 @@ inserts_both ps qs d f x ds fs h left right = record {
   runs = refl;
   among = held_in (d ∷ ds) (f ∷ fs) x;
   together =
-      flat_append rank_of goes_on ps (((d ∷ ds) ++ x ∷ (f ∷ fs)) ∷ qs) ∙ (ap (λ (t : List Held). flat ps ++ t) (append_assoc (d ∷ ds) (x ∷ (f ∷ fs)) (flat qs))
+      flat_append ps (((d ∷ ds) ++ x ∷ (f ∷ fs)) ∷ qs) ∙ (ap (λ (t : List Held). flat ps ++ t) (append_assoc (d ∷ ds) (x ∷ (f ∷ fs)) (flat qs))
       ∙ (sym (append_assoc (flat ps) (d ∷ ds) (x ∷ ((f ∷ fs) ++ flat qs))) ∙ ap (λ (t : List Held). t ++ x ∷ ((f ∷ fs) ++ flat qs)) (sym (flat_last ps (d ∷ ds)))));
   others = λ test n. NonePass_without test ps qs (f ∷ fs) (NonePass_without test ps ((f ∷ fs) ∷ qs) (d ∷ ds) (subst (NonePass test) (append_assoc ps ((d ∷ ds) ∷ []) ((f ∷ fs) ∷ qs)) n));
 }

@@ -50,8 +50,8 @@ takes old new run h out complete =
     let front = flat out.front in
     let back = flat out.back in
     let runs : AreRuns rank_of goes_on None new = subst (AreRuns rank_of goes_on None) (sym out.left) (AreRuns_without rank_of goes_on None out.front out.back run (subst (AreRuns rank_of goes_on None) out.is h)) in
-    let old_flat : flat old ≡ front ++ (run ++ back) = ap flat out.is ∙ flat_append rank_of goes_on out.front (run ∷ out.back) in
-    let new_flat : flat new ≡ front ++ back = ap flat out.left ∙ flat_append rank_of goes_on out.front out.back in
+    let old_flat : flat old ≡ front ++ (run ++ back) = ap flat out.is ∙ flat_append out.front (run ∷ out.back) in
+    let new_flat : flat new ≡ front ++ back = ap flat out.left ∙ flat_append out.front out.back in
     record {
       runs = runs;
       bytes = rw old_flat (rw new_flat (omega (arith, bytes_of_append front (run ++ back), bytes_of_append run back, bytes_of_append front back)));
@@ -82,7 +82,7 @@ module _ {K : Type 0} (f : Entry K → Held) where
       let put = a.inserted in
       let both : AreRuns rank_of goes_on None (a.ps ++ a.qs) = subst (AreRuns rank_of goes_on None) a.is h in
       let one : flat old ≡ flat (a.ps ++ a.qs) = ap flat a.is in
-      let two : flat old ≡ flat a.ps ++ flat a.qs = one ∙ flat_append rank_of goes_on a.ps a.qs in
+      let two : flat old ≡ flat a.ps ++ flat a.qs = one ∙ flat_append a.ps a.qs in
       record {
         absent = rw one (is_held_between rank_of goes_on (rank_of x) a.ps a.qs None both a.below a.leads);
         value = put.together ∙ (sym (with_item_between rank_of goes_on x a.ps a.qs None both a.below a.leads) ∙ ap (with_item rank_of x) (sym one));

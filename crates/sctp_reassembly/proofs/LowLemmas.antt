@@ -49,7 +49,7 @@ leaves n ls xs ys h is below =
     let both : AreRuns rank_of goes_on None (xs ++ ys) = subst (AreRuns rank_of goes_on None) is h in
     let back : AreRuns rank_of goes_on (end_of None xs) ys = AreRuns_back rank_of goes_on None xs ys both in
     let low : AllBelow rank_of n (flat xs) = AllBelow_runs rank_of goes_on None n xs (AreRuns_front rank_of goes_on None xs ys both) (end_low n (end_of None xs) ys back below) in
-    let all : flat ls ≡ flat xs ++ flat ys = ap flat is ∙ flat_append rank_of goes_on xs ys in
+    let all : flat ls ≡ flat xs ++ flat ys = ap flat is ∙ flat_append xs ys in
     record {
       runs = first_runs rank_of goes_on (end_of None xs) ys back;
       same = sym (ap (from_rank rank_of n) all ∙ drops_front n (flat xs) (flat ys) low);

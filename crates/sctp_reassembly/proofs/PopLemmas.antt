@@ -16,4 +16,4 @@ module _ (test : List Held → Bool) (old new : List (List Held)) (run : List He
   popped_intervals t = taken_intervals test (flat old) run (flat new) o.out.front o.out.back (intervals_flat old h ∙ o.out.is) o.none o.passes (intervals_flat new t.runs ∙ o.out.left)
 
   pub popped_left : flat new ≡ left_by test (flat old)
-  popped_left = taken_left test (flat old) run (flat new) o.out.front o.out.back (intervals_flat old h ∙ o.out.is) o.none o.passes (ap flat o.out.left ∙ flat_append {E = Held} rank_of goes_on o.out.front o.out.back)
+  popped_left = taken_left test (flat old) run (flat new) o.out.front o.out.back (intervals_flat old h ∙ o.out.is) o.none o.passes (ap flat o.out.left ∙ flat_append o.out.front o.out.back)

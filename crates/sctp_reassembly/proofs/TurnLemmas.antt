@@ -116,7 +116,7 @@ module _ (ps qs : List (List Held)) (e : Held) (es : List Held) (runs : AreRuns 
   module _ (indexed : AreIndexed (flat (ps ++ (e ∷ es) ∷ qs))) where
     later : AreIndexed (flat qs)
     later =
-        indexed_back es (flat qs) (indexed_back (flat ps) ((e ∷ es) ++ flat qs) (subst AreIndexed (flat_append {E = Held} rank_of goes_on ps ((e ∷ es) ∷ qs)) indexed)).1
+        indexed_back es (flat qs) (indexed_back (flat ps) ((e ∷ es) ++ flat qs) (subst AreIndexed (flat_append ps ((e ∷ es) ∷ qs)) indexed)).1
 
     starts_on : (n : ℕ) → n ≤ e.number → StartsFrom n qs
     starts_on n h = go qs from_here.1.1 later
