@@ -4,10 +4,10 @@ ghost use Rattle.std.specs.Prelude.{◌≡◌, ◌++◌, [], drop, IfNone, optio
 
 use std::collections::VecDeque;
 
-/// A queue that became empty keeps at most so many places.
+/// A queue keeps so many places, whatever it has.
 const MOST_SPARE_PLACES: usize = 1_024;
 
-/// Takes the first of a queue. Where none is left at most 1,024 places stay: room for more is given back.
+/// Takes the first of a queue. Where it had more than 1,024 places, and less than a quarter of them taken, it keeps twice those, or 1,024.
 #[inline(always)]
 pub fn take_first<T>(queue: &mut VecDeque<T>) -> Option<T>
     ensures first { result ≡ slice_get queue.old.items 0 }
@@ -15,8 +15,9 @@ pub fn take_first<T>(queue: &mut VecDeque<T>) -> Option<T>
     ensures taken { queue.old.items ≡ option_to_list result ++ queue.new.items }
     ensures none { IfNone result (queue.old.items ≡ []) }
 {
-    if queue.len() < 2 && queue.capacity() > MOST_SPARE_PLACES {
-        queue.shrink_to(MOST_SPARE_PLACES);
+    if queue.capacity() > MOST_SPARE_PLACES && queue.len() < queue.capacity() / 4 {
+        let wanted = queue.len() * 2;
+        queue.shrink_to(wanted.max(MOST_SPARE_PLACES));
     }
     queue.pop_front()
 }
