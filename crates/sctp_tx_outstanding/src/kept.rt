@@ -10,7 +10,7 @@ ghost use Rattle.sctp_tx_outstanding.specs.Totals.{Exchanges};
 ghost use Rattle.sctp_tx_outstanding.specs.Losses.{expires, placeholder};
 ghost use Rattle.sctp_tx_outstanding.specs.Passed.{BeginsPoint};
 ghost use Rattle.sctp_tx_outstanding.specs.Views.{last_tree, point_of};
-ghost use Rattle.sctp_tx_outstanding.specs.LastBlocks.{Rest, RestBelow, RestFrom};
+ghost use Rattle.sctp_tx_outstanding.specs.LastBlocks.{Rest, Knows};
 ghost use Rattle.sctp_tx_outstanding.specs.Sack.{all_leaving_events};
 ghost use Rattle.sctp_tx_outstanding.specs.Messages.{Finds, NoneIsOf};
 ghost use Rattle.sctp_tx_outstanding.specs.Quiet.{NoneFlies};
@@ -23,12 +23,12 @@ use crate::emitting::emit_left;
 use crate::expiries::{Due, Expiries};
 use crate::indexes::Indexes;
 use crate::item::{Item, header_size};
-use crate::last_blocks::{alike, reach};
+use crate::last_blocks::LastBlocks;
 use crate::messages::Messages;
 use crate::passed::ForwardPoint;
 use crate::sack::highest_end;
 use crate::totals::Totals;
-use sctp_chunk::{Data, GapAckBlock, are_runs};
+use sctp_chunk::{Data, GapAckBlock};
 use sctp_serial::{Fsn, Mid, OutgoingMessageId, PpId, SocketTime, Ssn, StreamKey};
 use sctp_state::{Events, take_first};
 use std::alloc::{AllocError, Global};
@@ -386,47 +386,23 @@ impl Kept {
         self.indexes.waiting.renew_least(&self.items);
     }
 
-    /// How many of the first items are already as these blocks say.
-    pub(crate) fn front_as_in(&self, blocks: &[GapAckBlock]) -> usize
-        ensures { RestBelow blocks.now result 1 self.now.items }
+    /// Takes out what is known of the last SACK's blocks.
+    pub(crate) fn take_last_blocks(&mut self, alloc: Global) -> LastBlocks
+        ensures same { self.new ≡ self.old }
+        ensures known { Knows result self.old.items }
     {
-        if !self.indexes.last_blocks.is_known {
-            return 0;
-        }
-        if !are_runs(0, blocks) {
-            return 0;
-        }
-        alike(
-            &self.indexes.last_blocks.runs,
-            self.indexes.last_blocks.offset,
-            blocks,
-        )
+        self.indexes.last_blocks.take_out(alloc)
     }
 
-    /// Behind how many of the first items all are already as these blocks say.
-    pub(crate) fn back_as_in(&self, blocks: &[GapAckBlock]) -> usize
-        ensures rest { RestFrom blocks.now result (result + 1) self.now.items }
-        ensures within { result ≤ length self.now.items }
-    {
-        let len = self.items.len();
-        if !self.indexes.last_blocks.is_known {
-            return len;
-        }
-        let end = reach(
-            &self.indexes.last_blocks.runs,
-            self.indexes.last_blocks.offset,
-            blocks,
-        );
-        if end < len { end } else { len }
-    }
-
-    /// The items are as these blocks say.
-    pub(crate) fn remember(&mut self, blocks: &[GapAckBlock])
+    /// The items are as these blocks say. Earlier ones that were taken out have the memory for them.
+    pub(crate) fn remember(&mut self, earlier: LastBlocks, blocks: &[GapAckBlock])
         requires { Rest blocks.now 1 self.old.items }
         ensures { self.new ≡ self.old }
     {
         let is_within = highest_end(blocks) as usize <= self.items.len();
-        self.indexes.last_blocks.remember_blocks(blocks, is_within);
+        let mut last = earlier;
+        last.remember_blocks(blocks, is_within);
+        self.indexes.last_blocks = last;
     }
 
     /// Whether an item that is missing or lost may have expired.

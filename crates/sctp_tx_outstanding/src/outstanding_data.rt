@@ -594,7 +594,7 @@ impl OutstandingData {
     {
         let number = self.unwrapped(sack.cumulative_tsn_ack);
         let left = self.leave(number, spares, events)?;
-        let covered = settle_all(&mut self.kept, &sack.gap_ack_blocks);
+        let covered = settle_all(&mut self.kept, self.alloc, &sack.gap_ack_blocks);
         let fast = !is_in_fast_recovery;
         let is_lossy = self.nack_uncovered(covered.below, &sack.gap_ack_blocks, fast, events)?;
         Ok(AckInfo {
