@@ -1,5 +1,6 @@
 -- What the last blocks said of the items, as items come, change and leave, and as new blocks come.
-use Rattle.std.proofs.Common.{◌≡◌, ℕ, zero, suc, ◌+◌, ◌<◌, ◌≤◌, ◌||◌, Bool, true, false, cond, List, [], ◌∷◌, ◌++◌, map, length, IsTrue, refl, ap, sym, subst, ◌∙◌, arith}
+use Rattle.std.proofs.Common.{◌≡◌, ℕ, zero, suc, ◌+◌, ◌<◌, ◌≤◌, ◌||◌, Bool, true, false, cond, List, [], ◌∷◌, ◌++◌, map, length, drop, slice_index_or, IsTrue, refl, ap, sym, subst, ◌∙◌, arith}
+use Rattle.std.specs.Prelude.{Option, Some, None, slice_get}
 use Rattle.std.proofs.lemmas.Bool.Decides.{nat_tests}
 use Rattle.sctp_chunk.specs.declared.sack.GapAckBlock.{GapAckBlock}
 use Rattle.sctp_chunk.specs.Covered.{is_covered, AreRuns}
@@ -10,7 +11,7 @@ use Rattle.sctp_tx_outstanding.specs.declared.kept.Change.TheVariants as changes
 use Rattle.sctp_tx_outstanding.specs.Item.{Item, is_of, is_in_flight, waits, is_given_up, has_ack, is_acked, is_lost, nack_state, acked, ack, uncovered, uncover, resent, demote_fast, nack, mark_as_retransmitted, miss_fast, abandon, chunk_size}
 use Rattle.sctp_tx_outstanding.specs.OutstandingData.{change_at, when, abandon_if_of}
 use Rattle.sctp_tx_outstanding.specs.Change.{apply_change, is_of_sack}
-use Rattle.sctp_tx_outstanding.specs.Sack.{highest_end, ack_or_uncover_all, ack_or_uncover, newly_acked, is_newly_acked, below_highest}
+use Rattle.sctp_tx_outstanding.specs.Sack.{highest_end, ack_or_uncover_all, ack_or_uncover, newly_acked, is_newly_acked, below_highest, open_size}
 use Rattle.sctp_tx_outstanding.specs.Passes.{ack_or_uncover_from, acked_from, below_from, IsWalk, IsCursor}
 use Rattle.sctp_tx_outstanding.specs.LastBlocks.{Rests, Rest, RestBelow, AreAsBlocksSaid, Knows}
 use Rattle.sctp_tx_outstanding.specs.declared.last_blocks.LastBlocks.{LastBlocks}
@@ -153,6 +154,13 @@ closed_in GivenUp h = refl
 no_news : (c : Bool) (i : Item) → Rests c i → is_newly_acked c i ≡ false
 no_news true i h = closed_in i.state (state_of_lem (ack i) i h)
 no_news false i h = refl
+
+-- an acknowledgement that changes nothing says nothing new
+pub closed_at : (m : Bool) (k : ℕ) (is : List Item) → change_at k ack is ≡ is → open_size m (slice_get is k) ≡ None
+closed_at m zero [] h = refl
+closed_at m (suc k) [] h = refl
+closed_at m zero (i ∷ is) h = ap (λ b. cond b (Some (chunk_size m i)) None) (no_news true i (ap (λ (xs : List Item). slice_index_or xs 0 i) h))
+closed_at m (suc k) (i ∷ is) h = closed_at m k is (ap (λ (xs : List Item). drop 1 xs) h)
 
 -- ---- nothing is covered behind the last block
 

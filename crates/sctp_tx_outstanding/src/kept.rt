@@ -3,7 +3,7 @@
 ghost use Rattle.std.specs.Prelude.{◌≡◌, ◌==◌, ◌+◌, true, Some, map, min, option_map, slice_get, nat_lt, sum_by, ◌<◌, ◌≤◌, ◌∷◌, ◌++◌, [], length, drop, take, OnOk, OnErr, IfOk, IfSome, IfNone};
 ghost use Rattle.sctp_tx_outstanding.specs.Change.{apply_change};
 ghost use Rattle.std.specs.List.{All};
-ghost use Rattle.sctp_tx_outstanding.specs.Item.{NotBefore, earliest_of, never};
+ghost use Rattle.sctp_tx_outstanding.specs.Item.{NotBefore, earliest_of, never, ack};
 ghost use Rattle.sctp_tx_outstanding.specs.Expiries.{Expects, FindsDue};
 ghost use Rattle.sctp_tx_outstanding.specs.OutstandingData.{change_at, abandon_if_of, last_of, later_at, without_payload, packet_part, payload_part, flight_part, queued_part, fast_part};
 ghost use Rattle.sctp_tx_outstanding.specs.Totals.{Exchanges};
@@ -11,7 +11,7 @@ ghost use Rattle.sctp_tx_outstanding.specs.Losses.{expires, placeholder};
 ghost use Rattle.sctp_tx_outstanding.specs.Passed.{BeginsPoint};
 ghost use Rattle.sctp_tx_outstanding.specs.Views.{last_tree, point_of};
 ghost use Rattle.sctp_tx_outstanding.specs.LastBlocks.{Rest, Knows};
-ghost use Rattle.sctp_tx_outstanding.specs.Sack.{all_leaving_events};
+ghost use Rattle.sctp_tx_outstanding.specs.Sack.{all_leaving_events, open_size};
 ghost use Rattle.sctp_tx_outstanding.specs.Messages.{Finds, NoneIsOf};
 ghost use Rattle.sctp_tx_outstanding.specs.Quiet.{NoneFlies};
 ghost use Rattle.sctp_tx_outstanding.specs.Waiting.{NoneWaits};
@@ -22,7 +22,7 @@ mod handover;
 use crate::emitting::emit_left;
 use crate::expiries::{Due, Expiries};
 use crate::indexes::Indexes;
-use crate::item::{Item, header_size};
+use crate::item::{Item, padded_size};
 use crate::last_blocks::LastBlocks;
 use crate::messages::Messages;
 use crate::passed::ForwardPoint;
@@ -241,16 +241,29 @@ fn stays(item: &Item, change: Change) -> bool
     }
 }
 
-/// Changes the item at the place. The answer is what it added to the totals, and what it adds then; none, if it stays as it is.
+/// The bytes of the item's chunk, where it is neither acknowledged nor given up.
+#[inline(always)]
+fn open_size(item: &Item, is_interleaved: bool) -> Option<usize>
+    ensures { result ≡ open_size is_interleaved (Some item.now) }
+{
+    if item.is_outstanding() || item.should_be_retransmitted() {
+        return Some(item.chunk_size(is_interleaved));
+    }
+    None
+}
+
+/// Changes the item at the place. The answer is what it added to the totals and what it adds then, with the bytes of its chunk
+/// where it was neither acknowledged nor given up; none, if it stays as it is.
 #[inline(always)]
 fn change_item(
     items: &mut VecDeque<Item>,
     is_interleaved: bool,
     place: usize,
     change: Change,
-) -> Option<(Totals, Totals)>
+) -> Option<((Totals, Totals), Option<usize>)>
     ensures items { items.new.items ≡ change_at place (apply_change change) items.old.items }
-    ensures parts { IfSome result (λ parts. Exchanges is_interleaved place change items.old.items parts.0 parts.1) }
+    ensures parts { IfSome result (λ c. Exchanges is_interleaved place change items.old.items c.0.0 c.0.1) }
+    ensures size { IfSome result (λ c. c.1 ≡ open_size is_interleaved (slice_get items.old.items place)) }
     ensures same { IfNone result (items.new.items ≡ items.old.items) }
 {
     let Some(item) = items.get_mut(place) else {
@@ -259,10 +272,11 @@ fn change_item(
     if stays(item, change) {
         return None;
     }
+    let size = open_size(item, is_interleaved);
     let old = Totals::of(item, is_interleaved);
     apply(item, change);
     let new = Totals::of(item, is_interleaved);
-    Some((old, new))
+    Some(((old, new), size))
 }
 
 /// The kept items, with their indexes.
@@ -375,8 +389,7 @@ impl Kept {
     pub(crate) fn least_waiting(&self) -> usize
         ensures { All (λ i. should_be_retransmitted i ≡ true → result ≤ chunk_size self.now.is_interleaved i) self.now.items }
     {
-        let payload = self.indexes.waiting.least.min(1 << 32);
-        (header_size(self.is_interleaved) + payload + 3) / 4 * 4
+        padded_size(self.indexes.waiting.least.min(1 << 32), self.is_interleaved)
     }
 
     /// Looks how small the items that wait to be sent again are.
@@ -432,10 +445,27 @@ impl Kept {
     pub(crate) fn change(&mut self, place: usize, how: Change)
         ensures { self.new ≡ record self.old { items = change_at place (apply_change how) self.old.items } }
     {
-        let Some(parts) = change_item(&mut self.items, self.is_interleaved, place, how) else {
+        let changed = change_item(&mut self.items, self.is_interleaved, place, how);
+        let Some((parts, _)) = changed else {
             return;
         };
         self.indexes.follow(&self.items, place, how, parts);
+    }
+
+    /// The item at the place is acknowledged. The answer is the bytes of its chunk, where it was neither acknowledged nor given
+    /// up.
+    #[inline(always)]
+    pub(crate) fn ack(&mut self, place: usize) -> Option<usize>
+        ensures items { self.new ≡ record self.old { items = change_at place ack self.old.items } }
+        ensures size { result ≡ open_size self.old.is_interleaved (slice_get self.old.items place) }
+    {
+        let how = Change::Ack;
+        let changed = change_item(&mut self.items, self.is_interleaved, place, how);
+        let Some((parts, size)) = changed else {
+            return None;
+        };
+        self.indexes.follow(&self.items, place, how, parts);
+        size
     }
 
     /// Adds an item behind the others. Without memory nothing changes.

@@ -4,7 +4,7 @@ ghost use Rattle.std.specs.Prelude.{◌≡◌, ◌+◌, ◌-◌, ◌<◌, ◌≤
 ghost use Rattle.sctp_chunk.specs.declared.sack.GapAckBlock.{GapAckBlock};
 ghost use Rattle.sctp_tx_outstanding.specs.Item.{chunk_size};
 ghost use Rattle.sctp_tx_outstanding.specs.OutstandingData.{change_at};
-ghost use Rattle.sctp_tx_outstanding.specs.Sack.{open_size, departing_part, ack_or_uncover_all, newly_acked, below_highest, ack_or_uncover, bytes_of, newly_of, highest_end};
+ghost use Rattle.sctp_tx_outstanding.specs.Sack.{departing_part, ack_or_uncover_all, newly_acked, below_highest, ack_or_uncover, bytes_of, newly_of, highest_end};
 ghost use Rattle.sctp_tx_outstanding.specs.LastBlocks.{Rest};
 ghost use Rattle.sctp_tx_outstanding.specs.Passes.{IsWalk, AreCovered, AllAre, Advances};
 ghost use Rattle.sctp_tx_outstanding.specs.Quiet.{NoneFlies};
@@ -114,18 +114,6 @@ pub struct Covered {
     pub below: usize,
 }
 
-/// The bytes of the chunk at the place, where it was neither acknowledged nor given up.
-#[inline(always)]
-fn open_at(kept: &Kept, place: usize) -> Option<usize>
-    ensures { result ≡ open_size kept.now.is_interleaved (slice_get kept.now.items place) }
-{
-    let item = kept.get(place)?;
-    if item.is_outstanding() || item.should_be_retransmitted() {
-        return Some(item.chunk_size(kept.is_interleaved()));
-    }
-    None
-}
-
 /// Settles the item at the place, which a block covers or none does.
 #[inline(always)]
 fn settle_at(kept: &mut Kept, place: usize, is_covered: bool, covered: Covered) -> Covered
@@ -138,9 +126,7 @@ fn settle_at(kept: &mut Kept, place: usize, is_covered: bool, covered: Covered) 
         kept.change(place, Change::Uncover);
         return covered;
     }
-    let found = open_at(kept, place);
-    kept.change(place, Change::Ack);
-    match found {
+    match kept.ack(place) {
         Some(size) => Covered {
             bytes: covered.bytes.saturating_add(size),
             below: place,
