@@ -1,5 +1,7 @@
 //! SACKs whose blocks differ from the last one's here and there, over thousands of items.
 
+ghost use Rattle.std.specs.Prelude.{◌<◌, ◌^◌, length, IfOk};
+
 use sctp_chunk::SpareBuffers;
 use sctp_packet::{Data, GapAckBlock, SackChunk};
 use sctp_serial::{Fsn, Mid, OutgoingMessageId, PpId, SocketTime, Ssn, StreamId, StreamKey, Tsn};
@@ -38,7 +40,9 @@ fn fresh(alloc: Global) -> Sender {
     }
 }
 
-fn message(alloc: Global) -> Result<Data, AllocError> {
+fn message(alloc: Global) -> Result<Data, AllocError>
+    ensures { IfOk result (λ m. length m.payload.items < 2 ^ 32) }
+{
     Ok(Data {
         stream_key: StreamKey::Unordered(StreamId(1)),
         ssn: Ssn(0),
