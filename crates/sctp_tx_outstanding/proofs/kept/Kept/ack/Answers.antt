@@ -1,4 +1,4 @@
-use Rattle.std.proofs.Common.{◌≡◌, List, ap, sym, subst, ◌∙◌}
+use Rattle.std.proofs.Common.{◌≡◌, List, sym, subst, ◌∙◌}
 use Rattle.std.specs.Prelude.{None, slice_get}
 use Rattle.sctp_tx_outstanding.specs.Item.{Item}
 use Rattle.sctp_tx_outstanding.specs.OutstandingData.{Kept}

@@ -1,4 +1,4 @@
-use Rattle.std.proofs.Common.{◌≡◌, ◌+◌, ◌*◌, ◌/◌, ◌≤◌, true, ap, sym, subst, arith}
+use Rattle.std.proofs.Common.{◌≡◌, ◌+◌, ◌*◌, ◌/◌, ◌≤◌, true, sym, subst, arith}
 use Rattle.std.specs.List.{All}
 use Rattle.sctp_tx_outstanding.specs.Item.{header_size, chunk_size, should_be_retransmitted}
 use Rattle.sctp_tx_outstanding.specs.OutstandingData.{Kept}
