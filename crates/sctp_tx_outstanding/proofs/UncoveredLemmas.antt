@@ -11,7 +11,7 @@ use Rattle.sctp_tx_outstanding.specs.declared.kept.Change.TheVariants as changes
 use Rattle.sctp_tx_outstanding.specs.Item.{Item, ack, nack}
 use Rattle.sctp_tx_outstanding.specs.OutstandingData.{Items, Outstanding, last_of}
 use Rattle.sctp_tx_outstanding.specs.Losses.{Step, first_step, placeholder, placeholders, abandon_with_record, is_to_be_abandoned, loses, change_items, nack_item, nack_at, nack_below}
-use Rattle.sctp_tx_outstanding.specs.Passes.{AreCovered}
+use Rattle.sctp_tx_outstanding.specs.Passes.{AllAre}
 use Rattle.sctp_tx_outstanding.specs.LastBlocks.{Rests, Rest}
 use Rattle.sctp_tx_outstanding.proofs.ReceivedLemmas.{still, state_of_lem, rest_changed, rest_laid}
 use Rattle.sctp_tx_outstanding.specs.Quiet.{flies_at, NoneFlies}
@@ -28,11 +28,11 @@ quiet_at bs zero offset next (i ∷ is) e h c =
     still i.state (state_of_lem (ack i) i (subst (λ b. Rests b i) here h.0))
 quiet_at bs (suc k) offset next (i ∷ is) e h c = quiet_at bs k (suc offset) next is (omega (arith, e)) h.1 c
 
-pub covered_quiet : (bs : List GapAckBlock) (place next : ℕ) (is : List Item) → Rest bs 1 is → AreCovered bs place next → NoneFlies place next is
+pub covered_quiet : (bs : List GapAckBlock) (place next : ℕ) (is : List Item) → Rest bs 1 is → AllAre true bs 1 place next → NoneFlies place next is
 covered_quiet bs place next is h c = λ k le less. quiet_at bs k 1 (k + 1) is refl h (c k le less)
 
 -- a walk over those from `from` on goes on to `uncovered`, and from there to `flight`
-pub quiet_on : (bs : List GapAckBlock) (place from uncovered flight : ℕ) (is js : List Item) → js ≡ is → Rest bs 1 is → NoneFlies place from is → AreCovered bs from uncovered → NoneFlies uncovered flight js
+pub quiet_on : (bs : List GapAckBlock) (place from uncovered flight : ℕ) (is js : List Item) → js ≡ is → Rest bs 1 is → NoneFlies place from is → AllAre true bs 1 from uncovered → NoneFlies uncovered flight js
     → NoneFlies place flight is
 quiet_on bs place from uncovered flight is js same rest none covered more k begin end = elim (cases_lt k from) [
   | inl before ↦ none k begin before

@@ -18,10 +18,6 @@ abbrev pub IsWalk : (is_in_runs : Bool) → List GapAckBlock → (offset from : 
 IsWalk true blocks offset from = IsCursor blocks offset from
 IsWalk false blocks offset from = Unit {0}
 
--- blocks cover the items from one place up to another
-abbrev pub AreCovered : List GapAckBlock → (place next : ℕ) → Type 0
-AreCovered blocks place next = (p : ℕ) → place ≤ p → p < next → is_covered blocks (p + 1) ≡ true
-
 -- of the items from one place up to another, the first of all at the offset `first`, blocks cover each or none
 abbrev pub AllAre : (covered : Bool) → List GapAckBlock → (first place next : ℕ) → Type 0
 AllAre covered blocks first place next = (p : ℕ) → place ≤ p → p < next → is_covered blocks (p + first) ≡ covered

@@ -2,11 +2,10 @@
 
 ghost use Rattle.std.specs.Prelude.{◌≡◌, ◌+◌, ◌-◌, ◌<◌, ◌≤◌, ◌^◌, true, List, min, length, take, drop, sum_by, slice_get, if◌then◌else◌};
 ghost use Rattle.sctp_chunk.specs.declared.sack.GapAckBlock.{GapAckBlock};
-ghost use Rattle.sctp_tx_outstanding.specs.Item.{chunk_size};
 ghost use Rattle.sctp_tx_outstanding.specs.OutstandingData.{change_at};
 ghost use Rattle.sctp_tx_outstanding.specs.Sack.{departing_part, ack_or_uncover_all, newly_acked, below_highest, ack_or_uncover, bytes_of, newly_of, highest_end};
 ghost use Rattle.sctp_tx_outstanding.specs.LastBlocks.{Rest};
-ghost use Rattle.sctp_tx_outstanding.specs.Passes.{IsWalk, AreCovered, AllAre, Advances};
+ghost use Rattle.sctp_tx_outstanding.specs.Passes.{IsWalk, AllAre, Advances};
 ghost use Rattle.sctp_tx_outstanding.specs.Quiet.{NoneFlies};
 
 use crate::item::Item;
@@ -66,7 +65,7 @@ pub(crate) fn pass_covered(
     requires cursor { IsWalk is_in_runs blocks.now (place + 1) from }
     ensures cursor { IsWalk is_in_runs blocks.now (result.1 + 1) result.0 }
     ensures onward { place ≤ result.1 }
-    ensures covered { AreCovered blocks.now place result.1 }
+    ensures covered { AllAre true blocks.now 1 place result.1 }
 {
     let stretch = stretch_of(blocks, is_in_runs, from, place);
     if stretch.is_covered {
@@ -146,7 +145,7 @@ fn settle_range(
     requires onward { from ≤ to }
     requires within { to ≤ length kept.old.items }
     ensures mode { kept.new.is_interleaved ≡ kept.old.is_interleaved }
-    ensures settled { (bs : List GapAckBlock) → AllAre is_covered bs 1 from to → Advances bs kept.old.is_interleaved from to covered result kept.old.items kept.new.items }
+    ensures settled { (blocks : List GapAckBlock) → AllAre is_covered blocks 1 from to → Advances blocks kept.old.is_interleaved from to covered result kept.old.items kept.new.items }
 {
     let mut found = covered;
     for place in from..to {

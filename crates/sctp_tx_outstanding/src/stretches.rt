@@ -13,7 +13,7 @@ pub struct Stretch {
     pub is_covered: bool,
     /// The place behind them.
     pub end: usize,
-    /// The first block that may cover items from there on.
+    /// The blocks before this one end before them, if they are runs.
     pub block: usize,
 }
 

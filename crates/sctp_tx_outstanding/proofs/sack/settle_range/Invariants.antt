@@ -7,5 +7,5 @@ abbrev pub invariant-loop-place : goal.invariant-loop-place
 invariant-loop-place l = record {
   mode : l.kept.is_interleaved ≡ l.initial.kept.is_interleaved;
   length : length l.kept.items ≡ length l.initial.kept.items;
-  settled : (bs : List GapAckBlock) → AllAre l.is_covered bs 1 l.from l.to → Advances bs l.initial.kept.is_interleaved l.from l.place l.fn.covered l.found l.initial.kept.items l.kept.items;
+  settled : (blocks : List GapAckBlock) → AllAre l.is_covered blocks 1 l.from l.to → Advances blocks l.initial.kept.is_interleaved l.from l.place l.fn.covered l.found l.initial.kept.items l.kept.items;
 }
