@@ -380,7 +380,7 @@ pub fn header_size(is_interleaved: bool) -> usize
 }
 
 /// The bytes of a DATA or I-DATA chunk with so many bytes of payload, with the header and the padding.
-pub fn padded_size(payload: usize, is_interleaved: bool) -> usize
+pub(crate) fn padded_size(payload: usize, is_interleaved: bool) -> usize
     requires { payload < 2 ^ 63 }
     ensures { result ≡ (header_size is_interleaved + payload + 3) / 4 * 4 }
 {
