@@ -1,3 +1,4 @@
+pub mod AdvanceLemmas
 pub mod AgainLemmas
 pub mod BreakLemmas
 pub mod EntriesLemmas

@@ -1,10 +1,10 @@
 -- A walk through items and blocks.
-use Rattle.std.proofs.Common.{◌≡◌, ℕ, zero, suc, ◌+◌, ◌<◌, ◌≤◌, Bool, true, false, cond, List, [], ◌∷◌, length, drop, slice_index_or, min, refl, ap, sym, subst, ◌∙◌, arith}
+use Rattle.std.proofs.Common.{◌≡◌, ℕ, zero, suc, ◌+◌, ◌<◌, ◌≤◌, ◌||◌, Bool, true, false, cond, List, [], ◌∷◌, length, drop, slice_index_or, min, refl, ap, sym, subst, ◌∙◌, arith}
 use Rattle.std.specs.Prelude.{nat_le, slice_get}
 use Rattle.std.proofs.Math.Seq.{drop-cons}
 use Rattle.std.proofs.lemmas.Bool.Decides.{nat_tests}
 use Rattle.sctp_chunk.specs.declared.sack.GapAckBlock.{GapAckBlock}
-use Rattle.sctp_chunk.specs.Covered.{is_covered, AreRuns}
+use Rattle.sctp_chunk.specs.Covered.{is_covered, covers, AreRuns}
 use Rattle.sctp_tx_outstanding.specs.Item.{Item}
 use Rattle.sctp_tx_outstanding.specs.OutstandingData.{Kept, change_at}
 use Rattle.sctp_tx_outstanding.specs.Sack.{ack_or_uncover, is_new_at, new_bytes_at, newly_of, bytes_of}
@@ -24,6 +24,23 @@ covered_at bs at offset d h less ends =
     let e : drop at bs ≡ slice_index_or bs at d ∷ drop (suc at) bs = drop-cons bs at d less in
     let runs = subst (λ cs. AreRuns h.lowest cs) e h.runs in
     covered_first h.lowest offset (slice_index_or bs at d) (drop (suc at) bs) runs ends ∙ ap (λ cs. is_covered cs offset) (sym e) ∙ h.same offset (omega arith)
+
+uncovered_first : (lowest o : ℕ) (b : GapAckBlock) (bs : List GapAckBlock) → AreRuns lowest (b ∷ bs) → o < b.start → is_covered (b ∷ bs) o ≡ false
+uncovered_first lowest o b bs h less = is_covered_below b.start o (b ∷ bs) (omega arith, h.1, h.2) less
+
+pub uncovered_at : (bs : List GapAckBlock) (at offset o : ℕ) (d : GapAckBlock) → IsCursor bs offset at → at < length bs → offset ≤ o → o < (slice_index_or bs at d).start → is_covered bs o ≡ false
+uncovered_at bs at offset o d h less le before =
+    let e : drop at bs ≡ slice_index_or bs at d ∷ drop (suc at) bs = drop-cons bs at d less in
+    let runs = subst (λ cs. AreRuns h.lowest cs) e h.runs in
+    sym (h.same o le) ∙ ap (λ cs. is_covered cs o) e ∙ uncovered_first h.lowest o (slice_index_or bs at d) (drop (suc at) bs) runs before
+
+-- one block more
+pub alike_next : (b : GapAckBlock) (bs cs : List GapAckBlock) (place next here : ℕ) → cs ≡ b ∷ bs → ((p : ℕ) → place ≤ p → p < here → covers (p + 1) b ≡ covers (place + 1) b)
+    → ((p : ℕ) → place ≤ p → p < next → is_covered bs (p + 1) ≡ is_covered bs (place + 1)) → (p : ℕ) → place ≤ p → p < min next here → is_covered cs (p + 1) ≡ is_covered cs (place + 1)
+alike_next b bs cs place next here e first rest = λ p le less.
+    ap (λ (xs : List GapAckBlock). is_covered xs (p + 1)) e
+    ∙ ap (λ t. t || is_covered bs (p + 1)) (first p le (omega (arith, less)))
+    ∙ ap (λ t. covers (place + 1) b || t) (rest p le (omega (arith, less))) ∙ ap (λ (xs : List GapAckBlock). is_covered xs (place + 1)) (sym e)
 
 -- ---- items
 

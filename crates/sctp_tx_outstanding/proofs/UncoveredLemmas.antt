@@ -1,33 +1,23 @@
 -- Missing reports pass over the items that blocks cover.
 use Rattle.std.proofs.lemmas.Bool.{cases_lt}
-use Rattle.std.proofs.Common.{inl, inr, ◌≡◌, ℕ, zero, suc, ◌+◌, ◌-◌, ◌≤◌, ◌||◌, Bool, true, false, cond, List, [], ◌∷◌, ◌++◌, refl, ap, sym, subst, ◌∙◌, arith, IsTrue}
+use Rattle.std.proofs.Common.{inl, inr, ◌≡◌, ℕ, zero, suc, ◌+◌, ◌-◌, ◌≤◌, ◌||◌, Bool, true, false, cond, List, [], ◌∷◌, ◌++◌, refl, ap, sym, subst, ◌∙◌, arith}
 use Rattle.std.specs.Prelude.{Option, Some, None, unwrap_or, option_map, slice_get}
 use Rattle.sctp_chunk.specs.Chunk.{FragmentTree}
 use Rattle.sctp_chunk.specs.declared.sack.GapAckBlock.{GapAckBlock}
-use Rattle.sctp_chunk.specs.Covered.{is_covered, AreRuns}
+use Rattle.sctp_chunk.specs.Covered.{is_covered}
 use Rattle.sctp_state.specs.Events.{Emitted}
 use Rattle.sctp_state.specs.declared.api.GivenUpCause.TheVariants.{Retransmissions}
 use Rattle.sctp_tx_outstanding.specs.declared.kept.Change.TheVariants as changes
 use Rattle.sctp_tx_outstanding.specs.Item.{Item, ack, nack}
 use Rattle.sctp_tx_outstanding.specs.OutstandingData.{Items, Outstanding, last_of}
 use Rattle.sctp_tx_outstanding.specs.Losses.{Step, first_step, placeholder, placeholders, abandon_with_record, is_to_be_abandoned, loses, change_items, nack_item, nack_at, nack_below}
-use Rattle.sctp_tx_outstanding.specs.Passes.{IsWalk, AreCovered}
+use Rattle.sctp_tx_outstanding.specs.Passes.{AllAre}
 use Rattle.sctp_tx_outstanding.specs.LastBlocks.{Rests, Rest}
-use Rattle.sctp_tx_outstanding.proofs.ReceivedLemmas.{still, state_of_lem, rest_changed, rest_laid, cursor_later, cursor_begin}
+use Rattle.sctp_tx_outstanding.proofs.ReceivedLemmas.{still, state_of_lem, rest_changed, rest_laid}
 use Rattle.sctp_tx_outstanding.specs.Quiet.{flies_at, NoneFlies}
 use Rattle.sctp_tx_outstanding.proofs.QuietLemmas.{passed}
 
--- ---- blocks
-
-pub walk_begin : (b : Bool) (bs : List GapAckBlock) → (IsTrue b → AreRuns 0 bs) → IsWalk b bs 1 0
-walk_begin true bs h = cursor_begin bs 1 (h refl)
-walk_begin false bs h = tt
-
-pub walk_past : (b : Bool) (bs : List GapAckBlock) (o p from : ℕ) → o ≤ p → IsWalk b bs o from → IsWalk b bs p from
-walk_past true bs o p from le h = cursor_later bs o p from le h
-walk_past false bs o p from le h = tt
-
--- ---- what they cover isn't outstanding
+-- ---- what blocks cover isn't outstanding
 
 quiet_at : (bs : List GapAckBlock) (k offset next : ℕ) (is : List Item) → next ≡ k + offset → Rest bs offset is → is_covered bs next ≡ true → flies_at k is ≡ false
 quiet_at bs zero offset next [] e h c = refl
@@ -38,11 +28,11 @@ quiet_at bs zero offset next (i ∷ is) e h c =
     still i.state (state_of_lem (ack i) i (subst (λ b. Rests b i) here h.0))
 quiet_at bs (suc k) offset next (i ∷ is) e h c = quiet_at bs k (suc offset) next is (omega (arith, e)) h.1 c
 
-pub covered_quiet : (bs : List GapAckBlock) (place next : ℕ) (is : List Item) → Rest bs 1 is → AreCovered bs place next → NoneFlies place next is
+pub covered_quiet : (bs : List GapAckBlock) (place next : ℕ) (is : List Item) → Rest bs 1 is → AllAre true bs 1 place next → NoneFlies place next is
 covered_quiet bs place next is h c = λ k le less. quiet_at bs k 1 (k + 1) is refl h (c k le less)
 
 -- a walk over those from `from` on goes on to `uncovered`, and from there to `flight`
-pub quiet_on : (bs : List GapAckBlock) (place from uncovered flight : ℕ) (is js : List Item) → js ≡ is → Rest bs 1 is → NoneFlies place from is → AreCovered bs from uncovered → NoneFlies uncovered flight js
+pub quiet_on : (bs : List GapAckBlock) (place from uncovered flight : ℕ) (is js : List Item) → js ≡ is → Rest bs 1 is → NoneFlies place from is → AllAre true bs 1 from uncovered → NoneFlies uncovered flight js
     → NoneFlies place flight is
 quiet_on bs place from uncovered flight is js same rest none covered more k begin end = elim (cases_lt k from) [
   | inl before ↦ none k begin before

@@ -1,5 +1,5 @@
 -- What the last SACK's blocks said, so that the next one's are looked at only where they say something else.
-use Rattle.std.specs.Prelude.{◌≡◌, ℕ, zero, suc, ◌+◌, ◌<◌, ◌≤◌, ◌^◌, Bool, true, false, List, [], ◌∷◌, length, drop}
+use Rattle.std.specs.Prelude.{◌≡◌, ℕ, zero, suc, ◌+◌, ◌<◌, ◌^◌, Bool, true, List, [], ◌∷◌, length}
 use Rattle.sctp_chunk.specs.declared.sack.GapAckBlock.{GapAckBlock}
 use Rattle.sctp_chunk.specs.Covered.{is_covered, AreRuns}
 use Rattle.sctp_tx_outstanding.specs.declared.last_blocks.LastBlocks.{LastBlocks}
@@ -21,30 +21,6 @@ abbrev pub RestBelow : List GapAckBlock → (k offset : ℕ) → List Item → T
 RestBelow blocks zero offset is = Unit {0}
 RestBelow blocks (suc k) offset [] = Unit {0}
 RestBelow blocks (suc k) offset (i ∷ is) = Rests (is_covered blocks offset) i × RestBelow blocks k (suc offset) is
-
--- those behind the first k, the next one at this offset
-abbrev pub RestFrom : List GapAckBlock → (k offset : ℕ) → List Item → Type 0
-RestFrom blocks zero offset is = Rest blocks offset is
-RestFrom blocks (suc k) offset [] = Unit {0}
-RestFrom blocks (suc k) offset (i ∷ is) = RestFrom blocks k offset is
-
--- ---- earlier blocks, of which the first item has this offset now, and new ones
-
--- they cover the same of the first items
-abbrev pub Agree : (count offset : ℕ) → List GapAckBlock → List GapAckBlock → Type 0
-Agree count offset runs blocks = (place : ℕ) → place < count → is_covered runs (offset + place) ≡ is_covered blocks (1 + place)
-
--- none of the next items is covered
-abbrev pub NoneOf : (count offset : ℕ) → List GapAckBlock → Type 0
-NoneOf count offset blocks = (place : ℕ) → place < count → is_covered blocks (offset + place) ≡ false
-
--- from `from` and from `at` on they agree as far as they do as a whole
-pub record AreSame (runs blocks : List GapAckBlock) (from offset at : ℕ) : Type 0 where
-  pub within : at ≤ length blocks
-  pub inside : from + at ≤ length runs
-  pub olds : (lowest : ℕ) × AreRuns lowest (drop (from + at) runs)
-  pub news : (lowest : ℕ) × AreRuns lowest (drop at blocks)
-  pub agree : (count : ℕ) → Agree count offset (drop (from + at) runs) (drop at blocks) → Agree count offset (drop from runs) blocks
 
 -- ---- what is remembered
 

@@ -1,6 +1,6 @@
 //! A fragment that has its TSN.
 
-ghost use Rattle.std.specs.Prelude.{◌≡◌, ◌-◌, ◌<◌, ◌≤◌, ◌^◌, length, min, false, None, IfOk};
+ghost use Rattle.std.specs.Prelude.{◌≡◌, ◌+◌, ◌-◌, ◌*◌, ◌/◌, ◌<◌, ◌≤◌, ◌^◌, length, min, false, None, IfOk};
 ghost use Rattle.std.specs.Duration.{as_nanos};
 ghost use Rattle.sctp_chunk.specs.Views.{fragment_tree};
 ghost use Rattle.sctp_tx_outstanding.specs.OutstandingData.{first_sent};
@@ -379,11 +379,19 @@ pub fn header_size(is_interleaved: bool) -> usize
     if is_interleaved { 20 } else { 16 }
 }
 
-/// The bytes of the fragment's DATA or I-DATA chunk, with the header and the padding.
+/// The bytes of a DATA or I-DATA chunk with so many bytes of payload, with the header and the padding.
+pub(crate) fn padded_size(payload: usize, is_interleaved: bool) -> usize
+    requires { payload < 2 ^ 63 }
+    ensures { result ≡ (header_size is_interleaved + payload + 3) / 4 * 4 }
+{
+    (header_size(is_interleaved) + payload + 3) / 4 * 4
+}
+
+/// The bytes of the fragment's chunk.
 pub fn chunk_size(fragment: &Data, is_interleaved: bool) -> usize
     ensures { result ≡ size_of is_interleaved (fragment_tree fragment.now) }
 {
-    (header_size(is_interleaved) + fragment.payload.len() + 3) / 4 * 4
+    padded_size(fragment.payload.len(), is_interleaved)
 }
 
 /// The fragment once more.

@@ -3,15 +3,15 @@
 ghost use Rattle.std.specs.Prelude.{◌≡◌, ◌==◌, ◌+◌, true, Some, map, min, option_map, slice_get, nat_lt, sum_by, ◌<◌, ◌≤◌, ◌∷◌, ◌++◌, [], length, drop, take, OnOk, OnErr, IfOk, IfSome, IfNone};
 ghost use Rattle.sctp_tx_outstanding.specs.Change.{apply_change};
 ghost use Rattle.std.specs.List.{All};
-ghost use Rattle.sctp_tx_outstanding.specs.Item.{NotBefore, earliest_of, never};
+ghost use Rattle.sctp_tx_outstanding.specs.Item.{NotBefore, earliest_of, never, ack};
 ghost use Rattle.sctp_tx_outstanding.specs.Expiries.{Expects, FindsDue};
 ghost use Rattle.sctp_tx_outstanding.specs.OutstandingData.{change_at, abandon_if_of, last_of, later_at, without_payload, packet_part, payload_part, flight_part, queued_part, fast_part};
 ghost use Rattle.sctp_tx_outstanding.specs.Totals.{Exchanges};
 ghost use Rattle.sctp_tx_outstanding.specs.Losses.{expires, placeholder};
 ghost use Rattle.sctp_tx_outstanding.specs.Passed.{BeginsPoint};
 ghost use Rattle.sctp_tx_outstanding.specs.Views.{last_tree, point_of};
-ghost use Rattle.sctp_tx_outstanding.specs.LastBlocks.{Rest, RestBelow, RestFrom};
-ghost use Rattle.sctp_tx_outstanding.specs.Sack.{all_leaving_events};
+ghost use Rattle.sctp_tx_outstanding.specs.LastBlocks.{Rest, Knows};
+ghost use Rattle.sctp_tx_outstanding.specs.Sack.{all_leaving_events, open_size};
 ghost use Rattle.sctp_tx_outstanding.specs.Messages.{Finds, NoneIsOf};
 ghost use Rattle.sctp_tx_outstanding.specs.Quiet.{NoneFlies};
 ghost use Rattle.sctp_tx_outstanding.specs.Waiting.{NoneWaits};
@@ -22,13 +22,13 @@ mod handover;
 use crate::emitting::emit_left;
 use crate::expiries::{Due, Expiries};
 use crate::indexes::Indexes;
-use crate::item::{Item, header_size};
-use crate::last_blocks::{alike, reach};
+use crate::item::{Item, padded_size};
+use crate::last_blocks::LastBlocks;
 use crate::messages::Messages;
 use crate::passed::ForwardPoint;
 use crate::sack::highest_end;
 use crate::totals::Totals;
-use sctp_chunk::{Data, GapAckBlock, are_runs};
+use sctp_chunk::{Data, GapAckBlock};
 use sctp_serial::{Fsn, Mid, OutgoingMessageId, PpId, SocketTime, Ssn, StreamKey};
 use sctp_state::{Events, take_first};
 use std::alloc::{AllocError, Global};
@@ -241,16 +241,29 @@ fn stays(item: &Item, change: Change) -> bool
     }
 }
 
-/// Changes the item at the place. The answer is what it added to the totals, and what it adds then; none, if it stays as it is.
+/// The bytes of the item's chunk, where it is neither acknowledged nor given up.
+#[inline(always)]
+fn open_size(item: &Item, is_interleaved: bool) -> Option<usize>
+    ensures { result ≡ open_size is_interleaved (Some item.now) }
+{
+    if item.is_outstanding() || item.should_be_retransmitted() {
+        return Some(item.chunk_size(is_interleaved));
+    }
+    None
+}
+
+/// Changes the item at the place. The answer is what it added to the totals and what it adds then, with the bytes of its chunk
+/// where it was neither acknowledged nor given up; none, if it stays as it is.
 #[inline(always)]
 fn change_item(
     items: &mut VecDeque<Item>,
     is_interleaved: bool,
     place: usize,
     change: Change,
-) -> Option<(Totals, Totals)>
+) -> Option<((Totals, Totals), Option<usize>)>
     ensures items { items.new.items ≡ change_at place (apply_change change) items.old.items }
-    ensures parts { IfSome result (λ parts. Exchanges is_interleaved place change items.old.items parts.0 parts.1) }
+    ensures parts { IfSome result (λ c. Exchanges is_interleaved place change items.old.items c.0.0 c.0.1) }
+    ensures size { IfSome result (λ c. c.1 ≡ open_size is_interleaved (slice_get items.old.items place)) }
     ensures same { IfNone result (items.new.items ≡ items.old.items) }
 {
     let Some(item) = items.get_mut(place) else {
@@ -259,10 +272,11 @@ fn change_item(
     if stays(item, change) {
         return None;
     }
+    let size = open_size(item, is_interleaved);
     let old = Totals::of(item, is_interleaved);
     apply(item, change);
     let new = Totals::of(item, is_interleaved);
-    Some((old, new))
+    Some(((old, new), size))
 }
 
 /// The kept items, with their indexes.
@@ -375,8 +389,7 @@ impl Kept {
     pub(crate) fn least_waiting(&self) -> usize
         ensures { All (λ i. should_be_retransmitted i ≡ true → result ≤ chunk_size self.now.is_interleaved i) self.now.items }
     {
-        let payload = self.indexes.waiting.least.min(1 << 32);
-        (header_size(self.is_interleaved) + payload + 3) / 4 * 4
+        padded_size(self.indexes.waiting.least.min(1 << 32), self.is_interleaved)
     }
 
     /// Looks how small the items that wait to be sent again are.
@@ -386,47 +399,23 @@ impl Kept {
         self.indexes.waiting.renew_least(&self.items);
     }
 
-    /// How many of the first items are already as these blocks say.
-    pub(crate) fn front_as_in(&self, blocks: &[GapAckBlock]) -> usize
-        ensures { RestBelow blocks.now result 1 self.now.items }
+    /// Takes out what is known of the last SACK's blocks.
+    pub(crate) fn take_last_blocks(&mut self, alloc: Global) -> LastBlocks
+        ensures same { self.new ≡ self.old }
+        ensures known { Knows result self.old.items }
     {
-        if !self.indexes.last_blocks.is_known {
-            return 0;
-        }
-        if !are_runs(0, blocks) {
-            return 0;
-        }
-        alike(
-            &self.indexes.last_blocks.runs,
-            self.indexes.last_blocks.offset,
-            blocks,
-        )
+        self.indexes.last_blocks.take_out(alloc)
     }
 
-    /// Behind how many of the first items all are already as these blocks say.
-    pub(crate) fn back_as_in(&self, blocks: &[GapAckBlock]) -> usize
-        ensures rest { RestFrom blocks.now result (result + 1) self.now.items }
-        ensures within { result ≤ length self.now.items }
-    {
-        let len = self.items.len();
-        if !self.indexes.last_blocks.is_known {
-            return len;
-        }
-        let end = reach(
-            &self.indexes.last_blocks.runs,
-            self.indexes.last_blocks.offset,
-            blocks,
-        );
-        if end < len { end } else { len }
-    }
-
-    /// The items are as these blocks say.
-    pub(crate) fn remember(&mut self, blocks: &[GapAckBlock])
+    /// The items are as these blocks say. Earlier ones that were taken out have the memory for them.
+    pub(crate) fn remember(&mut self, earlier: LastBlocks, blocks: &[GapAckBlock])
         requires { Rest blocks.now 1 self.old.items }
         ensures { self.new ≡ self.old }
     {
         let is_within = highest_end(blocks) as usize <= self.items.len();
-        self.indexes.last_blocks.remember_blocks(blocks, is_within);
+        let mut last = earlier;
+        last.remember_blocks(blocks, is_within);
+        self.indexes.last_blocks = last;
     }
 
     /// Whether an item that is missing or lost may have expired.
@@ -456,10 +445,27 @@ impl Kept {
     pub(crate) fn change(&mut self, place: usize, how: Change)
         ensures { self.new ≡ record self.old { items = change_at place (apply_change how) self.old.items } }
     {
-        let Some(parts) = change_item(&mut self.items, self.is_interleaved, place, how) else {
+        let changed = change_item(&mut self.items, self.is_interleaved, place, how);
+        let Some((parts, _)) = changed else {
             return;
         };
         self.indexes.follow(&self.items, place, how, parts);
+    }
+
+    /// The item at the place is acknowledged. The answer is the bytes of its chunk, where it was neither acknowledged nor given
+    /// up.
+    #[inline(always)]
+    pub(crate) fn ack(&mut self, place: usize) -> Option<usize>
+        ensures items { self.new ≡ record self.old { items = change_at place ack self.old.items } }
+        ensures size { result ≡ open_size self.old.is_interleaved (slice_get self.old.items place) }
+    {
+        let how = Change::Ack;
+        let changed = change_item(&mut self.items, self.is_interleaved, place, how);
+        let Some((parts, size)) = changed else {
+            return None;
+        };
+        self.indexes.follow(&self.items, place, how, parts);
+        size
     }
 
     /// Adds an item behind the others. Without memory nothing changes.

@@ -15,6 +15,7 @@ mod passed;
 mod quiet;
 pub mod sack;
 pub mod skips;
+mod stretches;
 pub mod totals;
 mod waiting;
 

@@ -571,8 +571,9 @@ impl OutstandingData {
     /// reported missing, and is lost by the third report. Without memory nothing changes, or only some of the first of these
     /// reports are done.
     ///
-    /// Blocks that are runs, as in a SACK that was cleaned, are walked along with the items. Others cost a search of all of them
-    /// for each item. Of the payloads that leave a few buffers are kept for the next ones.
+    /// Items of which the blocks say what the last SACK's said are passed over as they are settled. Blocks that are runs, as in a
+    /// SACK that was cleaned, are walked once along with the items. Others are searched whole for each stretch of items that they
+    /// say the same of. Of the payloads that leave a few buffers are kept for the next ones.
     pub fn handle_sack(
         &mut self,
         sack: &SackChunk,
@@ -594,7 +595,7 @@ impl OutstandingData {
     {
         let number = self.unwrapped(sack.cumulative_tsn_ack);
         let left = self.leave(number, spares, events)?;
-        let covered = settle_all(&mut self.kept, &sack.gap_ack_blocks);
+        let covered = settle_all(&mut self.kept, self.alloc, &sack.gap_ack_blocks);
         let fast = !is_in_fast_recovery;
         let is_lossy = self.nack_uncovered(covered.below, &sack.gap_ack_blocks, fast, events)?;
         Ok(AckInfo {

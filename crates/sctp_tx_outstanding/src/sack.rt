@@ -1,18 +1,19 @@
 //! What a SACK says of the kept items.
 
-ghost use Rattle.std.specs.Prelude.{◌≡◌, ◌+◌, ◌-◌, ◌<◌, ◌≤◌, ◌^◌, ◌&&◌, min, length, take, drop, sum_by, slice_get, slice_index_or, if◌then◌else◌};
+ghost use Rattle.std.specs.Prelude.{◌≡◌, ◌+◌, ◌-◌, ◌<◌, ◌≤◌, ◌^◌, true, List, min, length, take, drop, sum_by, slice_get, if◌then◌else◌};
 ghost use Rattle.sctp_chunk.specs.declared.sack.GapAckBlock.{GapAckBlock};
-ghost use Rattle.sctp_chunk.specs.Covered.{is_covered};
-ghost use Rattle.sctp_tx_outstanding.specs.Item.{chunk_size};
 ghost use Rattle.sctp_tx_outstanding.specs.OutstandingData.{change_at};
-ghost use Rattle.sctp_tx_outstanding.specs.Sack.{open_size, departing_part, ack_or_uncover_all, newly_acked, below_highest, ack_or_uncover, new_bytes_at, is_new_at, highest_end};
+ghost use Rattle.sctp_tx_outstanding.specs.Sack.{departing_part, ack_or_uncover_all, newly_acked, below_highest, ack_or_uncover, bytes_of, newly_of, highest_end};
 ghost use Rattle.sctp_tx_outstanding.specs.LastBlocks.{Rest};
-ghost use Rattle.sctp_tx_outstanding.specs.Passes.{IsCursor, IsWalk, AreCovered};
+ghost use Rattle.sctp_tx_outstanding.specs.Passes.{IsWalk, AllAre, Advances};
 ghost use Rattle.sctp_tx_outstanding.specs.Quiet.{NoneFlies};
 
 use crate::item::Item;
 use crate::kept::{Change, Kept};
+use crate::last_blocks::LastBlocks;
+use crate::stretches::stretch_of;
 use sctp_chunk::{GapAckBlock, SpareBuffers, are_runs};
+use std::alloc::Global;
 
 /// What a SACK acknowledged.
 #[derive(Clone, Copy)]
@@ -53,44 +54,7 @@ pub(crate) fn take_out(kept: &mut Kept, count: usize, spares: &mut SpareBuffers)
     bytes
 }
 
-/// The first block from `from` on that doesn't end before the offset.
-#[inline(always)]
-pub(crate) fn skip_blocks(blocks: &[GapAckBlock], mut from: usize, offset: usize) -> usize
-    requires { IsCursor blocks.now offset from }
-    ensures cursor { IsCursor blocks.now offset result }
-    ensures ends { (d : GapAckBlock) → result < length blocks.now → offset ≤ (slice_index_or blocks.now result d).end }
-{
-    while from < blocks.len() && (blocks[from].end as usize) < offset {
-        from += 1;
-    }
-    from
-}
-
-/// Whether one of the blocks covers the offset.
-fn is_covered(blocks: &[GapAckBlock], offset: usize) -> bool
-    ensures { result ≡ is_covered blocks.now offset }
-{
-    blocks.iter().any(|block| block.start as usize <= offset && offset <= block.end as usize)
-}
-
-/// Whether a block covers the offset, and the first block that may cover the next one. Only in runs is it searched from
-/// `from` on.
-#[inline(always)]
-fn look(blocks: &[GapAckBlock], is_in_runs: bool, from: usize, offset: usize) -> (usize, bool)
-    requires { IsWalk is_in_runs blocks.now offset from }
-    ensures cursor { IsWalk is_in_runs blocks.now offset result.0 }
-    ensures covered { result.1 ≡ is_covered blocks.now offset }
-{
-    if !is_in_runs {
-        return (from, is_covered(blocks, offset));
-    }
-    let block = skip_blocks(blocks, from, offset);
-    let is_covered = block < blocks.len() && blocks[block].start as usize <= offset;
-    (block, is_covered)
-}
-
-/// The first block that may cover items behind those that blocks cover from the place on, and the place behind these. In
-/// blocks that aren't runs it goes no further than one.
+/// The first block that may cover items behind those that blocks cover from the place on, and the place behind these.
 pub(crate) fn pass_covered(
     blocks: &[GapAckBlock],
     is_in_runs: bool,
@@ -101,19 +65,13 @@ pub(crate) fn pass_covered(
     requires cursor { IsWalk is_in_runs blocks.now (place + 1) from }
     ensures cursor { IsWalk is_in_runs blocks.now (result.1 + 1) result.0 }
     ensures onward { place ≤ result.1 }
-    ensures covered { AreCovered blocks.now place result.1 }
+    ensures covered { AllAre true blocks.now 1 place result.1 }
 {
-    if !is_in_runs {
-        if is_covered(blocks, place + 1) {
-            return (from, place + 1);
-        }
-        return (from, place);
+    let stretch = stretch_of(blocks, is_in_runs, from, place);
+    if stretch.is_covered {
+        return (stretch.block, stretch.end);
     }
-    let block = skip_blocks(blocks, from, place + 1);
-    if block < blocks.len() && blocks[block].start as usize <= place + 1 {
-        return (block, blocks[block].end as usize);
-    }
-    (block, place)
+    (stretch.block, place)
 }
 
 /// The same over items that aren't outstanding, covered or not, up to one that may be or to `count`.
@@ -155,88 +113,114 @@ pub struct Covered {
     pub below: usize,
 }
 
-/// The bytes of the chunk at the place, where it was neither acknowledged nor given up.
+/// Settles the item at the place, which a block covers or none does.
 #[inline(always)]
-fn open_at(kept: &Kept, place: usize) -> Option<usize>
-    ensures { result ≡ open_size kept.now.is_interleaved (slice_get kept.now.items place) }
+fn settle_at(kept: &mut Kept, place: usize, is_covered: bool, covered: Covered) -> Covered
+    requires within { place < length kept.old.items }
+    ensures items { kept.new ≡ record kept.old { items = change_at place (ack_or_uncover is_covered) kept.old.items } }
+    ensures bytes { result.bytes ≡ min (covered.bytes + bytes_of is_covered kept.old.is_interleaved (slice_get kept.old.items place)) (2 ^ 64 - 1) }
+    ensures below { result.below ≡ (if newly_of is_covered (slice_get kept.old.items place) then place else covered.below) }
 {
-    let item = kept.get(place)?;
-    if item.is_outstanding() || item.should_be_retransmitted() {
-        return Some(item.chunk_size(kept.is_interleaved()));
+    if !is_covered {
+        kept.change(place, Change::Uncover);
+        return covered;
     }
-    None
+    match kept.ack(place) {
+        Some(size) => Covered {
+            bytes: covered.bytes.saturating_add(size),
+            below: place,
+        },
+        None => covered,
+    }
 }
 
-// Where the walk stands in the blocks, and what it found.
+/// Settles the items from one place up to another, of which blocks cover each or none.
+fn settle_range(
+    kept: &mut Kept,
+    from: usize,
+    to: usize,
+    is_covered: bool,
+    covered: Covered,
+) -> Covered
+    requires onward { from ≤ to }
+    requires within { to ≤ length kept.old.items }
+    ensures mode { kept.new.is_interleaved ≡ kept.old.is_interleaved }
+    ensures settled { (blocks : List GapAckBlock) → AllAre is_covered blocks 1 from to → Advances blocks kept.old.is_interleaved from to covered result kept.old.items kept.new.items }
+{
+    let mut found = covered;
+    for place in from..to {
+        found = settle_at(kept, place, is_covered, found);
+    }
+    found
+}
+
+// How far the walk has come in the items, the earlier blocks and the new ones, and what it found.
 #[derive(Clone, Copy)]
 struct Walk {
-    // Whether the blocks are runs.
-    is_in_runs: bool,
+    place: usize,
+    run: usize,
     block: usize,
     covered: Covered,
 }
 
-/// A walk that begins.
-fn walk_through(blocks: &[GapAckBlock]) -> Walk
-    ensures cursor { IsWalk result.is_in_runs blocks.now 1 result.block }
-    ensures bytes { result.covered.bytes ≡ 0 }
-    ensures below { result.covered.below ≡ 0 }
+/// Settles a stretch of items of which the earlier blocks say one thing and the new ones one, or passes it over, if they agree.
+fn settle_stretch(
+    kept: &mut Kept,
+    last: &LastBlocks,
+    blocks: &[GapAckBlock],
+    is_in_runs: bool,
+    count: usize,
+    walk: Walk,
+) -> Walk
+    requires count { count ≤ length kept.old.items }
+    requires within { walk.place < count }
+    requires rest { last.now.is_known ≡ true → Rest last.now.runs.items (walk.place + last.now.offset) (drop walk.place kept.old.items) }
+    requires run { IsWalk last.now.is_known last.now.runs.items (walk.place + last.now.offset) walk.run }
+    requires block { IsWalk is_in_runs blocks.now (walk.place + 1) walk.block }
+    ensures onward { walk.place < result.place }
+    ensures within { result.place ≤ count }
+    ensures run { IsWalk last.now.is_known last.now.runs.items (result.place + last.now.offset) result.run }
+    ensures block { IsWalk is_in_runs blocks.now (result.place + 1) result.block }
+    ensures mode { kept.new.is_interleaved ≡ kept.old.is_interleaved }
+    ensures settled { Advances blocks.now kept.old.is_interleaved walk.place result.place walk.covered result.covered kept.old.items kept.new.items }
 {
-    Walk {
-        is_in_runs: are_runs(0, blocks),
-        block: 0,
-        covered: Covered { bytes: 0, below: 0 },
-    }
-}
-
-/// Settles the item at the place.
-#[inline(always)]
-fn settle_at(kept: &mut Kept, blocks: &[GapAckBlock], place: usize, walk: Walk) -> Walk
-    requires small { place + 1 < 2 ^ 64 }
-    requires within { place < length kept.old.items }
-    requires cursor { IsWalk walk.is_in_runs blocks.now (place + 1) walk.block }
-    ensures cursor { IsWalk result.is_in_runs blocks.now (place + 1) result.block }
-    ensures items { kept.new ≡ record kept.old { items = change_at place (ack_or_uncover (is_covered blocks.now (place + 1))) kept.old.items } }
-    ensures bytes { result.covered.bytes ≡ min (walk.covered.bytes + new_bytes_at blocks.now kept.old.is_interleaved place kept.old.items) (2 ^ 64 - 1) }
-    ensures below { result.covered.below ≡ (if is_new_at blocks.now place kept.old.items then place else walk.covered.below) }
-{
-    let (block, is_covered) = look(blocks, walk.is_in_runs, walk.block, place + 1);
-    if !is_covered {
-        kept.change(place, Change::Uncover);
-        return Walk { block, ..walk };
-    }
-    let found = open_at(kept, place);
-    kept.change(place, Change::Ack);
-    let covered = match found {
-        Some(size) => Covered {
-            bytes: walk.covered.bytes.saturating_add(size),
-            below: place,
-        },
-        None => walk.covered,
+    let earlier = last.stretch(walk.run, walk.place);
+    let later = stretch_of(blocks, is_in_runs, walk.block, walk.place);
+    let end = count.min(earlier.end).min(later.end);
+    let next = Walk {
+        place: end,
+        run: earlier.block,
+        block: later.block,
+        covered: walk.covered,
     };
-    Walk {
-        block,
-        covered,
-        ..walk
+    if last.is_known && earlier.is_covered == later.is_covered {
+        return next;
     }
+    let covered = settle_range(kept, walk.place, end, later.is_covered, walk.covered);
+    Walk { covered, ..next }
 }
 
-/// Acknowledges the items that blocks cover, and has those in flight again that no block covers any more. It begins where the
-/// blocks differ from the last ones, and ends behind both. Blocks that are runs are walked along with the items, others are
-/// searched for each item.
-pub(crate) fn settle_all(kept: &mut Kept, blocks: &[GapAckBlock]) -> Covered
+/// Acknowledges the items that blocks cover, and has those in flight again that no block covers any more. Only those are looked
+/// at of which these blocks say something else than the last ones, if they are known.
+pub(crate) fn settle_all(kept: &mut Kept, alloc: Global, blocks: &[GapAckBlock]) -> Covered
     ensures items { kept.new ≡ record kept.old { items = ack_or_uncover_all blocks.now 1 kept.old.items } }
     ensures bytes { result.bytes ≡ min (newly_acked blocks.now kept.old.is_interleaved 1 kept.old.items) (2 ^ 64 - 1) }
     ensures below { result.below ≡ below_highest blocks.now 1 0 0 kept.old.items }
     ensures rests { Rest blocks.now 1 kept.new.items }
 {
-    let begin = kept.front_as_in(blocks);
-    let end = kept.back_as_in(blocks);
-    let mut walk = walk_through(blocks);
-    for place in begin..end {
-        walk = settle_at(kept, blocks, place, walk);
+    let last = kept.take_last_blocks(alloc);
+    let is_in_runs = are_runs(0, blocks);
+    let count = kept.len();
+    let mut walk = Walk {
+        place: 0,
+        run: 0,
+        block: 0,
+        covered: Covered { bytes: 0, below: 0 },
+    };
+    while walk.place < count {
+        walk = settle_stretch(kept, &last, blocks, is_in_runs, count, walk);
     }
-    kept.remember(blocks);
+    kept.remember(last, blocks);
     walk.covered
 }
 

@@ -1,6 +1,7 @@
 use Rattle.std.proofs.Common.{◌+◌, ◌∙◌, ap, arith}
 use Rattle.sctp_tx_outstanding.specs.OutstandingData.{Kept}
-use Rattle.sctp_tx_outstanding.proofs.UncoveredLemmas.{walk_past, quiet_on}
+use Rattle.sctp_tx_outstanding.proofs.ReceivedLemmas.{walk_past}
+use Rattle.sctp_tx_outstanding.proofs.UncoveredLemmas.{quiet_on}
 use Rattle.sctp_tx_outstanding.proofs.sack.pass_idle.Goals as goal
 
 pub loop-next-preserved : goal.loop-next-preserved

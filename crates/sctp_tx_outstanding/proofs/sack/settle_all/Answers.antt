@@ -1,115 +1,93 @@
-use Rattle.std.proofs.Common.{◌≡◌, ◌≤◌, ◌<◌, ◌+◌, ◌-◌, ◌^◌, List, min, refl, ap, sym, subst, ◌∙◌, arith, length}
+use Rattle.std.proofs.Common.{◌≡◌, ◌≤◌, ◌+◌, ◌-◌, ◌^◌, List, min, drop, refl, ap, sym, subst, ◌∙◌, arith, length}
 use Rattle.sctp_tx_outstanding.specs.Item.{Item}
-use Rattle.sctp_tx_outstanding.specs.OutstandingData.{Kept, change_at}
-use Rattle.sctp_tx_outstanding.specs.Sack.{ack_or_uncover_all, ack_or_uncover, new_bytes_at}
-use Rattle.sctp_chunk.specs.Covered.{is_covered}
-use Rattle.sctp_tx_outstanding.specs.Passes.{acked_from, below_from}
-use Rattle.sctp_tx_outstanding.specs.LastBlocks.{Rest, RestFrom}
-use Rattle.sctp_tx_outstanding.proofs.TotalsLemmas.{length_change}
-use Rattle.sctp_tx_outstanding.proofs.ReceivedLemmas.{settle_begin, acked_begin, below_begin, walk_later, from_changed, from_later, settle_from_lem, acked_from_lem, below_from_lem, rest_settle}
-use Rattle.sctp_tx_outstanding.proofs.SackLemmas.{settle_step, acked_step, below_step, summed, walk_on, kept_as}
+use Rattle.sctp_tx_outstanding.specs.OutstandingData.{Kept}
+use Rattle.sctp_tx_outstanding.specs.Sack.{ack_or_uncover_all, newly_acked, below_highest}
+use Rattle.sctp_tx_outstanding.specs.Passes.{Advances}
+use Rattle.sctp_tx_outstanding.specs.LastBlocks.{Rest, AreAsBlocksSaid}
+use Rattle.sctp_tx_outstanding.proofs.ReceivedLemmas.{rest_settle}
+use Rattle.sctp_tx_outstanding.proofs.SackLemmas.{kept_as}
+use Rattle.sctp_tx_outstanding.proofs.AdvanceLemmas.{rest_behind, further, settle_end, acked_end, below_end}
 use Rattle.sctp_tx_outstanding.proofs.sack.settle_all.Goals as goal
 
-pub loop-place-init : goal.loop-place-init
-loop-place-init c =
-    let bs = c.args.blocks.now in
+pub settle_stretch-walk-requires-clause-rest : goal.settle_stretch-walk-requires-clause-rest
+settle_stretch-walk-requires-clause-rest c = λ yes.
+    let last = c.take_last_blocks-last.result in
+    let k = c.loop-walk.walk.place in
     let is = c.args.kept.now.items in
-    let m = c.args.kept.now.is_interleaved in
-    let k = c.front_as_in-begin.result in
-    let w = c.walk_through-walk.result in
-    let front = c.front_as_in-begin.ensures in
-    let none = c.walk_through-walk.ensures.bytes in
-    let same = acked_begin bs m k is front in
+    let known : AreAsBlocksSaid last is = c.take_last_blocks-last.ensures.known yes in
+    let behind : drop k c.loop-walk.kept.items ≡ drop k is = c.loop-walk.invariant.settled.behind ∙ ap (λ (x : Kept). drop k x.items) c.take_last_blocks-last.ensures.same in
+    subst (λ (xs : List Item). Rest last.runs.items (k + last.offset) xs) (sym behind) (rest_behind last.runs.items k last.offset (k + last.offset) is refl known.rest)
+
+pub loop-walk-preserved : goal.loop-walk-preserved
+loop-walk-preserved c =
+    let step = c.settle_stretch-walk in
+    let before = c.loop-walk.invariant in
+    let start = c.take_last_blocks-last.new.self in
+    let walk = c.loop-walk.walk in
+    let onward : walk.place ≤ step.result.place = omega (arith, step.ensures.onward) in
     record {
-      mode = refl;
-      len = refl;
-      inside = c.back_as_in-end.ensures.within;
-      cursor = walk_later w.is_in_runs bs k w.block c.walk_through-walk.ensures.cursor;
-      items = settle_begin bs k is front;
-      rest = c.back_as_in-end.ensures.rest;
-      fits = omega (arith, none);
-      bytes = omega (arith, none, same);
-      below = ap (λ n. below_from bs k (k + 1) k n is) c.walk_through-walk.ensures.below ∙ below_begin bs k 0 is front;
+      mode = step.ensures.mode ∙ before.mode;
+      within = step.ensures.within;
+      run = step.ensures.run;
+      block = step.ensures.block;
+      settled =
+          further c.args.blocks.now start.is_interleaved 0 walk.place step.result.place (record { bytes = 0; below = 0 }) walk.covered step.result.covered start.items c.loop-walk.kept.items step.new.kept.items onward before.settled
+          (subst (λ m. Advances c.args.blocks.now m walk.place step.result.place walk.covered step.result.covered c.loop-walk.kept.items step.new.kept.items) before.mode step.ensures.settled);
     }
 
-pub loop-place-preserved : goal.loop-place-preserved
-loop-place-preserved c =
-    let bs = c.args.blocks.now in
-    let k = c.loop-place.place in
-    let e = c.back_as_in-end.result in
-    let is = c.loop-place.kept.items in
-    let js = c.settle_at-walk.new.kept.items in
-    let m = c.args.kept.now.is_interleaved in
-    let there : js ≡ change_at k (ack_or_uncover (is_covered bs (k + 1))) is = ap (λ (x : Kept). x.items) c.settle_at-walk.ensures.items in
-    let more : c.settle_at-walk.result.covered.bytes ≡ min (c.loop-place.walk.covered.bytes + new_bytes_at bs m k is) (2 ^ 64 - 1) =
-    c.settle_at-walk.ensures.bytes ∙ ap (λ b. min (c.loop-place.walk.covered.bytes + new_bytes_at bs b k is) (2 ^ 64 - 1)) c.loop-place.invariant.mode in
-    let before : k < e = omega arith in
-    let within : k < length is = omega (arith, before, c.loop-place.invariant.len, c.loop-place.invariant.inside) in
-    record {
-      mode = ap (λ (x : Kept). x.is_interleaved) c.settle_at-walk.ensures.items ∙ c.loop-place.invariant.mode;
-      len = ap (λ xs. length xs) there ∙ length_change k (ack_or_uncover (is_covered bs (k + 1))) is ∙ c.loop-place.invariant.len;
-      inside = c.loop-place.invariant.inside;
-      cursor = walk_on c.settle_at-walk.result.is_in_runs bs (k + 1) c.settle_at-walk.result.block c.settle_at-walk.ensures.cursor;
-      items = settle_step bs k is js there ∙ c.loop-place.invariant.items;
-      rest = subst (λ (xs : List Item). RestFrom bs e (e + 1) xs) (sym there) (from_changed bs e (e + 1) k (ack_or_uncover (is_covered bs (k + 1))) is before c.loop-place.invariant.rest);
-      fits = omega (arith, more);
-      bytes =
-          summed c.loop-place.walk.covered.bytes (new_bytes_at bs m k is) (acked_from bs m (k + 1) (k + 1 + 1) js) c.settle_at-walk.result.covered.bytes _ (2 ^ 64 - 1) more
-          (ap (λ n. min (c.loop-place.walk.covered.bytes + n) (2 ^ 64 - 1)) (acked_step bs m (ack_or_uncover (is_covered bs (k + 1))) k is js there) ∙ c.loop-place.invariant.bytes);
-      below =
-          below_step bs (ack_or_uncover (is_covered bs (k + 1))) k c.loop-place.walk.covered.below c.settle_at-walk.result.covered.below is js within there c.settle_at-walk.ensures.below
-          ∙ c.loop-place.invariant.below;
-    }
-
--- behind the walk no item changes
+-- at the end of the items
 
 pub remember-requires : goal.remember-requires
 remember-requires c =
     let bs = c.args.blocks.now in
-    let k = c.loop-place.place in
-    let is = c.loop-place.kept.items in
-    let behind : c.back_as_in-end.result ≤ k = omega arith in
-    let all : RestFrom bs k (k + 1) is = from_later bs k c.back_as_in-end.result is behind c.loop-place.invariant.rest in
-    let done : is ≡ ack_or_uncover_all bs 1 c.args.kept.now.items = sym (settle_from_lem bs k (k + 1) is all) ∙ c.loop-place.invariant.items in
-    subst (λ (xs : List Item). Rest bs 1 xs) (sym done) (rest_settle bs 1 c.args.kept.now.items)
+    let k = c.loop-walk.walk.place in
+    let is = c.loop-walk.kept.items in
+    let start = c.take_last_blocks-last.new.self in
+    let end : length is ≤ k = omega (arith, c.loop-walk.invariant.settled.length, c.len-count.ensures) in
+    let done : is ≡ ack_or_uncover_all bs 1 start.items = sym (settle_end bs k (k + 1) is end) ∙ c.loop-walk.invariant.settled.items in
+    subst (λ (xs : List Item). Rest bs 1 xs) (sym done) (rest_settle bs 1 start.items)
 
 pub returns-clause-items : goal.returns-clause-items
 returns-clause-items c =
     let bs = c.args.blocks.now in
-    let k = c.loop-place.place in
-    let is = c.loop-place.kept.items in
-    let behind : c.back_as_in-end.result ≤ k = omega arith in
-    let all : RestFrom bs k (k + 1) is = from_later bs k c.back_as_in-end.result is behind c.loop-place.invariant.rest in
-    c.remember.ensures ∙ kept_as c.loop-place.kept c.args.kept.now.is_interleaved _ c.loop-place.invariant.mode (sym (settle_from_lem bs k (k + 1) is all) ∙ c.loop-place.invariant.items)
+    let k = c.loop-walk.walk.place in
+    let is = c.loop-walk.kept.items in
+    let start = c.take_last_blocks-last.new.self in
+    let same = c.take_last_blocks-last.ensures.same in
+    let end : length is ≤ k = omega (arith, c.loop-walk.invariant.settled.length, c.len-count.ensures) in
+    let done : is ≡ ack_or_uncover_all bs 1 start.items = sym (settle_end bs k (k + 1) is end) ∙ c.loop-walk.invariant.settled.items in
+    c.remember.ensures
+    ∙ kept_as c.loop-walk.kept c.args.kept.now.is_interleaved (ack_or_uncover_all bs 1 c.args.kept.now.items) (c.loop-walk.invariant.mode ∙ ap (λ (x : Kept). x.is_interleaved) same)
+    (done ∙ ap (λ (x : Kept). ack_or_uncover_all bs 1 x.items) same)
 
 pub returns-clause-bytes : goal.returns-clause-bytes
 returns-clause-bytes c =
     let bs = c.args.blocks.now in
-    let k = c.loop-place.place in
-    let m = c.args.kept.now.is_interleaved in
-    let is = c.loop-place.kept.items in
-    let behind : c.back_as_in-end.result ≤ k = omega arith in
-    let all : RestFrom bs k (k + 1) is = from_later bs k c.back_as_in-end.result is behind c.loop-place.invariant.rest in
-    let none = acked_from_lem bs m k (k + 1) is all in
-    let same : c.loop-place.walk.covered.bytes ≡ min (c.loop-place.walk.covered.bytes + acked_from bs m k (k + 1) is) (2 ^ 64 - 1) =
-    omega (arith, none, c.loop-place.invariant.fits) in
-    same ∙ c.loop-place.invariant.bytes
+    let k = c.loop-walk.walk.place in
+    let is = c.loop-walk.kept.items in
+    let start = c.take_last_blocks-last.new.self in
+    let settled = c.loop-walk.invariant.settled in
+    let found = c.loop-walk.walk.covered.bytes in
+    let end : length is ≤ k = omega (arith, settled.length, c.len-count.ensures) in
+    let none = acked_end bs start.is_interleaved k (k + 1) is end in
+    let whole : found ≡ min (newly_acked bs start.is_interleaved 1 start.items) (2 ^ 64 - 1) = omega (arith, none, settled.fits, settled.bytes) in
+    whole ∙ ap (λ (x : Kept). min (newly_acked bs x.is_interleaved 1 x.items) (2 ^ 64 - 1)) c.take_last_blocks-last.ensures.same
 
 pub returns-clause-below : goal.returns-clause-below
 returns-clause-below c =
     let bs = c.args.blocks.now in
-    let k = c.loop-place.place in
-    let is = c.loop-place.kept.items in
-    let behind : c.back_as_in-end.result ≤ k = omega arith in
-    let all : RestFrom bs k (k + 1) is = from_later bs k c.back_as_in-end.result is behind c.loop-place.invariant.rest in
-    sym (below_from_lem bs k (k + 1) k c.loop-place.walk.covered.below is all) ∙ c.loop-place.invariant.below
+    let k = c.loop-walk.walk.place in
+    let is = c.loop-walk.kept.items in
+    let settled = c.loop-walk.invariant.settled in
+    let end : length is ≤ k = omega (arith, settled.length, c.len-count.ensures) in
+    sym (below_end bs k (k + 1) k c.loop-walk.walk.covered.below is end) ∙ settled.below ∙ ap (λ (x : Kept). below_highest bs 1 0 0 x.items) c.take_last_blocks-last.ensures.same
 
 pub returns-clause-rests : goal.returns-clause-rests
 returns-clause-rests c =
     let bs = c.args.blocks.now in
-    let k = c.loop-place.place in
-    let is = c.loop-place.kept.items in
-    let behind : c.back_as_in-end.result ≤ k = omega arith in
-    let all : RestFrom bs k (k + 1) is = from_later bs k c.back_as_in-end.result is behind c.loop-place.invariant.rest in
-    let done : is ≡ ack_or_uncover_all bs 1 c.args.kept.now.items = sym (settle_from_lem bs k (k + 1) is all) ∙ c.loop-place.invariant.items in
-    subst (λ (x : Kept). Rest bs 1 x.items) (sym c.remember.ensures) (subst (λ (xs : List Item). Rest bs 1 xs) (sym done) (rest_settle bs 1 c.args.kept.now.items))
+    let k = c.loop-walk.walk.place in
+    let is = c.loop-walk.kept.items in
+    let start = c.take_last_blocks-last.new.self in
+    let end : length is ≤ k = omega (arith, c.loop-walk.invariant.settled.length, c.len-count.ensures) in
+    let done : is ≡ ack_or_uncover_all bs 1 start.items = sym (settle_end bs k (k + 1) is end) ∙ c.loop-walk.invariant.settled.items in
+    subst (λ (x : Kept). Rest bs 1 x.items) (sym c.remember.ensures) (subst (λ (xs : List Item). Rest bs 1 xs) (sym done) (rest_settle bs 1 start.items))

@@ -1,4 +1,4 @@
-use Rattle.std.proofs.Common.{◌≡◌, ◌+◌, ◌*◌, ◌/◌, ◌≤◌, true, ap, sym, subst, arith}
+use Rattle.std.proofs.Common.{◌≡◌, ◌+◌, ◌*◌, ◌/◌, ◌≤◌, true, sym, subst, arith}
 use Rattle.std.specs.List.{All}
 use Rattle.sctp_tx_outstanding.specs.Item.{header_size, chunk_size, should_be_retransmitted}
 use Rattle.sctp_tx_outstanding.specs.OutstandingData.{Kept}
@@ -9,8 +9,7 @@ pub returns : goal.returns
 returns c =
     let m = c.self.inside.is_interleaved in
     let least = c.self.inside.indexes.waiting.least in
-    let payload = c.min-payload.result in
+    let payload = c.min.result in
     let size = (header_size m + payload + 3) / 4 * 4 in
-    let is : (c.header_size.result + payload + 3) / 4 * 4 ≡ size = ap (λ n. (n + payload + 3) / 4 * 4) c.header_size.ensures in
-    subst (λ n. All (λ i. should_be_retransmitted i ≡ true → n ≤ chunk_size c.args.self.now.is_interleaved i) c.args.self.now.items) (sym is)
-    (subst (λ (k : Kept). All (λ i. should_be_retransmitted i ≡ true → size ≤ chunk_size k.is_interleaved i) k.items) c.self.view_is (chunks_at_least m least payload c.self.inside.items.items (omega (arith, c.min-payload.ensures)) c.self.invariant.waiting.1))
+    subst (λ n. All (λ i. should_be_retransmitted i ≡ true → n ≤ chunk_size c.args.self.now.is_interleaved i) c.args.self.now.items) (sym c.padded_size.ensures)
+    (subst (λ (k : Kept). All (λ i. should_be_retransmitted i ≡ true → size ≤ chunk_size k.is_interleaved i) k.items) c.self.view_is (chunks_at_least m least payload c.self.inside.items.items (omega (arith, c.min.ensures)) c.self.invariant.waiting.1))

@@ -2,13 +2,14 @@ use Rattle.std.proofs.Common.{subst, ◌∙◌, ◌+◌, ◌≤◌, refl, arith,
 use Rattle.sctp_tx_outstanding.specs.OutstandingData.{Outstanding}
 use Rattle.sctp_tx_outstanding.specs.Quiet.{NoneFlies}
 use Rattle.sctp_tx_outstanding.proofs.LossesLemmas.{nack_next_items, nack_next_emitted, nack_next_lossy}
-use Rattle.sctp_tx_outstanding.proofs.UncoveredLemmas.{walk_begin, walk_past, quiet_less, quiet_nowhere, passed_items, passed_emitted, passed_lossy, passed_rest}
+use Rattle.sctp_tx_outstanding.proofs.ReceivedLemmas.{walk_begin, walk_past}
+use Rattle.sctp_tx_outstanding.proofs.UncoveredLemmas.{quiet_less, quiet_nowhere, passed_items, passed_emitted, passed_lossy, passed_rest}
 use Rattle.sctp_tx_outstanding.proofs.outstanding_data.OutstandingData.nack_uncovered.Goals as goal
 
 pub loop-place-init : goal.loop-place-init
 loop-place-init c = record {
   within = omega arith;
-  cursor = walk_begin c.are_runs-is_in_runs.result c.args.blocks.now c.are_runs-is_in_runs.ensures.0;
+  cursor = walk_begin c.are_runs-is_in_runs.result c.args.blocks.now 1 c.are_runs-is_in_runs.ensures.0;
   items = refl;
   emitted = refl;
   lossy = refl;
