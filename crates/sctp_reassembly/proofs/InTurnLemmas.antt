@@ -8,7 +8,7 @@ use Rattle.std.specs.Ordering.{nat_cmp}
 use Rattle.std.specs.BTreeMap.{is_at}
 use Rattle.std.proofs.lemmas.Bool.Decides.{nat_tests}
 use Rattle.sctp_fragments.specs.declared.interval.Interval.{Interval}
-use Rattle.sctp_fragments.specs.ReassemblyKey.{pair_rank, rank_at}
+use Rattle.sctp_fragments.specs.ReassemblyKey.{rank_at}
 use Rattle.sctp_fragments.specs.Runs.{flat, AreRuns}
 use Rattle.sctp_fragments.specs.Held.{Held, rank_of, goes_on, is_in_turn, NoneInTurn}
 use Rattle.sctp_fragments.specs.Interval.{held_of, run_of, lists_of, entries_of, AreIndexed}
@@ -21,11 +21,6 @@ use Rattle.sctp_reassembly.proofs.MapLemmas.{read_there, removed_at, not_absent,
 use Rattle.sctp_reassembly.proofs.PutLemmas.{named_front}
 use Rattle.sctp_reassembly.proofs.HolderLemmas.{named_without}
 use Rattle.sctp_reassembly.proofs.TurnLemmas.{none_low, none_then, none_from, none_append, indexed_back}
-
--- ---- where a search begins
-
-pub least_rank : (a i n k : ℕ) → a ≡ k → k ≤ n → i ≡ 0 → pair_rank a i ≤ pair_rank n 0
-least_rank a i n k is upto none = omega (arith, is, upto, none)
 
 module _ {K : Type 0} (is_key : K → Type 0) (number index : K → ℕ) where
   abbrev runs : List (K × Interval K) → List (List Held)

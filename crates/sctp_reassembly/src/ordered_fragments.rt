@@ -28,6 +28,7 @@ pub(crate) struct OrderedFragments<K: ReassemblyKey> {
     list: IntervalList<K>,
     // whether nothing in the list is known to be in turn: not after want of memory
     is_settled: bool,
+    // where complete intervals begin, of the next message and of later ones: known once intervals were many
     finished: Finished<K>,
 }
 

@@ -1,4 +1,3 @@
-use Rattle.std.proofs.Common.{rules, ◌∙◌, sym}
 use Rattle.sctp_fragments.specs.ReassemblyKey.{rank_at}
 use Rattle.sctp_reassembly.proofs.FinishedLemmas.{dropped, dropped_fewer}
 use Rattle.sctp_reassembly.proofs.finished.drop_before.Goals as goal

@@ -1,7 +1,6 @@
-use Rattle.std.proofs.Common.{◌≡◌, true, sym, subst, ◌∙◌, arith}
+use Rattle.std.proofs.Common.{◌≡◌, true, sym, subst, arith}
 use Rattle.sctp_fragments.specs.Runs.{is_held}
 use Rattle.sctp_fragments.specs.Held.{intervals_of, rank_of}
-use Rattle.sctp_fragments.specs.ReassemblyKey.{rank_at}
 use Rattle.sctp_reassembly.specs.Finished.{NoneMissed}
 use Rattle.sctp_reassembly.proofs.FinishedLemmas.{none_later, none_unknown, none_placed, not_missed}
 use Rattle.sctp_reassembly.proofs.ordered_fragments.note_in.Goals as goal
