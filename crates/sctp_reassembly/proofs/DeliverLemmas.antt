@@ -58,11 +58,11 @@ deliver_step n hs new r is left intervals =
 
 -- ---- unordered messages
 
-NonePass_front : (test : List Held → Bool) (xs ys : List (List Held)) → NonePass test (xs ++ ys) → NonePass test xs
+pub NonePass_front : (test : List Held → Bool) (xs ys : List (List Held)) → NonePass test (xs ++ ys) → NonePass test xs
 NonePass_front test [] ys h = tt
 NonePass_front test (x ∷ xs) ys h = (h.0, NonePass_front test xs ys h.1)
 
-NonePass_with : (test : List Held → Bool) (xs ys : List (List Held)) (r : List Held) → NonePass test (xs ++ ys) → test r ≡ false → NonePass test (xs ++ r ∷ ys)
+pub NonePass_with : (test : List Held → Bool) (xs ys : List (List Held)) (r : List Held) → NonePass test (xs ++ ys) → test r ≡ false → NonePass test (xs ++ r ∷ ys)
 NonePass_with test [] ys r h k = (k, h)
 NonePass_with test (x ∷ xs) ys r h k = (h.0, NonePass_with test xs ys r h.1 k)
 

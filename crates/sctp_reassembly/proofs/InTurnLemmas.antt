@@ -8,30 +8,28 @@ use Rattle.std.specs.Ordering.{nat_cmp}
 use Rattle.std.specs.BTreeMap.{is_at}
 use Rattle.std.proofs.lemmas.Bool.Decides.{nat_tests}
 use Rattle.sctp_fragments.specs.declared.interval.Interval.{Interval}
-use Rattle.sctp_fragments.specs.ReassemblyKey.{pair_rank, rank_at}
+use Rattle.sctp_fragments.specs.ReassemblyKey.{rank_at}
 use Rattle.sctp_fragments.specs.Runs.{flat, AreRuns}
 use Rattle.sctp_fragments.specs.Held.{Held, rank_of, goes_on, is_in_turn, NoneInTurn}
 use Rattle.sctp_fragments.specs.Interval.{held_of, run_of, lists_of, entries_of, AreIndexed}
 use Rattle.sctp_fragments.proofs.PlaceLemmas.{cons, some_run}
 use Rattle.sctp_reassembly.specs.Places.{AreNamed, IsSplit, all_of, runs_at}
 use Rattle.sctp_reassembly.specs.Turns.{IsFirstOut, IsFirstPassing}
+use Rattle.sctp_reassembly.specs.Finished.{is_earlier, NoneEarlier}
+use Rattle.sctp_reassembly.proofs.DeliverLemmas.{NonePass_front}
 use Rattle.sctp_reassembly.proofs.MapLemmas.{read_there, removed_at, not_absent, runs_append, lows}
 use Rattle.sctp_reassembly.proofs.PutLemmas.{named_front}
 use Rattle.sctp_reassembly.proofs.HolderLemmas.{named_without}
 use Rattle.sctp_reassembly.proofs.TurnLemmas.{none_low, none_then, none_from, none_append, indexed_back}
 
--- ---- where a search begins
-
-pub least_rank : (a i n k : ℕ) → a ≡ k → k ≤ n → i ≡ 0 → pair_rank a i ≤ pair_rank n 0
-least_rank a i n k is upto none = omega (arith, is, upto, none)
-
 module _ {K : Type 0} (is_key : K → Type 0) (number index : K → ℕ) where
   abbrev runs : List (K × Interval K) → List (List Held)
   runs es = runs_at number index es
 
-  pub passed_at : (n m : ℕ) (es ps qs rest : List (K × Interval K)) → AreNamed is_key number index es → IsSplit is_key (rank_at number index) m es ps qs → qs ≡ rest → m ≤ pair_rank n 0 → (front : List (K × Interval K)) × ((es ≡ front ++ rest) × NoneInTurn n (runs front))
-  passed_at n m es ps qs rest named s same upto =
-      (ps, (s.is ∙ ap (λ (t : List (K × Interval K)). ps ++ t) same, none_low is_key number index n m ps (named_front is_key number index ps qs (subst (AreNamed is_key number index) s.is named)) s.low upto))
+  pub passed_at : (n m : ℕ) (es ps qs rest : List (K × Interval K)) → AreNamed is_key number index es → IsSplit is_key (rank_at number index) m es ps qs → qs ≡ rest → NoneEarlier n m (runs es) → (front : List (K × Interval K)) × ((es ≡ front ++ rest) × NoneInTurn n (runs front))
+  passed_at n m es ps qs rest named s same earlier =
+      let front = NonePass_front (is_earlier n m) (runs ps) (runs qs) (subst (NoneEarlier n m) (ap runs s.is ∙ runs_append is_key number index ps qs) earlier) in
+      (ps, (s.is ∙ ap (λ (t : List (K × Interval K)). ps ++ t) same, none_low is_key number index n m ps (named_front is_key number index ps qs (subst (AreNamed is_key number index) s.is named)) s.low front))
 
   -- the search is at an entry, behind those that it passed
   module _ (n : ℕ) (es front rest back : List (K × Interval K)) (k : K) (i : Interval K) (named : AreNamed is_key number index es) (all : AreRuns rank_of goes_on None (runs es)) (split : es ≡ front ++ rest) (steps : rest ≡ (k, i) ∷ back) (none : NoneInTurn n (runs front)) where
@@ -87,6 +85,9 @@ module _ {K : Type 0} (is_key : K → Type 0) (number index : K → ℕ) where
 
     pub later_indexed : AreIndexed (entries_of (held_of number index) (all_of first later)) → AreIndexed (flat (runs later))
     later_indexed h = indexed_back (run_of (held_of number index) i) (flat (runs later)) (subst (λ (t : List (List Held)). AreIndexed (flat t)) lists_are h)
+
+    pub later_earlier : (m : ℕ) → NoneEarlier n m (lists_of (held_of number index) (all_of first later)) → NoneEarlier n m (runs later)
+    later_earlier m h = (subst (NoneEarlier n m) lists_are h).1
 
     pub none_in_all : (b : Bool) → b ≡ is_in_turn n (run_of (held_of number index) i) → b ≡ false → NoneInTurn n (runs later) → NoneInTurn n (lists_of (held_of number index) (all_of first later))
     none_in_all b turn off none = subst (NoneInTurn n) (sym lists_are) (sym turn ∙ off, none)

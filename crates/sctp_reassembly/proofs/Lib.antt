@@ -29,5 +29,6 @@ pub mod NoteLemmas
 pub mod ForgetLemmas
 pub mod NamedLemmas
 pub mod TurnLemmas
+mod FinishedLemmas
 pub mod MapLemmas
 pub mod PutLemmas

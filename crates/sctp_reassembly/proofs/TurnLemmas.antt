@@ -1,6 +1,7 @@
 -- Intervals by the number of the message at which they begin: of those below a number, and of those above it, none is in turn.
 use Rattle.std.proofs.Common.{◌≡◌, ℕ, suc, ◌<◌, ◌≤◌, ◌==◌, Bool, true, false, cond, Option, Some, None, List, [], ◌∷◌, ◌++◌, length, refl, ap, sym, subst, ◌∙◌, arith}
 use Rattle.std.specs.Prelude.{◌&&◌, ◌^◌, nat_lt, max}
+use Rattle.std.proofs.lemmas.Bool.{lt-ltb}
 use Rattle.std.proofs.lemmas.Bool.Decides.{nat_tests}
 use Rattle.sctp_fragments.specs.declared.interval.Interval.{Interval}
 use Rattle.sctp_fragments.specs.ReassemblyKey.{pair_rank, rank_at}
@@ -10,6 +11,7 @@ use Rattle.sctp_fragments.specs.Interval.{held_of, run_of, AreIndexed, StartsFro
 use Rattle.sctp_fragments.proofs.RunLemmas.{flat_append, AreRuns_front, AreRuns_back, AllBelow_runs, linked_rises}
 use Rattle.sctp_reassembly.specs.Delivery.{OrderedStream, deliver, at_rest, ordered_forward}
 use Rattle.sctp_reassembly.specs.Places.{AreNamed, AreLow, IsWithin, runs_at}
+use Rattle.sctp_reassembly.specs.Finished.{is_earlier, NoneEarlier}
 use Rattle.sctp_reassembly.proofs.MapLemmas.{runs_append}
 use Rattle.sctp_reassembly.proofs.FindLemmas.{not_found}
 use Rattle.sctp_reassembly.proofs.DeliverLemmas.{deliver_ends}
@@ -69,24 +71,11 @@ and_false false b h = refl
 of_another : (n : ℕ) (e : Held) (es : List Held) → (e.number == n) ≡ false → is_in_turn n (e ∷ es) ≡ false
 of_another n e es h = and_false (is_complete (e ∷ es)) (e.number == n) h
 
-below_differs : (a i m n : ℕ) → pair_rank a i < m → m ≤ pair_rank n 0 → (a == n) ≡ false
-below_differs a i m n h k = grind (arith, nat_tests)
-
 above_is : (a i m n : ℕ) → i < 2 ^ 64 → pair_rank n 0 ≤ m → m < pair_rank a i → n ≤ a
 above_is a i m n s h k = omega (arith, s, h, k)
 
 above_differs : (a n : ℕ) → suc n ≤ a → (a == n) ≡ false
 above_differs a n h = grind (arith, nat_tests)
-
-all_below_back : (m : ℕ) (xs ys : List Held) → AllBelow rank_of m (xs ++ ys) → AllBelow rank_of m ys
-all_below_back m [] ys h = h
-all_below_back m (x ∷ xs) ys h = all_below_back m xs ys h.1
-
-none_below : (rs : List (List Held)) (m n : ℕ) → AllBelow rank_of m (flat rs) → m ≤ pair_rank n 0 → NoneInTurn n rs
-none_below [] m n h k = tt
-none_below ([] ∷ rs) m n h k = (refl, none_below rs m n h k)
-none_below ((e ∷ es) ∷ rs) m n h k =
-    (of_another n e es (below_differs e.number e.index m n h.0 k), none_below rs m n (all_below_back m es (flat rs) h.1) k)
 
 none_above : (d : Held) (rs : List (List Held)) (n : ℕ) → AreRuns rank_of goes_on (Some d) rs → AreIndexed (flat rs) → pair_rank (suc n) 0 ≤ rank_of d → NoneInTurn n rs
 none_above d [] n r i h = tt
@@ -136,14 +125,19 @@ module _ (ps qs : List (List Held)) (e : Held) (es : List Held) (runs : AreRuns 
 -- ---- in the map
 
 module _ {K : Type 0} (is_key : K → Type 0) (number index : K → ℕ) where
-  -- under keys below the message with the number, none is in turn
-  pub none_low : (n m : ℕ) (es : List (K × Interval K)) → AreNamed is_key number index es → AreLow is_key (rank_at number index) m es → m ≤ pair_rank n 0 → NoneInTurn n (runs_at number index es)
+  -- under keys below that before which no message with the number begins, none is in turn
+  pub none_low : (n m : ℕ) (es : List (K × Interval K)) → AreNamed is_key number index es → AreLow is_key (rank_at number index) m es → NoneEarlier n m (runs_at number index es) → NoneInTurn n (runs_at number index es)
   none_low n m [] named low h = tt
-  none_low n m (e ∷ es) named low h = (go (run_of (held_of number index) e.1) named.1.0, none_low n m es named.1.1 low.1.1 h)
+  none_low n m (e ∷ es) named low h = (go (run_of (held_of number index) e.1) named.1.0 h.0, none_low n m es named.1.1 low.1.1 h.1)
     where
-      go : (r : List Held) → IsWithin (rank_at number index e.0) r → is_in_turn n r ≡ false
-      go [] w = absurd w
-      go (d ∷ ds) w = of_another n d ds (below_differs d.number d.index m n (omega (arith, w.0, low.1.0)) h)
+      either : (a b : Bool) → b ≡ true → (a && b) ≡ false → a ≡ false
+      either false b on h = refl
+      either true true on h = h
+      either true false on h = absurd (cc)
+
+      go : (r : List Held) → IsWithin (rank_at number index e.0) r → is_earlier n m r ≡ false → is_in_turn n r ≡ false
+      go [] w h = absurd w
+      go (d ∷ ds) w h = either (is_in_turn n (d ∷ ds)) (nat_lt (rank_of d) m) (lt-ltb (rank_of d) m (omega (arith, w.0, low.1.0))) h
 
   -- one more that is not
   pub none_then : (n : ℕ) (front : List (K × Interval K)) (k : K) (i : Interval K) (r : Bool) → NoneInTurn n (runs_at number index front) → r ≡ is_in_turn n (run_of (held_of number index) i) → r ≡ false → NoneInTurn n (runs_at number index (front ++ (k, i) ∷ []))

@@ -15,3 +15,4 @@ pub mod Turns
 pub mod ReassemblyHandover
 pub mod UnorderedByTsn
 pub mod KeyAt
+pub mod Finished

@@ -7,8 +7,9 @@ ghost use Rattle.sctp_fragments.specs.ReassemblyKey.{rank_at};
 ghost use Rattle.sctp_fragments.specs.Interval.{as_held, held_of, entries_of};
 ghost use Rattle.sctp_reassembly.specs.ListState.{held_in, IsListState, IsLeft, IsLone};
 
+use crate::finished::{Finished, begin_of};
 use crate::interval_map::IntervalMap;
-use crate::places::has_key;
+use crate::places::{has_key, least_of};
 use sctp_chunk::Data;
 use sctp_fragments::{Interval, ReassemblyKey, is_before};
 use std::alloc::{AllocError, Global};
@@ -73,15 +74,16 @@ fn is_below<K: ReassemblyKey>(interval: &Interval<K>, key: K) -> bool
 }
 
 impl<K: ReassemblyKey> IntervalList<K> {
-    ghost use Rattle.std.specs.Prelude.{ℕ};
+    ghost use Rattle.std.specs.Prelude.{Bool};
     ghost use Rattle.std.specs.List.{find};
-    ghost use Rattle.sctp_fragments.specs.Held.{NoneInTurn};
+    ghost use Rattle.sctp_fragments.specs.Held.{NonePass};
     ghost use Rattle.sctp_fragments.specs.Runs.{is_held, with_item, from_rank};
     ghost use Rattle.sctp_fragments.specs.Held.{Held, rank_of, intervals_of, bytes_of, is_complete, NoneComplete, is_in_turn, without_first_of, left_by, IsPlaced, IsTaken};
     ghost use Rattle.sctp_fragments.specs.ReassemblyKey.{rank_at};
     ghost use Rattle.sctp_fragments.specs.Interval.{as_held, held_of, run_of};
     ghost use Rattle.sctp_reassembly.specs.UnorderedByTsn.{BeginsFrom};
     ghost use Rattle.sctp_reassembly.specs.KeyAt.{IsKeyAt};
+    ghost use Rattle.sctp_reassembly.specs.Finished.{BeginsAt, NoneMissed, NoneEarlier};
 
     /// No fragments. Takes no memory.
     pub fn new(alloc: Global) -> IntervalList<K>
@@ -210,6 +212,28 @@ impl<K: ReassemblyKey> IntervalList<K> {
         }
     }
 
+    /// The key at which the interval with the key begins, where it is complete.
+    pub(crate) fn finished_at(&self, key: K) -> Option<K>
+        ensures some { IfSome result (λ k. (front back : List (List Held)) (r : List Held) → intervals_of self.now ≡ front ++ r ∷ back → is_held rank_of (rank_at K.number K.index key) r ≡ true → BeginsAt (rank_at K.number K.index k) r) }
+        ensures none { IfNone result ((front back : List (List Held)) (r : List Held) → intervals_of self.now ≡ front ++ r ∷ back → is_held rank_of (rank_at K.number K.index key) r ≡ true → is_complete r ≡ false) }
+    {
+        match &self.state {
+            ListState::Empty => None,
+            ListState::Lone(interval) => begin_of(interval),
+            ListState::Many(map) => map.finished_at(key),
+        }
+    }
+
+    /// The keys at which the complete intervals begin, where there are several fragments.
+    pub(crate) fn finished(&self) -> Finished<K>
+        ensures { NoneMissed K.number K.index 0 result (intervals_of self.now) }
+    {
+        match &self.state {
+            ListState::Many(map) => map.finished(),
+            _ => Finished::unknown(),
+        }
+    }
+
     /// Takes the interval with the key out where it is a complete message.
     pub fn pop_if_complete(&mut self, key: K) -> Option<Interval<K>>
         ensures taken { IfSome result (λ i. IsTaken self.old (run_of (held_of K.number K.index) i) self.new) }
@@ -242,8 +266,21 @@ impl<K: ReassemblyKey> IntervalList<K> {
         ensures bytes { IfSome result (λ i. bytes_of self.old ≡ bytes_of (run_of (held_of K.number K.index) i) + bytes_of self.new) }
         ensures fragments { IfSome result (λ i. length self.old ≡ length (run_of (held_of K.number K.index) i) + length self.new) }
     {
+        self.pop_front_from(least_of(number), number)
+    }
+
+    /// Takes out the first of the intervals that is a complete message with the number, where none begins before the key. Other
+    /// intervals before it, also incomplete ones, don't stop it.
+    pub(crate) fn pop_front_from(&mut self, key: K, number: u128) -> Option<Interval<K>>
+        requires earlier { NoneEarlier number (rank_at K.number K.index key) (intervals_of self.old) }
+        ensures taken { option_map (λ i. run_of (held_of K.number K.index) i) result ≡ find (is_in_turn number) (intervals_of self.old) }
+        ensures intervals { intervals_of self.new ≡ without_first_of (is_in_turn number) (intervals_of self.old) }
+        ensures value { self.new ≡ left_by (is_in_turn number) self.old }
+        ensures bytes { IfSome result (λ i. bytes_of self.old ≡ bytes_of (run_of (held_of K.number K.index) i) + bytes_of self.new) }
+        ensures fragments { IfSome result (λ i. length self.old ≡ length (run_of (held_of K.number K.index) i) + length self.new) }
+    {
         if let ListState::Many(map) = &mut self.state {
-            let popped = map.pop_front_if_complete_and(number);
+            let popped = map.pop_front_from(key, number);
             narrow(&mut self.state);
             return popped;
         }
@@ -251,7 +288,7 @@ impl<K: ReassemblyKey> IntervalList<K> {
             self.alloc,
             std::mem::replace(&mut self.state, ListState::Empty),
         );
-        let popped = map.pop_front_if_complete_and(number);
+        let popped = map.pop_front_from(key, number);
         self.state = map.take_few();
         popped
     }
@@ -260,7 +297,7 @@ impl<K: ReassemblyKey> IntervalList<K> {
     pub fn retain(&mut self, key: K)
         ensures value { self.new ≡ from_rank rank_of (rank_at K.number K.index key) self.old }
         ensures others { NoneComplete (intervals_of self.old) → NoneComplete (intervals_of self.new) }
-        ensures turns { (n : ℕ) → NoneInTurn n (intervals_of self.old) → NoneInTurn n (intervals_of self.new) }
+        ensures stays { (test : List Held → Bool) → ((r : List Held) → test r ≡ true → is_complete r ≡ true) → NonePass test (intervals_of self.old) → NonePass test (intervals_of self.new) }
         ensures bytes { bytes_of self.new ≤ bytes_of self.old }
         ensures fragments { length self.new ≤ length self.old }
     {

@@ -1,9 +1,10 @@
 //! Intervals in the order of their keys, with the sums of their fragments.
 
-ghost use Rattle.std.specs.Prelude.{◌≡◌, ◌+◌, ◌<◌, ◌≤◌, ◌^◌, ◌++◌, ◌∷◌, ℕ, [], not, List, true, false, length, option_map, IfOk, OnOk, OnErr, IfSome, IfNone};
+ghost use Rattle.std.specs.Prelude.{◌≡◌, ◌+◌, ◌<◌, ◌≤◌, ◌^◌, ◌++◌, ◌∷◌, Bool, [], not, List, true, false, length, option_map, IfOk, OnOk, OnErr, IfSome, IfNone};
 
 use crate::counted::key_at;
 use crate::dropped::{all_sums_of, ends_below, take_low};
+use crate::finished::{Finished, begin_of};
 use crate::interval_list::ListState;
 use crate::places::{
     add_to, begins_below, drop_first, interval_with, take_if_complete, take_in_turn,
@@ -44,11 +45,12 @@ impl<K: ReassemblyKey> Model for IntervalMap<K> {
 impl<K: ReassemblyKey> IntervalMap<K> {
     ghost use Rattle.std.specs.List.{find};
     ghost use Rattle.sctp_fragments.specs.Runs.{is_held, with_item, from_rank};
-    ghost use Rattle.sctp_fragments.specs.Held.{Held, rank_of, intervals_of, bytes_of, is_complete, NoneComplete, NoneInTurn, is_in_turn, without_first_of, left_by, IsPlaced, IsTaken};
+    ghost use Rattle.sctp_fragments.specs.Held.{Held, rank_of, intervals_of, bytes_of, is_complete, NoneComplete, NonePass, is_in_turn, without_first_of, left_by, IsPlaced, IsTaken};
     ghost use Rattle.sctp_fragments.specs.ReassemblyKey.{rank_at};
     ghost use Rattle.sctp_fragments.specs.Interval.{as_held, held_of, run_of};
     ghost use Rattle.sctp_reassembly.specs.UnorderedByTsn.{BeginsFrom};
     ghost use Rattle.sctp_reassembly.specs.KeyAt.{IsKeyAt};
+    ghost use Rattle.sctp_reassembly.specs.Finished.{BeginsAt, NoneMissed, NoneEarlier};
     ghost use Rattle.sctp_reassembly.specs.ListState.{held_in, IsListState};
 
     /// No fragments. Takes no memory.
@@ -168,6 +170,24 @@ impl<K: ReassemblyKey> IntervalMap<K> {
         }
     }
 
+    /// The key at which the interval with the key begins, where it is complete.
+    pub fn finished_at(&self, key: K) -> Option<K>
+        ensures some { IfSome result (λ k. (front back : List (List Held)) (r : List Held) → intervals_of self.now ≡ front ++ r ∷ back → is_held rank_of (rank_at K.number K.index key) r ≡ true → BeginsAt (rank_at K.number K.index k) r) }
+        ensures none { IfNone result ((front back : List (List Held)) (r : List Held) → intervals_of self.now ≡ front ++ r ∷ back → is_held rank_of (rank_at K.number K.index key) r ≡ true → is_complete r ≡ false) }
+    {
+        match interval_with(&self.first, &self.later, key) {
+            Some(interval) => begin_of(interval),
+            None => None,
+        }
+    }
+
+    /// The keys at which the complete intervals begin.
+    pub fn finished(&self) -> Finished<K>
+        ensures { NoneMissed K.number K.index 0 result (intervals_of self.now) }
+    {
+        Finished::of(self.alloc, &self.first, &self.later)
+    }
+
     /// Takes the interval with the key out where it is a complete message.
     pub fn pop_if_complete(&mut self, key: K) -> Option<Interval<K>>
         ensures taken { IfSome result (λ i. IsTaken self.old (run_of (held_of K.number K.index) i) self.new) }
@@ -183,16 +203,17 @@ impl<K: ReassemblyKey> IntervalMap<K> {
         Some(interval)
     }
 
-    /// Takes out the first of the intervals that is a complete message with the number. Other intervals before it, also
-    /// incomplete ones, don't stop it.
-    pub fn pop_front_if_complete_and(&mut self, number: u128) -> Option<Interval<K>>
+    /// Takes out the first of the intervals that is a complete message with the number, where none begins before the key. Other
+    /// intervals before it, also incomplete ones, don't stop it.
+    pub fn pop_front_from(&mut self, key: K, number: u128) -> Option<Interval<K>>
+        requires earlier { NoneEarlier number (rank_at K.number K.index key) (intervals_of self.old) }
         ensures taken { option_map (λ i. run_of (held_of K.number K.index) i) result ≡ find (is_in_turn number) (intervals_of self.old) }
         ensures intervals { intervals_of self.new ≡ without_first_of (is_in_turn number) (intervals_of self.old) }
         ensures value { self.new ≡ left_by (is_in_turn number) self.old }
         ensures bytes { IfSome result (λ i. bytes_of self.old ≡ bytes_of (run_of (held_of K.number K.index) i) + bytes_of self.new) }
         ensures fragments { IfSome result (λ i. length self.old ≡ length (run_of (held_of K.number K.index) i) + length self.new) }
     {
-        let interval = take_in_turn(&mut self.first, &mut self.later, number)?;
+        let interval = take_in_turn(&mut self.first, &mut self.later, key, number)?;
         self.bytes -= interval.total_bytes();
         self.fragments -= interval.len();
         Some(interval)
@@ -231,7 +252,7 @@ impl<K: ReassemblyKey> IntervalMap<K> {
     pub fn retain(&mut self, key: K)
         ensures value { self.new ≡ from_rank rank_of (rank_at K.number K.index key) self.old }
         ensures others { NoneComplete (intervals_of self.old) → NoneComplete (intervals_of self.new) }
-        ensures turns { (n : ℕ) → NoneInTurn n (intervals_of self.old) → NoneInTurn n (intervals_of self.new) }
+        ensures stays { (test : List Held → Bool) → ((r : List Held) → test r ≡ true → is_complete r ≡ true) → NonePass test (intervals_of self.old) → NonePass test (intervals_of self.new) }
         ensures bytes { bytes_of self.new ≤ bytes_of self.old }
         ensures fragments { length self.new ≤ length self.old }
     {

@@ -3,6 +3,7 @@
 
 mod counted;
 mod dropped;
+mod finished;
 pub mod interval_list;
 mod interval_map;
 mod near;

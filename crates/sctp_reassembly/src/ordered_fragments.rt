@@ -1,17 +1,21 @@
 //! Fragments of a stream whose messages become ready in the order of their numbers.
 
-ghost use Rattle.std.specs.Prelude.{◌≡◌, ◌+◌, ◌<◌, ◌≤◌, ◌^◌, ◌++◌, ℕ, suc, length, OnOk, OnErr, IfOk, IfSome, IfNone, nat_lt, [], true, false};
+ghost use Rattle.std.specs.Prelude.{◌≡◌, ◌+◌, ◌<◌, ◌≤◌, ◌^◌, ◌++◌, ℕ, suc, List, length, option_map, OnOk, OnErr, IfOk, IfSome, IfNone, nat_lt, [], true, false};
+ghost use Rattle.std.specs.List.{find};
 ghost use Rattle.sctp_serial.specs.Unwrapped.{origin};
-ghost use Rattle.sctp_fragments.specs.Held.{bytes_of, rank_of, intervals_of, NoneInTurn};
-ghost use Rattle.sctp_fragments.specs.Interval.{as_held};
+ghost use Rattle.sctp_fragments.specs.Held.{Held, bytes_of, rank_of, intervals_of, is_in_turn, without_first_of, left_by, IsPlaced, NoneInTurn};
+ghost use Rattle.sctp_fragments.specs.ReassemblyKey.{pair_rank, rank_at};
+ghost use Rattle.sctp_fragments.specs.Interval.{as_held, held_of, run_of};
 ghost use Rattle.sctp_fragments.specs.Runs.{with_item};
 ghost use Rattle.sctp_reassembly.specs.Delivery.{deliver, ordered_arrival, ordered_forward, ready_bytes, Extends};
+ghost use Rattle.sctp_reassembly.specs.Finished.{NoneMissed};
 ghost use Rattle.sctp_reassembly.specs.InterruptedStreams.{deliver_in_part, ordered_arrival_in_part, ordered_forward_in_part};
 
+use crate::finished::Finished;
 use crate::interval_list::IntervalList;
 use crate::ready_messages::ReadyMessages;
 use sctp_chunk::Data;
-use sctp_fragments::ReassemblyKey;
+use sctp_fragments::{Interval, ReassemblyKey};
 use std::alloc::{AllocError, Global};
 use std::marker::Model;
 
@@ -24,17 +28,40 @@ pub(crate) struct OrderedFragments<K: ReassemblyKey> {
     list: IntervalList<K>,
     // whether nothing in the list is known to be in turn: not after want of memory
     is_settled: bool,
+    // where complete intervals begin, of the next message and of later ones: known once intervals were many
+    finished: Finished<K>,
 }
 
 impl<K: ReassemblyKey> Model for OrderedFragments<K> {
     ghost use Rattle.std.specs.Prelude.{◌+◌};
-    ghost use Rattle.sctp_reassembly.specs.Delivery.{OrderedStream, IsOrdered};
+    ghost use Rattle.sctp_reassembly.specs.Delivery.{OrderedStream};
+    ghost use Rattle.sctp_reassembly.specs.Finished.{IsKeptInOrder};
 
     ghost Value = { OrderedStream };
 
     ghost view = { λ s. record { next = s.last + 1; held = s.list } };
 
-    ghost invariant = { λ s. IsOrdered (record { next = s.last + 1; held = s.list }) s.is_settled };
+    ghost invariant = { λ s. IsKeptInOrder K.number K.index (record { next = s.last + 1; held = s.list }) s.is_settled s.finished };
+}
+
+/// Takes out the first interval that is a complete message with the number.
+fn pop_in_turn<K: ReassemblyKey>(
+    list: &mut IntervalList<K>,
+    finished: &mut Finished<K>,
+    number: u128,
+) -> Option<Interval<K>>
+    requires noted { NoneMissed K.number K.index (pair_rank number 0) finished.old (intervals_of list.old) }
+    ensures taken { option_map (λ i. run_of (held_of K.number K.index) i) result ≡ find (is_in_turn number) (intervals_of list.old) }
+    ensures intervals { intervals_of list.new ≡ without_first_of (is_in_turn number) (intervals_of list.old) }
+    ensures value { list.new ≡ left_by (is_in_turn number) list.old }
+    ensures noted { NoneMissed K.number K.index (pair_rank number 0) finished.new (intervals_of list.new) }
+    ensures bytes { IfSome result (λ i. bytes_of list.old ≡ bytes_of (run_of (held_of K.number K.index) i) + bytes_of list.new) }
+    ensures fragments { IfSome result (λ i. length list.old ≡ length (run_of (held_of K.number K.index) i) + length list.new) }
+{
+    match finished.search(number) {
+        Some(key) => list.pop_front_from(key, number),
+        None => None,
+    }
 }
 
 /// Makes the complete messages ready that are in turn, one after the other, behind the last one.
@@ -43,13 +70,16 @@ fn deliver<K: ReassemblyKey>(
     alloc: Global,
     last: &mut u64,
     list: &mut IntervalList<K>,
+    finished: &mut Finished<K>,
     ready: &mut ReadyMessages,
 ) -> Result<(), AllocError>
-    requires { bytes_of list.old + ready_bytes ready.old < 2 ^ 64 }
+    requires room { bytes_of list.old + ready_bytes ready.old < 2 ^ 64 }
+    requires noted { NoneMissed K.number K.index (pair_rank (last.old + 1) 0) finished.old (intervals_of list.old) }
     ensures next { OnOk result (last.new + 1 ≡ (deliver (last.old + 1) list.old).stream.next) }
     ensures held { OnOk result (list.new ≡ (deliver (last.old + 1) list.old).stream.held) }
     ensures ready { OnOk result (ready.new ≡ ready.old ++ (deliver (last.old + 1) list.old).messages) }
     ensures settled { OnOk result (NoneInTurn (last.new + 1) (intervals_of list.new)) }
+    ensures noted { NoneMissed K.number K.index (pair_rank (last.new + 1) 0) finished.new (intervals_of list.new) }
     ensures onward { last.old ≤ last.new }
     ensures err { OnErr result ((count : ℕ) × ((record { next = last.new + 1; held = list.new } ≡ (deliver_in_part count (last.old + 1) list.old).stream) × (ready.new ≡ ready.old ++ (deliver_in_part count (last.old + 1) list.old).messages))) }
     ensures kept { Extends ready.old ready.new }
@@ -58,7 +88,7 @@ fn deliver<K: ReassemblyKey>(
 {
     // (that a number fits is known once it is read)
     let _last = *last;
-    while let Some(interval) = list.pop_front_if_complete_and(*last as u128 + 1) {
+    while let Some(interval) = pop_in_turn(list, finished, *last as u128 + 1) {
         let number = interval.first().key.number();
         ready.push_complete(alloc, interval)?;
         *last = number;
@@ -66,9 +96,28 @@ fn deliver<K: ReassemblyKey>(
     Ok(())
 }
 
+/// Of so many intervals the complete ones are noted. Fewer are looked through.
+const MANY: usize = 64;
+
+/// Notes the interval with the key where it is complete. Where intervals become many, notes all that are.
+fn note_in<K: ReassemblyKey>(finished: &mut Finished<K>, list: &IntervalList<K>, key: K)
+    ensures { (m : ℕ) (old : List Held) (x : Held) → IsPlaced old list.now x → rank_of x ≡ rank_at K.number K.index key → NoneMissed K.number K.index m finished.old (intervals_of old) → NoneMissed K.number K.index m finished.new (intervals_of list.now) }
+{
+    if !finished.is_known() {
+        if list.len() == MANY {
+            *finished = list.finished();
+        }
+        return;
+    }
+    if let Some(first) = list.finished_at(key) {
+        finished.note(first);
+    }
+}
+
 /// Adds a fragment, and says whether the interval that took it is in turn.
 fn add_in<K: ReassemblyKey>(
     list: &mut IntervalList<K>,
+    finished: &mut Finished<K>,
     key: K,
     fragment: Data,
     next: u128,
@@ -77,6 +126,7 @@ fn add_in<K: ReassemblyKey>(
     requires fragments { length list.old + 1 < 2 ^ 64 }
     ensures value { OnOk result (list.new ≡ with_item rank_of (as_held (K.number key) (K.index key) fragment) list.old) }
     ensures none { IfOk result (λ turn. turn ≡ false → NoneInTurn next (intervals_of list.old) → NoneInTurn next (intervals_of list.new)) }
+    ensures noted { (m : ℕ) → NoneMissed K.number K.index m finished.old (intervals_of list.old) → NoneMissed K.number K.index m finished.new (intervals_of list.new) }
     ensures bytes { bytes_of list.new ≤ bytes_of list.old + length fragment.payload.items }
     ensures fragments { length list.new ≤ length list.old + 1 }
     ensures err { OnErr result (list.new ≡ list.old) }
@@ -84,6 +134,7 @@ fn add_in<K: ReassemblyKey>(
     if !list.add(key, fragment)? {
         return Ok(false);
     }
+    note_in(finished, list, key);
     Ok(list.is_in_turn_at(key, next))
 }
 
@@ -106,6 +157,7 @@ impl<K: ReassemblyKey> OrderedFragments<K> {
             last,
             list: IntervalList::new(alloc),
             is_settled: true,
+            finished: Finished::unknown(),
         }
     }
 
@@ -162,12 +214,18 @@ impl<K: ReassemblyKey> OrderedFragments<K> {
         ensures least { origin ≤ self.new.next }
     {
         let next = self.last as u128 + 1;
-        let is_turn = add_in(&mut self.list, key, fragment, next)?;
+        let is_turn = add_in(&mut self.list, &mut self.finished, key, fragment, next)?;
         self.is_settled = stays_settled(self.is_settled, is_turn);
         if self.is_settled {
             return Ok(());
         }
-        deliver(self.alloc, &mut self.last, &mut self.list, ready)?;
+        deliver(
+            self.alloc,
+            &mut self.last,
+            &mut self.list,
+            &mut self.finished,
+            ready,
+        )?;
         self.is_settled = true;
         Ok(())
     }
@@ -205,7 +263,13 @@ impl<K: ReassemblyKey> OrderedFragments<K> {
         self.is_settled = false;
         self.list.retain(first);
         self.last = self.last.max(first.number() - 1);
-        deliver(self.alloc, &mut self.last, &mut self.list, ready)?;
+        deliver(
+            self.alloc,
+            &mut self.last,
+            &mut self.list,
+            &mut self.finished,
+            ready,
+        )?;
         self.is_settled = true;
         Ok(())
     }

@@ -5,10 +5,11 @@ ghost use Rattle.std.specs.Option.{option_to_list};
 ghost use Rattle.sctp_fragments.specs.Entries.{size_of, FitsBehind, FitsBefore};
 ghost use Rattle.sctp_fragments.specs.Held.{Held, rank_of, goes_on, is_complete, is_in_turn, NoneInTurn};
 ghost use Rattle.sctp_fragments.specs.Runs.{is_next, is_held, flat, last_of, end_of, joins_left, AreRuns, IsBelow, LeadsTo};
-ghost use Rattle.sctp_fragments.specs.ReassemblyKey.{rank_at};
+ghost use Rattle.sctp_fragments.specs.ReassemblyKey.{pair_rank, rank_at};
 ghost use Rattle.sctp_fragments.specs.Interval.{held_of, run_of, lists_of, entries_of, IsInRuns, AreIndexed, without_first, first_below, starts_upto};
 ghost use Rattle.sctp_fragments.specs.declared.interval.Interval.{Interval};
 ghost use Rattle.sctp_reassembly.specs.Turns.{IsFirstOut, IsFirstPassing};
+ghost use Rattle.sctp_reassembly.specs.Finished.{NoneEarlier};
 ghost use Rattle.sctp_reassembly.specs.Places.{AreBeside, HasRoom, Holds, IsAmong, IsOut, IsFirstAt, all_of, runs_at, AreNamed, AreLow, AreHigh, IsLed, IsSplit, IsChanged, IsJoined, AreJoined, IsAdded, IsAnswer, IsSame, next_of, previous_of, ends_from, first_key_of, last_key};
 
 use sctp_fragments::{Entries, Entry, Interval, ReassemblyKey, Size, goes_on_to, is_before};
@@ -239,16 +240,25 @@ fn take_complete<K: ReassemblyKey>(
     later.remove(&place)
 }
 
-/// Takes out the first interval that is a complete message with the number.
+/// The first key of the message with the number, or a lesser key.
+pub(crate) fn least_of<K: ReassemblyKey>(number: u128) -> K
+    ensures { rank_at K.number K.index result ≤ pair_rank number 0 }
+{
+    K::least(number.min(u64::MAX as u128) as u64)
+}
+
+/// Takes out the first interval that is a complete message with the number, where none begins before the key.
 pub(crate) fn take_in_turn<K: ReassemblyKey>(
     first: &mut Option<Interval<K>>,
     later: &mut BTreeMap<K, Interval<K>>,
+    key: K,
     number: u128,
 ) -> Option<Interval<K>>
     requires led { IsLed first.old later.old.entries }
     requires runs { IsInRuns (lists_of (held_of K.number K.index) (all_of first.old later.old.entries)) }
     requires named { AreNamed K.is_key K.number K.index later.old.entries }
     requires small { AreIndexed (entries_of (held_of K.number K.index) (all_of first.old later.old.entries)) }
+    requires earlier { NoneEarlier number (rank_at K.number K.index key) (lists_of (held_of K.number K.index) (all_of first.old later.old.entries)) }
     ensures taken { IfSome result (λ i. IsFirstOut (is_in_turn number) (lists_of (held_of K.number K.index) (all_of first.old later.old.entries)) (run_of (held_of K.number K.index) i) (lists_of (held_of K.number K.index) (all_of first.new later.new.entries))) }
     ensures none { IfNone result (lists_of (held_of K.number K.index) (all_of first.new later.new.entries) ≡ lists_of (held_of K.number K.index) (all_of first.old later.old.entries)) }
     ensures unturned { IfNone result (NoneInTurn number (lists_of (held_of K.number K.index) (all_of first.old later.old.entries))) }
@@ -261,25 +271,29 @@ pub(crate) fn take_in_turn<K: ReassemblyKey>(
     if interval.is_in_turn(number) {
         return take_first(first, later);
     }
-    let Some(place) = place_in_turn(later, number) else {
+    let Some(place) = place_in_turn(later, key, number) else {
         return None;
     };
     place.known();
     later.remove(&place)
 }
 
-/// The key in the map of the first interval that is a complete message with the number. Those of lesser numbers are passed by the
-/// map, and those of greater ones aren't looked at.
-fn place_in_turn<K: ReassemblyKey>(later: &BTreeMap<K, Interval<K>>, number: u128) -> Option<K>
+/// The key in the map of the first interval that is a complete message with the number, where none begins before the key. Those
+/// under lesser keys are passed by the map, and those of greater numbers aren't looked at.
+fn place_in_turn<K: ReassemblyKey>(
+    later: &BTreeMap<K, Interval<K>>,
+    key: K,
+    number: u128,
+) -> Option<K>
     requires runs { IsInRuns (runs_at K.number K.index later.now.entries) }
     requires named { AreNamed K.is_key K.number K.index later.now.entries }
     requires small { AreIndexed (flat (runs_at K.number K.index later.now.entries)) }
+    requires earlier { NoneEarlier number (rank_at K.number K.index key) (runs_at K.number K.index later.now.entries) }
     ensures some { IfSome result (λ place. IsFirstPassing K.is_key K.number K.index (is_in_turn number) place later.now.entries) }
     ensures none { IfNone result (NoneInTurn number (runs_at K.number K.index later.now.entries)) }
 {
-    let least = K::least(number.min(u64::MAX as u128) as u64);
-    least.known();
-    let mut rest = later.range(least..);
+    key.known();
+    let mut rest = later.range(key..);
     while let Some((place, interval)) = rest.next() {
         if interval.is_in_turn(number) {
             return Some(*place);

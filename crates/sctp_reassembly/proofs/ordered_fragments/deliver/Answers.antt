@@ -1,7 +1,9 @@
 use Rattle.std.proofs.Common.{◌≡◌, ◌+◌, ◌++◌, length, suc, refl, ap, sym, subst, ◌∙◌, arith, rules}
 use Rattle.sctp_fragments.specs.Held.{bytes_of, intervals_of, is_in_turn, NoneInTurn, message_of_run}
 use Rattle.sctp_fragments.specs.Interval.{held_of, run_of}
+use Rattle.sctp_fragments.specs.ReassemblyKey.{pair_rank}
 use Rattle.sctp_reassembly.specs.Delivery.{deliver}
+use Rattle.sctp_reassembly.proofs.FinishedLemmas.{none_later}
 use Rattle.sctp_reassembly.proofs.ExtendsLemmas.{extends_none, extends_both}
 use Rattle.sctp_reassembly.proofs.FindLemmas.{find_none, left_unfound}
 use Rattle.sctp_reassembly.proofs.DeliverLemmas.{length_found, found_passes, turn_number, deliver_step, deliver_ends, one_earlier}
@@ -18,6 +20,7 @@ loop-interval-init g c = record {
   kept = extends_none c.args.ready.now;
   bytes = omega arith;
   fragments = omega arith;
+  noted = c.requires.noted;
 }
 
 pub loop-interval-smaller : goal.loop-interval-smaller
@@ -31,19 +34,20 @@ loop-interval-preserved g c =
     let passes = found_passes (is_in_turn (c.loop-interval.last + 1)) (intervals_of c.loop-interval.list) run (sym c.in-Some.ensures.taken) in
     let turn = turn_number run (held_of g.K.ReassemblyKey.number g.K.ReassemblyKey.index c.first.result.now) (c.loop-interval.last + 1) passes c.first.ensures in
     let up : c.number-number.result + 1 ≡ suc (c.loop-interval.last + 1) = omega (arith, turn, c.number-number.ensures) in
-    let step = deliver_step (c.loop-interval.last + 1) c.loop-interval.list c.pop_front_if_complete_and.new.self run (sym c.in-Some.ensures.taken) c.in-Some.ensures.value c.in-Some.ensures.intervals in
+    let step = deliver_step (c.loop-interval.last + 1) c.loop-interval.list c.pop_in_turn.new.list run (sym c.in-Some.ensures.taken) c.in-Some.ensures.value c.in-Some.ensures.intervals in
     record {
-      stream = ap (λ n. (deliver n c.pop_front_if_complete_and.new.self).stream) up ∙ (sym (ap (λ d. d.stream) step) ∙ c.loop-interval.invariant.stream);
-      messages = ap (λ n. c.push_complete.new.self ++ (deliver n c.pop_front_if_complete_and.new.self).messages) up
-          ∙ one_earlier c.loop-interval.ready c.push_complete.new.self (message_of_run run) (message_of_run run) (deliver (suc (c.loop-interval.last + 1)) c.pop_front_if_complete_and.new.self) _ c.in_ok-push_complete.ensures.ok refl
+      stream = ap (λ n. (deliver n c.pop_in_turn.new.list).stream) up ∙ (sym (ap (λ d. d.stream) step) ∙ c.loop-interval.invariant.stream);
+      messages = ap (λ n. c.push_complete.new.self ++ (deliver n c.pop_in_turn.new.list).messages) up
+          ∙ one_earlier c.loop-interval.ready c.push_complete.new.self (message_of_run run) (message_of_run run) (deliver (suc (c.loop-interval.last + 1)) c.pop_in_turn.new.list) _ c.in_ok-push_complete.ensures.ok refl
           (ap (λ d. c.loop-interval.ready ++ d.messages) (sym step) ∙ c.loop-interval.invariant.messages);
       onward = omega (arith, up, c.loop-interval.invariant.onward);
       fits = search rules;
-      part = turns_step (c.loop-interval.last + 1) (c.number-number.result + 1) c.loop-interval.list run c.pop_front_if_complete_and.new.self c.loop-interval.ready c.push_complete.new.self (message_of_run run) (c.args.last.now + 1) c.args.list.now c.args.ready.now
+      part = turns_step (c.loop-interval.last + 1) (c.number-number.result + 1) c.loop-interval.list run c.pop_in_turn.new.list c.loop-interval.ready c.push_complete.new.self (message_of_run run) (c.args.last.now + 1) c.args.list.now c.args.ready.now
           (sym c.in-Some.ensures.taken) c.in-Some.ensures.value up c.in_ok-push_complete.ensures.ok refl c.loop-interval.invariant.part;
       kept = extends_both _ _ _ c.loop-interval.invariant.kept c.push_complete.ensures.kept;
       bytes = omega (arith, c.in-Some.ensures.bytes, c.push_complete.ensures.bytes, c.loop-interval.invariant.bytes);
       fragments = omega (arith, c.in-Some.ensures.fragments, c.loop-interval.invariant.fragments);
+      noted = none_later g.K.ReassemblyKey.number g.K.ReassemblyKey.index (pair_rank (c.loop-interval.last + 1) 0) (pair_rank (c.number-number.result + 1) 0) c.pop_in_turn.new.finished (intervals_of c.pop_in_turn.new.list) (omega (arith, up)) c.in-Some.ensures.noted;
     }
 
 pub returns-clause-held : goal.returns-clause-held
@@ -72,4 +76,4 @@ returns-clause-settled g c =
 
 pub returns-in_err-push_complete-clause-err : goal.returns-in_err-push_complete-clause-err
 returns-in_err-push_complete-clause-err g c =
-    on_err c.from_residual.result (turns_end (c.loop-interval.last + 1) c.loop-interval.list c.pop_front_if_complete_and.new.self c.loop-interval.ready c.push_complete.new.self (c.args.last.now + 1) c.args.list.now c.args.ready.now c.in-Some.ensures.value c.in_err-push_complete.ensures.err c.loop-interval.invariant.part)
+    on_err c.from_residual.result (turns_end (c.loop-interval.last + 1) c.loop-interval.list c.pop_in_turn.new.list c.loop-interval.ready c.push_complete.new.self (c.args.last.now + 1) c.args.list.now c.args.ready.now c.in-Some.ensures.value c.in_err-push_complete.ensures.err c.loop-interval.invariant.part)

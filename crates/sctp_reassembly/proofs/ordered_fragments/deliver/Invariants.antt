@@ -1,5 +1,7 @@
 use Rattle.std.proofs.Common.{◌≡◌, ◌+◌, ◌<◌, ◌≤◌, ◌^◌, ◌++◌, length}
 use Rattle.sctp_fragments.specs.Held.{bytes_of, intervals_of}
+use Rattle.sctp_fragments.specs.ReassemblyKey.{pair_rank}
+use Rattle.sctp_reassembly.specs.Finished.{NoneMissed}
 use Rattle.sctp_reassembly.specs.Delivery.{deliver, ready_bytes, Extends}
 use Rattle.sctp_reassembly.proofs.InterruptedLemmas.{TurnsGoOn}
 use Rattle.sctp_reassembly.proofs.ordered_fragments.deliver.Given as goal
@@ -14,6 +16,7 @@ invariant-loop-interval g l = record {
   kept : Extends l.fn.ready l.ready;
   bytes : bytes_of l.list + ready_bytes l.ready ≤ bytes_of l.fn.list + ready_bytes l.fn.ready;
   fragments : length l.list ≤ length l.fn.list;
+  noted : NoneMissed g.K.ReassemblyKey.number g.K.ReassemblyKey.index (pair_rank (l.last + 1) 0) l.finished (intervals_of l.list);
 }
 
 abbrev pub decreases-loop-interval : goal.decreases-loop-interval

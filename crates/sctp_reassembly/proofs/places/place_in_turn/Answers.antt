@@ -2,19 +2,19 @@ use Rattle.std.proofs.Common.{sym, ◌∙◌, arith}
 use Rattle.sctp_fragments.specs.ReassemblyKey.{rank_at}
 use Rattle.sctp_fragments.specs.Interval.{held_of}
 use Rattle.sctp_reassembly.proofs.MapLemmas.{split_for, from_split}
-use Rattle.sctp_reassembly.proofs.InTurnLemmas.{least_rank, passed_at, first_passing, passed_on, none_above_it}
+use Rattle.sctp_reassembly.proofs.InTurnLemmas.{passed_at, first_passing, passed_on, none_above_it}
 use Rattle.std.specs.Prelude.{None}
 use Rattle.sctp_reassembly.proofs.places.place_in_turn.Goals as goal
 
 pub loop-place-init : goal.loop-place-init
 loop-place-init g c =
-    let m = rank_at g.K.ReassemblyKey.number g.K.ReassemblyKey.index c.least-least.result in
+    let m = rank_at g.K.ReassemblyKey.number g.K.ReassemblyKey.index c.args.key in
     let s = split_for g.K.ReassemblyKey.is_key g.K.ReassemblyKey.number g.K.ReassemblyKey.index m None c.args.later.now.entries c.requires.named c.requires.runs in
-    let from = from_split g.K.Ord.cmp g.K.ReassemblyKey.is_key (rank_at g.K.ReassemblyKey.number g.K.ReassemblyKey.index) g.met.K.ReassemblyKey.by_rank c.least-least.result c.known.ensures c.args.later.now.entries s.ps s.qs s.split in
+    let from = from_split g.K.Ord.cmp g.K.ReassemblyKey.is_key (rank_at g.K.ReassemblyKey.number g.K.ReassemblyKey.index) g.met.K.ReassemblyKey.by_rank c.args.key c.known.ensures c.args.later.now.entries s.ps s.qs s.split in
     record {
       next = tt;
       finite = tt;
-      passed = passed_at g.K.ReassemblyKey.is_key g.K.ReassemblyKey.number g.K.ReassemblyKey.index c.args.number m c.args.later.now.entries s.ps s.qs c.range-rest.result c.requires.named s.split (sym from ∙ sym (c.range-rest.ensures.between tt)) (least_rank _ _ c.args.number _ c.least-least.ensures.number (omega (arith, c.min.ensures)) c.least-least.ensures.index);
+      passed = passed_at g.K.ReassemblyKey.is_key g.K.ReassemblyKey.number g.K.ReassemblyKey.index c.args.number m c.args.later.now.entries s.ps s.qs c.range-rest.result c.requires.named s.split (sym from ∙ sym (c.range-rest.ensures.between tt)) c.requires.earlier;
     }
 
 pub returns-then-is_in_turn-clause-some : goal.returns-then-is_in_turn-clause-some

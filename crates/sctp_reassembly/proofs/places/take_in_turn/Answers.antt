@@ -1,5 +1,6 @@
+use Rattle.sctp_fragments.specs.ReassemblyKey.{rank_at}
 use Rattle.sctp_reassembly.proofs.HolderLemmas.{later_runs}
-use Rattle.sctp_reassembly.proofs.InTurnLemmas.{first_out, later_indexed, turn_out, turn_found, turn_named}
+use Rattle.sctp_reassembly.proofs.InTurnLemmas.{first_out, later_indexed, later_earlier, turn_out, turn_found, turn_named}
 use Rattle.sctp_reassembly.proofs.places.take_in_turn.Goals as goal
 
 pub returns-then-is_in_turn-clause-taken : goal.returns-then-is_in_turn-clause-taken
@@ -11,6 +12,10 @@ place_in_turn-requires-clause-runs g c =
 
 pub place_in_turn-requires-clause-small : goal.place_in_turn-requires-clause-small
 place_in_turn-requires-clause-small g c = later_indexed g.K.ReassemblyKey.is_key g.K.ReassemblyKey.number g.K.ReassemblyKey.index c.args.number c.args.first.now c.args.later.now.entries c.in-Some.interval c.in-Some.is c.requires.small
+
+pub place_in_turn-requires-clause-earlier : goal.place_in_turn-requires-clause-earlier
+place_in_turn-requires-clause-earlier g c =
+    later_earlier g.K.ReassemblyKey.is_key g.K.ReassemblyKey.number g.K.ReassemblyKey.index c.args.number c.args.first.now c.args.later.now.entries c.in-Some.interval c.in-Some.is (rank_at g.K.ReassemblyKey.number g.K.ReassemblyKey.index c.args.key) c.requires.earlier
 
 pub returns-clause-taken : goal.returns-clause-taken
 returns-clause-taken g c = turn_out g.K.ReassemblyKey.is_key g.K.ReassemblyKey.number g.K.ReassemblyKey.index c.args.number c.args.first.now c.args.later.now.entries c.in-Some.interval c.in-Some.is c.is_in_turn.result c.is_in_turn.ensures c.if-is_in_turn.false c.in-Some-place_in_turn.place c.in-Some-place_in_turn.ensures.some g.K.Ord.cmp g.met.K.ReassemblyKey.by_rank c.known.ensures c.remove.result c.remove.new.self.entries c.remove.ensures.value c.remove.ensures.entries

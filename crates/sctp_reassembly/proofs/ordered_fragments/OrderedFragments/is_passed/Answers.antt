@@ -5,4 +5,4 @@ use Rattle.sctp_reassembly.proofs.ordered_fragments.OrderedFragments.is_passed.G
 pub returns-clause-settled : goal.returns-clause-settled
 returns-clause-settled g c passed =
     let settled : c.self.inside.is_settled ≡ true = search rules in
-    subst (λ s. NoneInTurn s.next (intervals_of s.held)) c.self.view_is (c.self.invariant.settled settled)
+    subst (λ s. NoneInTurn s.next (intervals_of s.held)) c.self.view_is (c.self.invariant.ordered.settled settled)

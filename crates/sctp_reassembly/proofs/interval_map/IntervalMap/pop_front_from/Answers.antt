@@ -4,13 +4,21 @@ use Rattle.sctp_fragments.specs.Runs.{flat}
 use Rattle.std.specs.List.{find}
 use Rattle.sctp_fragments.specs.Held.{is_in_turn, NoneInTurn, bytes_of, intervals_of, without_first_of, left_by}
 use Rattle.sctp_fragments.specs.Interval.{held_of, run_of, lists_of}
+use Rattle.sctp_fragments.specs.ReassemblyKey.{rank_at}
 use Rattle.sctp_reassembly.specs.Places.{all_of}
+use Rattle.sctp_reassembly.specs.Finished.{NoneEarlier}
 use Rattle.sctp_reassembly.proofs.ListLemmas.{takes, turn_complete, intervals_flat}
 use Rattle.sctp_reassembly.proofs.FindLemmas.{not_found, without_none, left_none}
 use Rattle.sctp_reassembly.proofs.PopLemmas.{popped, popped_intervals, popped_left}
 use Rattle.sctp_reassembly.proofs.TurnLemmas.{taken_indexed}
 use Rattle.sctp_reassembly.proofs.CountLemmas.{counts_taken, run_length}
-use Rattle.sctp_reassembly.proofs.interval_map.IntervalMap.pop_front_if_complete_and.Goals as goal
+use Rattle.sctp_reassembly.proofs.interval_map.IntervalMap.pop_front_from.Goals as goal
+
+pub take_in_turn-requires-clause-earlier : goal.take_in_turn-requires-clause-earlier
+take_in_turn-requires-clause-earlier g c =
+    let m = rank_at g.K.ReassemblyKey.number g.K.ReassemblyKey.index c.args.key in
+    subst (NoneEarlier c.args.number m) (intervals_flat (lists_of (held_of g.K.ReassemblyKey.number g.K.ReassemblyKey.index) (all_of c.self.inside.first c.self.inside.later.entries)) c.self.invariant.kept.runs)
+    (subst (λ hs. NoneEarlier c.args.number m (intervals_of hs)) (sym c.self.view_is) c.requires.earlier)
 
 pub total_bytes-requires : goal.total_bytes-requires
 total_bytes-requires g c =

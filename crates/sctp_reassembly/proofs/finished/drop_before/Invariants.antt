@@ -1,0 +1,14 @@
+use Rattle.std.proofs.Common.{◌≡◌, ◌≤◌, ℕ, true, length}
+use Rattle.sctp_fragments.specs.Runs.{is_held}
+use Rattle.sctp_fragments.specs.ReassemblyKey.{rank_at}
+use Rattle.sctp_reassembly.specs.Finished.{AreKeys}
+use Rattle.sctp_reassembly.proofs.finished.drop_before.Given as goal
+
+abbrev pub invariant-loop-key : goal.invariant-loop-key
+invariant-loop-key g l = record {
+  keys : AreKeys g.K.ReassemblyKey.is_key l.keys.keys;
+  held : (n : ℕ) → rank_at g.K.ReassemblyKey.number g.K.ReassemblyKey.index l.key ≤ n → is_held (rank_at g.K.ReassemblyKey.number g.K.ReassemblyKey.index) n l.fn.keys.keys ≡ true → is_held (rank_at g.K.ReassemblyKey.number g.K.ReassemblyKey.index) n l.keys.keys ≡ true;
+}
+
+abbrev pub decreases-loop-key : goal.decreases-loop-key
+decreases-loop-key g l = length l.keys.keys

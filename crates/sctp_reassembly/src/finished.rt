@@ -1,0 +1,196 @@
+//! Complete intervals by the keys at which they begin: so one is found without a look at those that aren't complete.
+
+ghost use Rattle.std.specs.Prelude.{◌≡◌, ◌≤◌, ◌<◌, ◌∷◌, [], ℕ, List, Some, None, true, false, IfOk, OnOk, IfSome, IfNone, length};
+ghost use Rattle.sctp_fragments.specs.Held.{Held, is_complete, NoneInTurn};
+ghost use Rattle.sctp_fragments.specs.Runs.{is_held};
+ghost use Rattle.sctp_fragments.specs.ReassemblyKey.{pair_rank, rank_at};
+ghost use Rattle.sctp_fragments.specs.Interval.{held_of, run_of, lists_of};
+ghost use Rattle.sctp_reassembly.specs.Places.{all_of, runs_at};
+ghost use Rattle.sctp_reassembly.specs.Finished.{AreKeys, BeginsAt, is_missed, NoneMissed, NoneEarlier};
+
+use crate::places::least_of;
+use sctp_fragments::{Interval, ReassemblyKey, is_before};
+use std::alloc::{AllocError, Global};
+use std::collections::{BTreeMap, BTreeSet};
+use std::marker::Model;
+
+/// The keys at which complete intervals begin, where they are known. Keys of other intervals may be among them.
+///
+/// A key stays until a search from a later message on. Where memory lacks for a key, none are known.
+#[derive(Drop)]
+pub(crate) struct Finished<K: ReassemblyKey> {
+    keys: Option<BTreeSet<K>>,
+}
+
+impl<K: ReassemblyKey> Model for Finished<K> {
+    ghost use Rattle.std.specs.Prelude.{Option};
+    ghost use Rattle.std.specs.BTreeSet.{BTreeSet};
+    ghost use Rattle.sctp_reassembly.specs.Finished.{AreKnown};
+
+    ghost Value = { Option (BTreeSet K) };
+
+    ghost view = { λ s. s.keys };
+
+    ghost invariant = { λ s. AreKnown K.is_key s.keys };
+}
+
+/// Adds a key.
+fn add_key<K: ReassemblyKey>(keys: &mut BTreeSet<K>, key: K) -> Result<(), AllocError>
+    requires keys { AreKeys K.is_key keys.old.keys }
+    ensures keys { OnOk result (AreKeys K.is_key keys.new.keys) }
+    ensures kept { OnOk result ((n : ℕ) → is_held (rank_at K.number K.index) n keys.old.keys ≡ true → is_held (rank_at K.number K.index) n keys.new.keys ≡ true) }
+    ensures added { OnOk result (is_held (rank_at K.number K.index) (rank_at K.number K.index key) keys.new.keys ≡ true) }
+{
+    key.known();
+    keys.insert(key)?;
+    Ok(())
+}
+
+/// The key at which the interval begins, where it is complete.
+pub(crate) fn begin_of<K: ReassemblyKey>(interval: &Interval<K>) -> Option<K>
+    ensures some { IfSome result (λ k. BeginsAt (rank_at K.number K.index k) (run_of (held_of K.number K.index) interval.now)) }
+    ensures none { IfNone result (is_complete (run_of (held_of K.number K.index) interval.now) ≡ false) }
+{
+    if !interval.is_complete() {
+        return None;
+    }
+    Some(interval.first().key)
+}
+
+/// Adds the key at which the interval begins, where it is complete.
+fn add_complete<K: ReassemblyKey>(
+    keys: &mut BTreeSet<K>,
+    interval: &Interval<K>,
+) -> Result<(), AllocError>
+    requires keys { AreKeys K.is_key keys.old.keys }
+    ensures keys { OnOk result (AreKeys K.is_key keys.new.keys) }
+    ensures kept { OnOk result ((n : ℕ) → is_held (rank_at K.number K.index) n keys.old.keys ≡ true → is_held (rank_at K.number K.index) n keys.new.keys ≡ true) }
+    ensures added { OnOk result (is_missed (rank_at K.number K.index) 0 (Some keys.new) (run_of (held_of K.number K.index) interval.now) ≡ false) }
+{
+    match begin_of(interval) {
+        Some(key) => add_key(keys, key),
+        None => Ok(()),
+    }
+}
+
+/// The keys at which the complete ones among the intervals of the map begin.
+fn later_keys<K: ReassemblyKey>(
+    alloc: Global,
+    later: &BTreeMap<K, Interval<K>>,
+) -> Result<BTreeSet<K>, AllocError>
+    ensures keys { IfOk result (λ s. AreKeys K.is_key s.keys) }
+    ensures none { IfOk result (λ s. NoneMissed K.number K.index 0 (Some s) (runs_at K.number K.index later.now.entries)) }
+{
+    let mut keys = BTreeSet::new(alloc);
+    for interval in later.values() {
+        add_complete(&mut keys, interval)?;
+    }
+    Ok(keys)
+}
+
+/// The same, with the first one.
+fn all_keys<K: ReassemblyKey>(
+    alloc: Global,
+    first: &Option<Interval<K>>,
+    later: &BTreeMap<K, Interval<K>>,
+) -> Result<BTreeSet<K>, AllocError>
+    ensures keys { IfOk result (λ s. AreKeys K.is_key s.keys) }
+    ensures none { IfOk result (λ s. NoneMissed K.number K.index 0 (Some s) (lists_of (held_of K.number K.index) (all_of first.now later.now.entries))) }
+{
+    let mut keys = later_keys(alloc, later)?;
+    let Some(interval) = first else {
+        return Ok(keys);
+    };
+    add_complete(&mut keys, interval)?;
+    Ok(keys)
+}
+
+/// Whether the first of the keys is before this one.
+fn begins_before<K: ReassemblyKey>(keys: &BTreeSet<K>, key: K) -> bool
+    ensures some { result ≡ true → 0 < length keys.now.keys }
+    ensures before { result ≡ true → (k : K) (ks : List K) → keys.now.keys ≡ k ∷ ks → rank_at K.number K.index k < rank_at K.number K.index key }
+{
+    match keys.first() {
+        Some(first) => is_before(*first, key),
+        None => false,
+    }
+}
+
+/// Drops the keys before this one.
+fn drop_before<K: ReassemblyKey>(keys: &mut BTreeSet<K>, key: K)
+    requires keys { AreKeys K.is_key keys.old.keys }
+    ensures keys { AreKeys K.is_key keys.new.keys }
+    ensures kept { (n : ℕ) → rank_at K.number K.index key ≤ n → is_held (rank_at K.number K.index) n keys.old.keys ≡ true → is_held (rank_at K.number K.index) n keys.new.keys ≡ true }
+{
+    while begins_before(keys, key) {
+        keys.pop_first();
+    }
+}
+
+/// The first key.
+fn first_of<K: ReassemblyKey>(keys: &BTreeSet<K>) -> Option<K>
+    requires keys { AreKeys K.is_key keys.now.keys }
+    ensures some { IfSome result (λ k. (n : ℕ) → is_held (rank_at K.number K.index) n keys.now.keys ≡ true → rank_at K.number K.index k ≤ n) }
+    ensures none { IfNone result (keys.now.keys ≡ []) }
+{
+    let first = *keys.first()?;
+    first.known();
+    Some(first)
+}
+
+impl<K: ReassemblyKey> Finished<K> {
+    /// None are known.
+    pub fn unknown() -> Finished<K>
+        ensures { result ≡ None }
+    {
+        Finished { keys: None }
+    }
+
+    /// Those of the intervals, where there is memory.
+    pub fn of(
+        alloc: Global,
+        first: &Option<Interval<K>>,
+        later: &BTreeMap<K, Interval<K>>,
+    ) -> Finished<K>
+        ensures { NoneMissed K.number K.index 0 result (lists_of (held_of K.number K.index) (all_of first.now later.now.entries)) }
+    {
+        match all_keys(alloc, first, later) {
+            Ok(keys) => Finished { keys: Some(keys) },
+            Err(_) => Finished { keys: None },
+        }
+    }
+
+    /// Whether they are known.
+    pub fn is_known(&self) -> bool
+        ensures { result ≡ false → self.now ≡ None }
+    {
+        self.keys.is_some()
+    }
+
+    /// Notes a complete interval that begins at the key.
+    pub fn note(&mut self, key: K)
+        ensures kept { (m : ℕ) (r : List Held) → is_missed (rank_at K.number K.index) m self.old r ≡ false → is_missed (rank_at K.number K.index) m self.new r ≡ false }
+        ensures noted { (m : ℕ) (r : List Held) → BeginsAt (rank_at K.number K.index key) r → is_missed (rank_at K.number K.index) m self.new r ≡ false }
+    {
+        let Some(keys) = &mut self.keys else {
+            return;
+        };
+        if add_key(keys, key).is_err() {
+            self.keys = None;
+        }
+    }
+
+    /// A key before which no complete message with the number begins. None where there is no such message.
+    pub fn search(&mut self, number: u128) -> Option<K>
+        ensures some { IfSome result (λ k. (rs : List (List Held)) → NoneMissed K.number K.index (pair_rank number 0) self.old rs → NoneEarlier number (rank_at K.number K.index k) rs) }
+        ensures none { IfNone result ((rs : List (List Held)) → NoneMissed K.number K.index (pair_rank number 0) self.old rs → NoneInTurn number rs) }
+        ensures kept { (rs : List (List Held)) → NoneMissed K.number K.index (pair_rank number 0) self.old rs → NoneMissed K.number K.index (pair_rank number 0) self.new rs }
+    {
+        let least = least_of(number);
+        let Some(keys) = &mut self.keys else {
+            return Some(least);
+        };
+        drop_before(keys, least);
+        first_of(keys)
+    }
+}
