@@ -1,10 +1,12 @@
 -- Complete intervals by the keys at which they begin.
 use Rattle.std.proofs.Common.{◌≡◌, ℕ, ◌<◌, ◌≤◌, ◌==◌, Bool, true, false, cond, not, Option, Some, None, List, [], ◌∷◌, ◌++◌, refl, ap, sym, subst, ◌∙◌, arith, Ordering, Less, Equal, Greater, append_assoc, append-nil}
 use Rattle.std.specs.Prelude.{◌&&◌, ◌||◌, nat_lt, length, IfSome, IfNone, IsSome, ◌↔◌}
-use Rattle.std.specs.List.{All}
-use Rattle.std.specs.Ordering.{nat_cmp, is_gt, match_ordering}
-use Rattle.std.specs.BTreeSet.{BTreeSet, insert_key}
+use Rattle.std.specs.List.{All, list_any, slice_get}
+use Rattle.std.specs.Ordering.{nat_cmp, is_gt, is_eq, match_ordering}
+use Rattle.std.specs.BTreeSet.{BTreeSet, insert_key, IsKeyRangeOf}
+use Rattle.std.specs.BTreeMap.{is_at}
 use Rattle.std.specs.BTreeMap.Range.{IsLeBy}
+use Rattle.std.specs.declared.ops.Bound.TheVariants.{Unbounded, Included}
 use Rattle.std.proofs.lemmas.Bool.{and_parts, eq-eqb}
 use Rattle.std.proofs.lemmas.Bool.Decides.{nat_tests}
 use Rattle.std.proofs.lemmas.List.Elements.{All-head, All-tail}
@@ -60,18 +62,18 @@ at_key true true x h = refl
 at_key true false true h = refl
 at_key true false false h = cc
 
-not_earlier : (a e p x l : Bool) → (e ≡ true → p ≡ false) → (x ≡ true → l ≡ false) → (a && (not p && not x)) ≡ false → ((a && e) && l) ≡ false
+not_earlier : (a e p x l : Bool) → (e ≡ true → p ≡ false) → (e ≡ true → x ≡ true → l ≡ false) → (a && (not p && not x)) ≡ false → ((a && e) && l) ≡ false
 not_earlier false e p x l f g h = refl
 not_earlier true false p x l f g h = refl
 not_earlier true true true x l f g h = absurd (let no = f refl in cc)
-not_earlier true true false true l f g h = g refl
+not_earlier true true false true l f g h = g refl refl
 not_earlier true true false false l f g h = absurd (cc)
 
-not_turned : (a e p x : Bool) → (e ≡ true → p ≡ false) → x ≡ false → (a && (not p && not x)) ≡ false → (a && e) ≡ false
+not_turned : (a e p x : Bool) → (e ≡ true → p ≡ false) → (e ≡ true → x ≡ false) → (a && (not p && not x)) ≡ false → (a && e) ≡ false
 not_turned false e p x f g h = refl
 not_turned true false p x f g h = refl
 not_turned true true true x f g h = absurd (let no = f refl in cc)
-not_turned true true false true f g h = absurd (cc)
+not_turned true true false true f g h = absurd (let no = g refl in cc)
 not_turned true true false false f g h = absurd (cc)
 
 not_lower : (a e l : Bool) → (e ≡ true → l ≡ false) → ((a && e) && l) ≡ false
@@ -87,6 +89,9 @@ reaches r m h = grind (arith, nat_tests)
 
 from_least : (a i m n : ℕ) → m ≤ pair_rank n 0 → (a == n) ≡ true → nat_lt (pair_rank a i) m ≡ false
 from_least a i m n h e = grind (arith, nat_tests)
+
+from_number : (a i n : ℕ) → (a == n) ≡ true → pair_rank n 0 ≤ pair_rank a i
+from_number a i n e = reaches (pair_rank a i) (pair_rank n 0) (from_least a i (pair_rank n 0) n (omega arith) e)
 
 not_less : (k r : ℕ) → k ≤ r → nat_lt r k ≡ false
 not_less k r h = grind (arith, nat_tests)
@@ -139,22 +144,22 @@ module _ {K : Type 0} (number index : K → ℕ) where
   missed_at m n s [] held b = absurd b
   missed_at m n s (d ∷ ds) held b = at_key (is_complete (d ∷ ds)) (nat_lt (rank_of d) m) (is_held rank (rank_of d) s.keys) (subst (λ (j : ℕ). is_held rank j s.keys ≡ true) (sym b) held)
 
-  -- the first key is not above the beginning of a message with the number
-  pub none_earlier : (n k : ℕ) (s : BTreeSet K) (rs : List (List Held)) → ((j : ℕ) → is_held rank j s.keys ≡ true → k ≤ j) → NoneMissed number index (pair_rank n 0) (Some s) rs → NoneEarlier n k rs
+  -- the first key from the number on is not above the beginning of a message with it
+  pub none_earlier : (n k : ℕ) (s : BTreeSet K) (rs : List (List Held)) → ((j : ℕ) → pair_rank n 0 ≤ j → is_held rank j s.keys ≡ true → k ≤ j) → NoneMissed number index (pair_rank n 0) (Some s) rs → NoneEarlier n k rs
   none_earlier n k s rs first h = pass_weaker (is_missed rank (pair_rank n 0) (Some s)) (is_earlier n k) one rs h
     where
       one : (r : List Held) → is_missed rank (pair_rank n 0) (Some s) r ≡ false → is_earlier n k r ≡ false
       one [] h = refl
       one (d ∷ ds) h =
-          not_earlier (is_complete (d ∷ ds)) (d.number == n) (nat_lt (rank_of d) (pair_rank n 0)) (is_held rank (rank_of d) s.keys) (nat_lt (rank_of d) k) (from_least d.number d.index (pair_rank n 0) n (omega arith)) (λ held. not_less k (rank_of d) (first (rank_of d) held)) h
+          not_earlier (is_complete (d ∷ ds)) (d.number == n) (nat_lt (rank_of d) (pair_rank n 0)) (is_held rank (rank_of d) s.keys) (nat_lt (rank_of d) k) (from_least d.number d.index (pair_rank n 0) n (omega arith)) (λ e held. not_less k (rank_of d) (first (rank_of d) (from_number d.number d.index n e) held)) h
 
-  pub none_turned_at : (n : ℕ) (s : BTreeSet K) (rs : List (List Held)) → s.keys ≡ [] → NoneMissed number index (pair_rank n 0) (Some s) rs → NoneInTurn n rs
+  pub none_turned_at : (n : ℕ) (s : BTreeSet K) (rs : List (List Held)) → ((j : ℕ) → pair_rank n 0 ≤ j → is_held rank j s.keys ≡ false) → NoneMissed number index (pair_rank n 0) (Some s) rs → NoneInTurn n rs
   none_turned_at n s rs none h = pass_weaker (is_missed rank (pair_rank n 0) (Some s)) (is_in_turn n) one rs h
     where
       one : (r : List Held) → is_missed rank (pair_rank n 0) (Some s) r ≡ false → is_in_turn n r ≡ false
       one [] h = refl
       one (d ∷ ds) h =
-          not_turned (is_complete (d ∷ ds)) (d.number == n) (nat_lt (rank_of d) (pair_rank n 0)) (is_held rank (rank_of d) s.keys) (from_least d.number d.index (pair_rank n 0) n (omega arith)) (ap (is_held rank (rank_of d)) none) h
+          not_turned (is_complete (d ∷ ds)) (d.number == n) (nat_lt (rank_of d) (pair_rank n 0)) (is_held rank (rank_of d) s.keys) (from_least d.number d.index (pair_rank n 0) n (omega arith)) (λ e. none (rank_of d) (from_number d.number d.index n e)) h
 
   -- no more are missed where only tests that complete runs alone pass stay
   pub none_left : (m : ℕ) (o : Option (BTreeSet K)) (rs new : List (List Held)) → ((test : List Held → Bool) → ((r : List Held) → test r ≡ true → is_complete r ≡ true) → NonePass test rs → NonePass test new) → NoneMissed number index m o rs → NoneMissed number index m o new
@@ -178,18 +183,18 @@ module _ {K : Type 0} (number index : K → ℕ) where
     incomplete_there None off = λ front back r runs held. subst (λ (t : List Held). is_complete t ≡ false) (same front back r runs held) off
     incomplete_there (Some k) off = tt
 
-  -- ---- a search, by which the keys below the number go
+  -- ---- a search, by which keys below the number go, from a rank m on
 
-  module _ (n : ℕ) (now : Option (BTreeSet K)) (s t : BTreeSet K) (is : now ≡ Some s) (kept : (j : ℕ) → pair_rank n 0 ≤ j → is_held rank j s.keys ≡ true → is_held rank j t.keys ≡ true) where
+  module _ (n m : ℕ) (low : m ≤ pair_rank n 0) (now : Option (BTreeSet K)) (s t : BTreeSet K) (is : now ≡ Some s) (kept : (j : ℕ) → m ≤ j → is_held rank j s.keys ≡ true → is_held rank j t.keys ≡ true) where
     pub search_kept : (rs : List (List Held)) → NoneMissed number index (pair_rank n 0) now rs → NoneMissed number index (pair_rank n 0) (Some t) rs
-    search_kept rs h = none_kept (pair_rank n 0) s t rs kept (subst (λ (o : Option (BTreeSet K)). NoneMissed number index (pair_rank n 0) o rs) is h)
+    search_kept rs h = none_kept (pair_rank n 0) s t rs (λ j l. kept j (omega (arith, low, l))) (subst (λ (o : Option (BTreeSet K)). NoneMissed number index (pair_rank n 0) o rs) is h)
 
-    pub search_some : (r : Option K) → IfSome r (λ k. (j : ℕ) → is_held rank j t.keys ≡ true → rank k ≤ j) → IfSome r (λ k. (rs : List (List Held)) → NoneMissed number index (pair_rank n 0) now rs → NoneEarlier n (rank k) rs)
+    pub search_some : (r : Option K) → IfSome r (λ k. (j : ℕ) → m ≤ j → is_held rank j t.keys ≡ true → rank k ≤ j) → IfSome r (λ k. (rs : List (List Held)) → NoneMissed number index (pair_rank n 0) now rs → NoneEarlier n (rank k) rs)
     search_some None first = tt
-    search_some (Some k) first = λ rs h. none_earlier n (rank k) t rs first (search_kept rs h)
+    search_some (Some k) first = λ rs h. none_earlier n (rank k) t rs (λ j l. first j (omega (arith, low, l))) (search_kept rs h)
 
-    pub search_none : (r : Option K) → IfNone r (t.keys ≡ []) → IfNone r ((rs : List (List Held)) → NoneMissed number index (pair_rank n 0) now rs → NoneInTurn n rs)
-    search_none None none = λ rs h. none_turned_at n t rs none (search_kept rs h)
+    pub search_none : (r : Option K) → IfNone r ((j : ℕ) → m ≤ j → is_held rank j t.keys ≡ false) → IfNone r ((rs : List (List Held)) → NoneMissed number index (pair_rank n 0) now rs → NoneInTurn n rs)
+    search_none None none = λ rs h. none_turned_at n t rs (λ j l. none j (omega (arith, low, l))) (search_kept rs h)
     search_none (Some k) none = tt
 
   -- ---- intervals looked at one after the other
@@ -283,16 +288,62 @@ module _ {K : Type 0} (number index : K → ℕ) where
         go Equal is ih = or_left (rank x == rank k) (is_held rank (rank k) xs) (eq-eqb (rank x) (rank k) (is_equal (rank k) (rank x) (sym (by_rank k x p h.0) ∙ is)))
         go Greater is ih = or_right (rank x == rank k) (is_held rank (rank k) (insert_key cmp xs k)) ih
 
-    pub first_least : (ks : List K) → AreKeys is_key ks → All (IsLeBy cmp k) ks → (n : ℕ) → is_held rank n ks ≡ true → rank k ≤ n
-    first_least [] keys all n h = absurd (cc)
-    first_least (x ∷ xs) keys all n h = go (rank x == n) refl h (first_least xs keys.1 (All-tail (IsLeBy cmp k) x xs all) n)
+    -- a key of a rank is one that the set has
+    pub record HasKey (ks : List K) (n : ℕ) : Type 0 where
+      pub key : K
+      pub valid : is_key key
+      pub ranked : rank key ≡ n
+      pub there : list_any (is_at (cmp key)) ks ≡ true
+
+    key_first : (x : K) (xs : List K) (n : ℕ) → is_key x → (rank x == n) ≡ true → HasKey (x ∷ xs) n
+    key_first x xs n q e = record {
+      key = x;
+      valid = q;
+      ranked = equal (rank x) n e;
+      there = or_left (is_at (cmp x) x) (list_any (is_at (cmp x)) xs) (ap is_eq (by_rank x x q q ∙ same (rank x)));
+    }
       where
-        up : rank k ≤ rank x
-        up = not_above (rank k) (rank x) (sym (ap is_gt (by_rank k x p keys.0)) ∙ All-head (IsLeBy cmp k) x xs all)
+        equal : (a b : ℕ) → (a == b) ≡ true → a ≡ b
+        equal a b e = grind (arith, nat_tests)
 
-        upto : (a b c : ℕ) → a ≤ b → (b == c) ≡ true → a ≤ c
-        upto a b c l e = grind (arith, nat_tests)
+        same : (a : ℕ) → nat_cmp a a ≡ Equal
+        same a = grind (arith, nat_tests)
 
-        go : (b : Bool) → (rank x == n) ≡ b → (b || is_held rank n xs) ≡ true → (is_held rank n xs ≡ true → rank k ≤ n) → rank k ≤ n
-        go true is h ih = upto (rank k) (rank x) n up is
-        go false is h ih = ih h
+    key_later : (x : K) (xs : List K) (n : ℕ) → HasKey xs n → HasKey (x ∷ xs) n
+    key_later x xs n h = record { key = h.key; valid = h.valid; ranked = h.ranked; there = or_right (is_at (cmp h.key) x) (list_any (is_at (cmp h.key)) xs) h.there }
+
+    pub has_key : (ks : List K) → AreKeys is_key ks → (n : ℕ) → is_held rank n ks ≡ true → HasKey ks n
+    has_key [] keys n h = absurd (cc)
+    has_key (x ∷ xs) keys n h = go (rank x == n) refl h (has_key xs keys.1 n)
+      where
+        go : (b : Bool) → (rank x == n) ≡ b → (b || is_held rank n xs) ≡ true → (is_held rank n xs ≡ true → HasKey xs n) → HasKey (x ∷ xs) n
+        go true is h ih = key_first x xs n keys.0 is
+        go false is h ih = key_later x xs n (ih h)
+
+    not_below : (a b : ℕ) → a ≤ b → is_gt (nat_cmp a b) ≡ false
+    not_below a b l = grind (arith, nat_tests)
+
+    -- k is the least key that is looked for, x the first one from it on
+    from_key : (x y : K) → is_key x → is_key y → rank x ≤ rank y → is_gt (cmp x y) ≡ false
+    from_key x y q r l = ap is_gt (by_rank x y q r) ∙ not_below (rank x) (rank y) l
+
+    pub first_least : (s : BTreeSet K) (r : List K) (x : K) → AreKeys is_key s.keys → is_key x → IsKeyRangeOf cmp (Included k) Unbounded s r → slice_get r 0 ≡ Some x
+        → (n : ℕ) → rank k ≤ n → is_held rank n s.keys ≡ true → rank x ≤ n
+    first_least s r x keys q range first n low held =
+        let h = has_key s.keys keys n held in
+        let from = from_key k h.key p h.valid (omega (arith, low, h.ranked)) in
+        let least : is_gt (cmp x h.key) ≡ false = subst (λ o. IfSome o (λ j. IsLeBy cmp j h.key)) first (range.2 h.key (from, tt) h.there) in
+        let up = not_above (rank x) (rank h.key) (sym (ap is_gt (by_rank x h.key q h.valid)) ∙ least) in
+        omega (arith, up, h.ranked)
+
+    pub first_none : (s : BTreeSet K) (r : List K) → AreKeys is_key s.keys → IsKeyRangeOf cmp (Included k) Unbounded s r → r ≡ []
+        → (n : ℕ) → rank k ≤ n → is_held rank n s.keys ≡ false
+    first_none s r keys range none n low = go (is_held rank n s.keys) refl
+      where
+        go : (b : Bool) → is_held rank n s.keys ≡ b → b ≡ false
+        go false is = refl
+        go true is =
+            let h = has_key s.keys keys n is in
+            let from = from_key k h.key p h.valid (omega (arith, low, h.ranked)) in
+            let off = range.5 none h.key (from, tt) in
+            absurd (let there = h.there in cc)

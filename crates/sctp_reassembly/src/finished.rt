@@ -16,7 +16,7 @@ use std::marker::Model;
 
 /// The keys at which complete intervals begin, where they are known. Keys of other intervals may be among them.
 ///
-/// A key stays until a search from a later message on. Where memory lacks for a key, none are known.
+/// A key goes with a search from a later message on. Where memory lacks for a key, none are known.
 #[derive(Drop)]
 pub(crate) struct Finished<K: ReassemblyKey> {
     keys: Option<BTreeSet<K>>,
@@ -116,26 +116,37 @@ fn begins_before<K: ReassemblyKey>(keys: &BTreeSet<K>, key: K) -> bool
     }
 }
 
-/// Drops the keys before this one.
-fn drop_before<K: ReassemblyKey>(keys: &mut BTreeSet<K>, key: K)
+/// So many keys go at most with one search: so those of messages that have passed go, and none drops very many.
+const FEW: usize = 4;
+
+/// Drops the first of the keys before this one.
+fn drop_few_before<K: ReassemblyKey>(keys: &mut BTreeSet<K>, key: K)
     requires keys { AreKeys K.is_key keys.old.keys }
     ensures keys { AreKeys K.is_key keys.new.keys }
     ensures kept { (n : ℕ) → rank_at K.number K.index key ≤ n → is_held (rank_at K.number K.index) n keys.old.keys ≡ true → is_held (rank_at K.number K.index) n keys.new.keys ≡ true }
 {
-    while begins_before(keys, key) {
+    for _ in 0..FEW {
+        if !begins_before(keys, key) {
+            return;
+        }
         keys.pop_first();
     }
 }
 
-/// The first key.
-fn first_of<K: ReassemblyKey>(keys: &BTreeSet<K>) -> Option<K>
+/// The first key from this one on.
+fn first_from<K: ReassemblyKey>(keys: &BTreeSet<K>, key: K) -> Option<K>
     requires keys { AreKeys K.is_key keys.now.keys }
-    ensures some { IfSome result (λ k. (n : ℕ) → is_held (rank_at K.number K.index) n keys.now.keys ≡ true → rank_at K.number K.index k ≤ n) }
-    ensures none { IfNone result (keys.now.keys ≡ []) }
+    ensures some { IfSome result (λ k. (n : ℕ) → rank_at K.number K.index key ≤ n → is_held (rank_at K.number K.index) n keys.now.keys ≡ true → rank_at K.number K.index k ≤ n) }
+    ensures none { IfNone result ((n : ℕ) → rank_at K.number K.index key ≤ n → is_held (rank_at K.number K.index) n keys.now.keys ≡ false) }
 {
-    let first = *keys.first()?;
-    first.known();
-    Some(first)
+    key.known();
+    match keys.range(key..).next() {
+        Some(first) => {
+            first.known();
+            Some(*first)
+        }
+        None => None,
+    }
 }
 
 impl<K: ReassemblyKey> Finished<K> {
@@ -190,7 +201,7 @@ impl<K: ReassemblyKey> Finished<K> {
         let Some(keys) = &mut self.keys else {
             return Some(least);
         };
-        drop_before(keys, least);
-        first_of(keys)
+        drop_few_before(keys, least);
+        first_from(keys, least)
     }
 }
