@@ -125,14 +125,10 @@ impl Indexes {
         let part = Totals::of(item, is_interleaved);
         self.totals = self.totals.with_part(part);
         self.last_blocks.take(item.is_acked());
-        self.waiting.follow(
-            place,
-            item.payload_size(),
-            false,
-            item.should_be_retransmitted(),
-        );
-        self.sizes
-            .follow(place, item.payload_size(), item.should_be_retransmitted());
+        let size = item.payload_size();
+        let waits = item.should_be_retransmitted();
+        self.waiting.follow(place, size, false, waits);
+        self.sizes.follow(place, size, waits);
         self.messages.add(item.message_id(), place);
         self.expiries.renew(place, u128::MAX, part.earliest);
         self.quiet.stir(place);

@@ -1,4 +1,4 @@
-use Rattle.std.proofs.Common.{◌≡◌, ◌≤◌, ℕ, arith, false, true, refl, sym, subst, rules}
+use Rattle.std.proofs.Common.{◌≡◌, arith, false, refl, sym, subst, rules}
 use Rattle.sctp_tx_outstanding.specs.OutstandingData.{Outstanding}
 use Rattle.sctp_tx_outstanding.specs.Views.{resent_of}
 use Rattle.sctp_tx_outstanding.specs.Sizes.{NoneFits}

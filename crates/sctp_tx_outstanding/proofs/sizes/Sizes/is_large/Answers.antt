@@ -1,4 +1,4 @@
-use Rattle.std.proofs.Common.{arith, ◌≤◌}
+use Rattle.std.proofs.Common.{arith}
 use Rattle.sctp_tx_outstanding.specs.Sizes.{least_in}
 use Rattle.sctp_tx_outstanding.proofs.SizesLemmas.{exceeds_lem}
 use Rattle.sctp_tx_outstanding.proofs.sizes.Sizes.is_large.Goals as goal

@@ -1,4 +1,4 @@
-use Rattle.std.proofs.Common.{◌<◌, ℕ, inl, inr, ◌≤◌, arith}
+use Rattle.std.proofs.Common.{◌<◌, ℕ, ◌≤◌, arith}
 use Rattle.sctp_tx_outstanding.specs.Runs.{run_of}
 use Rattle.sctp_tx_outstanding.proofs.SizesLemmas.{none_fits_lem}
 use Rattle.sctp_tx_outstanding.proofs.sizes.Sizes.pass_large.Goals as goal
