@@ -106,10 +106,15 @@ fn fill<S: Resends>(
     Ok((first, last, all))
 }
 
+/// Whether the item is small: each one after so many.
+fn is_small(number: u32, every: u32) -> bool {
+    number % every.max(1) == 0
+}
+
 /// Whether the packets take what is wanted, where each item after so many is small, and all others aren't.
 fn take<S: Resends>(sender: &mut S, every: u32, rows: &[Row]) -> Result<bool, AllocError> {
     for number in 1..COUNT + 1 {
-        sender.sends(number % every == 0)?;
+        sender.sends(is_small(number, every))?;
     }
     sender.loses_all()?;
     for (count, room, want) in rows {
@@ -122,7 +127,7 @@ fn take<S: Resends>(sender: &mut S, every: u32, rows: &[Row]) -> Result<bool, Al
 
 fn hold(alloc: Global, every: u32, rows: &[Row]) -> bool {
     let mut sender = fresh(alloc);
-    let outcome = take(&mut sender, every.max(1), rows);
+    let outcome = take(&mut sender, every, rows);
     drop(sender);
     outcome == Ok(true)
 }
