@@ -1,6 +1,6 @@
 //! Tests of the layers below the association that are no rows of a script: numbers that wrap, through their bound, buffers that are used
-//! again, messages of many fragments, SACKs over thousands of items, and sender and receiver in want of memory. Apart, so that each crate
-//! is proved once.
+//! again, messages of many fragments, SACKs over thousands of items, items of mixed sizes that are sent again, and sender and receiver in
+//! want of memory. Apart, so that each crate is proved once.
 #![tactic(auto)]
 
 #[cfg(test)]
@@ -9,6 +9,8 @@ mod long;
 mod receiver;
 #[cfg(test)]
 mod receives;
+#[cfg(test)]
+mod resends;
 #[cfg(test)]
 mod sacks;
 #[cfg(test)]

@@ -8,7 +8,8 @@ use Rattle.sctp_tx_outstanding.specs.declared.item.ItemState.{ItemState}
 use Rattle.sctp_tx_outstanding.specs.declared.item.ItemState.TheVariants.{InFlight, Missing, Queued, QueuedFast, Acked, GivenUp}
 use Rattle.sctp_tx_outstanding.specs.declared.outstanding_data.Turn.TheVariants.{Send, PassOver, Leave}
 use Rattle.sctp_tx_outstanding.specs.Item.{Item, waits, waits_fast, should_be_retransmitted, chunk_size}
-use Rattle.sctp_tx_outstanding.specs.Resending.{Resent, size_in, allowance, IsFull, turn_of, apply_turn, step_at, resent_below}
+use Rattle.sctp_tx_outstanding.specs.Resending.{Resent, size_in, allowance, IsFull, AreLeft, turn_of, apply_turn, step_at, resent_below}
+use Rattle.sctp_tx_outstanding.specs.Sizes.{ExceedsOf, NoneFits}
 use Rattle.sctp_tx_outstanding.specs.Waiting.{waits_at, NoneWaits}
 
 idle : (k : ℕ) (is : List Item) (i : Item) → waits_at k is ≡ false → slice_get is k ≡ Some i → waits i.state ≡ false
@@ -106,3 +107,30 @@ less_than a b size e h = grind (arith, nat_tests, e, h)
 -- what is known of the least one is enough
 pub is_full_lem : (x : Resent) (size : ℕ) → allowance x < size → All (λ i. should_be_retransmitted i ≡ true → size ≤ chunk_size x.outstanding.items.is_interleaved i) x.outstanding.items.kept → IsFull x
 is_full_lem x size less h = full_all x x.outstanding.items.is_interleaved size x.outstanding.items.kept refl less h
+
+-- ---- items that don't fit
+
+left_more : (fast : Bool) (x : Resent) (more p n : ℕ) → n ≡ more + p → AreLeft fast p n (resent_below fast p x) → resent_below fast n x ≡ resent_below fast p x
+left_more fast x zero p n e h =
+    let same : n ≡ p = omega (arith, e) in
+    ap (λ k. resent_below fast k x) same
+left_more fast x (suc more) p n e h =
+    let is_next : n ≡ suc (more + p) = omega (arith, e) in
+    let now = resent_below fast p x in
+    let ih = left_more fast x more p (more + p) refl (λ k above below. h k above (omega (arith, below, e))) in
+    ap (λ k. resent_below fast k x) is_next ∙ ap (λ (y : Resent). step_at fast (more + p) y) ih
+    ∙ ap (λ t. apply_turn t (more + p) now) (h (more + p) (omega arith) (omega (arith, e)))
+
+-- up to the next item that may be sent nothing changes
+pub left_at : (fast : Bool) (x now : Resent) (p n : ℕ) → now ≡ resent_below fast p x → p ≤ n → AreLeft fast p n now → now ≡ resent_below fast n x
+left_at fast x now p n e le h =
+    e ∙ sym (left_more fast x (n - p) p n (omega (arith, le)) (subst (λ (y : Resent). AreLeft fast p n y) e h))
+
+left_of : (x : Resent) (m : Bool) (allowed : ℕ) (o : Option Item) → m ≡ x.outstanding.items.is_interleaved → allowed ≡ allowance x → ExceedsOf m allowed o → turn_of false o x ≡ Leave
+left_of x m allowed None e a h = refl
+left_of x m allowed (Some i) e a h =
+    ap (λ b. cond b Send Leave) (stays_out (should_be_retransmitted i) (allowance x) (size_in x i) (λ w. omega (arith, h w, a, ap (λ b. chunk_size b i) e)))
+
+-- what is known of the sizes is enough
+pub are_left : (x : Resent) (m : Bool) (allowed p n : ℕ) → m ≡ x.outstanding.items.is_interleaved → allowed ≡ allowance x → NoneFits m allowed p n x.outstanding.items.kept → AreLeft false p n x
+are_left x m allowed p n e a h = λ k above below. left_of x m allowed (slice_get x.outstanding.items.kept k) e a (h k above below)

@@ -18,6 +18,7 @@ pub mod QuietLemmas
 pub mod RecordLemmas
 pub mod RoomLemmas
 pub mod SackLemmas
+pub mod SizesLemmas
 pub mod EmittingLemmas
 pub mod TotalsLemmas
 pub mod TouchedLemmas

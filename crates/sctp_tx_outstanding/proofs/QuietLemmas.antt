@@ -13,7 +13,8 @@ use Rattle.sctp_tx_outstanding.specs.declared.kept.Change.{Change}
 use Rattle.sctp_tx_outstanding.specs.Change.{apply_change}
 use Rattle.sctp_tx_outstanding.specs.Totals.{Exchanges}
 use Rattle.sctp_tx_outstanding.proofs.WaitingLemmas.{false_from_none}
-use Rattle.sctp_tx_outstanding.specs.Quiet.{flies_of, flies_at, NoneFlies, is_quiet_run, run_of, AreQuiet, StillBut}
+use Rattle.sctp_tx_outstanding.specs.Quiet.{flies_of, flies_at, NoneFlies, is_quiet_run, AreQuiet, StillBut}
+use Rattle.sctp_tx_outstanding.specs.Runs.{run_of}
 use Rattle.sctp_tx_outstanding.proofs.ReceivedLemmas.{nack_still}
 use Rattle.sctp_tx_outstanding.proofs.LossesLemmas.{or_false}
 

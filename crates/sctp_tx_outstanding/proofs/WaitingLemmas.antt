@@ -137,6 +137,15 @@ queued_is t u e = ap (λ (x : Totals). nat_lt 0 x.queued) e
 queued_of_lem : (m : Bool) (i : Item) (t : Totals) → t ≡ parts m i → should_be_retransmitted i ≡ nat_lt 0 t.queued
 queued_of_lem m i t e = sym (one_of (should_be_retransmitted i) t.queued (ap (λ (x : Totals). x.queued) e))
 
+-- one that waits then, and by which no more wait, waited before
+pub waits_before : (m : Bool) (x : Change) (i : Item) (old new : Totals) → old ≡ parts m i → new ≡ parts m (apply_change x i) → new.queued ≤ old.queued → should_be_retransmitted (apply_change x i) ≡ true → should_be_retransmitted i ≡ true
+waits_before m x i old new a b less w = more (should_be_retransmitted i) (should_be_retransmitted (apply_change x i)) (omega (arith, less, ap (λ (t : Totals). t.queued) a, ap (λ (t : Totals). t.queued) b)) w
+  where
+    more : (p q : Bool) → when q 1 ≤ when p 1 → q ≡ true → p ≡ true
+    more true q le e = refl
+    more false true le e = absurd (omega (arith, le))
+    more false false le e = e
+
 module _ (m : Bool) (x : Change) where
   before_at : (p : ℕ) (is : List Item) (old new : Totals) → Exchanges m p x is old new → (k : ℕ) → waits_at k is ≡ cond (k == p) (nat_lt 0 old.queued) (waits_at k is)
   before_at p [] old new h k = nowhere (k == p) (nat_lt 0 old.queued) (queued_is old nothing h.0)
@@ -350,7 +359,7 @@ none_small least (i ∷ is) h =
 padded : (a b : ℕ) → a ≤ b → (a + 3) / 4 * 4 ≤ (b + 3) / 4 * 4
 padded a b le = omega (arith, le)
 
-chunk_at_least : (m : Bool) (least size : ℕ) (i : Item) → size ≤ least → IsAtLeast least i → should_be_retransmitted i ≡ true → (header_size m + size + 3) / 4 * 4 ≤ chunk_size m i
+pub chunk_at_least : (m : Bool) (least size : ℕ) (i : Item) → size ≤ least → IsAtLeast least i → should_be_retransmitted i ≡ true → (header_size m + size + 3) / 4 * 4 ≤ chunk_size m i
 chunk_at_least m least size i le h = λ t. padded (header_size m + size) (header_size m + length i.fragment.payload) (omega (arith, le, h t))
 
 pub chunks_at_least : (m : Bool) (least size : ℕ) (is : List Item) → size ≤ least → All (IsAtLeast least) is → All (λ i. should_be_retransmitted i ≡ true → (header_size m + size + 3) / 4 * 4 ≤ chunk_size m i) is

@@ -7,6 +7,7 @@ use Rattle.sctp_tx_outstanding.specs.LastBlocks.{Knows}
 use Rattle.sctp_tx_outstanding.specs.Messages.{Finds}
 use Rattle.sctp_tx_outstanding.specs.Passed.{IsPassed}
 use Rattle.sctp_tx_outstanding.specs.Quiet.{IsQuiet}
+use Rattle.sctp_tx_outstanding.specs.Sizes.{HasSizes}
 use Rattle.sctp_tx_outstanding.specs.Totals.{AreTotals}
 use Rattle.sctp_tx_outstanding.specs.Waiting.{Lists}
 
@@ -15,6 +16,7 @@ pub record AreIndexes (is_interleaved : Bool) (is : List Item) (x : Indexes) : T
   pub totals : AreTotals is_interleaved is x.totals
   pub last_blocks : Knows x.last_blocks is
   pub waiting : Lists x.waiting is
+  pub sizes : HasSizes x.sizes is
   pub messages : Finds x.messages is
   pub expiries : Expects x.expiries is
   pub quiet : IsQuiet x.quiet is

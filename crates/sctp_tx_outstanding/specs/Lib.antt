@@ -19,7 +19,9 @@ pub mod Point
 pub mod Quiet
 pub mod Records
 pub mod Resending
+pub mod Runs
 pub mod Sack
+pub mod Sizes
 pub mod Totals
 pub mod Touched
 pub mod Views

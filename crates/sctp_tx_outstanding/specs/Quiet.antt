@@ -1,7 +1,8 @@
 -- Whether items are outstanding, so that those that aren't needn't be looked at.
-use Rattle.std.specs.Prelude.{◌≡◌, ℕ, ◌+◌, ◌/◌, ◌<◌, ◌≤◌, Bool, true, false, Option, Some, None, List, slice_get, unwrap_or}
+use Rattle.std.specs.Prelude.{◌≡◌, ℕ, ◌<◌, ◌≤◌, Bool, true, false, Option, Some, None, List, slice_get, unwrap_or}
 use Rattle.sctp_tx_outstanding.specs.declared.quiet.Quiet.{Quiet}
 use Rattle.sctp_tx_outstanding.specs.Item.{Item, is_outstanding}
+use Rattle.sctp_tx_outstanding.specs.Runs.{run_of}
 
 abbrev pub flies_of : Option Item → Bool
 flies_of None = false
@@ -20,10 +21,6 @@ NoneFlies from to is = (k : ℕ) → from ≤ k → k < to → flies_at k is ≡
 -- whether it is known of a run that none of its items is outstanding
 abbrev pub is_quiet_run : List Bool → ℕ → Bool
 is_quiet_run runs n = unwrap_or (slice_get runs n) false
-
--- the run of the item at the place
-abbrev pub run_of : (offset place : ℕ) → ℕ
-run_of offset place = (offset + place) / 64
 
 -- what is known is so
 abbrev pub AreQuiet : (runs : List Bool) (offset : ℕ) → List Item → Type 0

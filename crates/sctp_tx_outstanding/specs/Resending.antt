@@ -1,5 +1,5 @@
 -- Items that are sent again (RFC 9260 sections 7.2.4 and 6.3.3).
-use Rattle.std.specs.Prelude.{◌≡◌, ℕ, zero, suc, ◌+◌, ◌-◌, ◌<◌, ◌==◌, ◌&&◌, nat_le, min, Bool, true, if◌then◌else◌, Option, Some, None, List, [], ◌∷◌, ◌++◌, length, slice_get}
+use Rattle.std.specs.Prelude.{◌≡◌, ℕ, zero, suc, ◌+◌, ◌-◌, ◌<◌, ◌≤◌, ◌==◌, ◌&&◌, nat_le, min, Bool, true, if◌then◌else◌, Option, Some, None, List, [], ◌∷◌, ◌++◌, length, slice_get}
 use Rattle.std.specs.List.{sum_by, All}
 use Rattle.sctp_chunk.specs.Chunk.{FragmentTree}
 use Rattle.sctp_tx_outstanding.specs.declared.outstanding_data.Turn.{Turn}
@@ -64,6 +64,10 @@ turn_of fast (Some i) x = if fast then fast_turn i x else queued_turn i x
 
 abbrev pub turn_at : (fast : Bool) → ℕ → Resent → Turn
 turn_at fast k x = turn_of fast (slice_get x.outstanding.items.kept k) x
+
+-- each item from one place up to another is left as it is
+abbrev pub AreLeft : (fast : Bool) (from to : ℕ) → Resent → Type 0
+AreLeft fast from to x = (k : ℕ) → from ≤ k → k < to → turn_at fast k x ≡ Leave
 
 abbrev pub apply_turn : Turn → ℕ → Resent → Resent
 apply_turn Send k x = again_at k x

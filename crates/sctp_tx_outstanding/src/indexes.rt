@@ -10,6 +10,7 @@ ghost use Rattle.sctp_tx_outstanding.specs.declared.kept.Change.{Change};
 ghost use Rattle.sctp_tx_outstanding.specs.Totals.{Exchanges};
 ghost use Rattle.sctp_tx_outstanding.specs.Waiting.{HasSize, Lists};
 ghost use Rattle.sctp_tx_outstanding.specs.Quiet.{IsQuiet};
+ghost use Rattle.sctp_tx_outstanding.specs.Sizes.{HasSizes};
 ghost use Rattle.sctp_tx_outstanding.specs.Indexes.{AreIndexes};
 
 use crate::expiries::Expiries;
@@ -19,6 +20,7 @@ use crate::last_blocks::LastBlocks;
 use crate::messages::Messages;
 use crate::passed::Passed;
 use crate::quiet::Quiet;
+use crate::sizes::Sizes;
 use crate::totals::Totals;
 use crate::waiting::Waiting;
 use std::alloc::Global;
@@ -31,6 +33,7 @@ pub struct Indexes {
     pub totals: Totals,
     pub last_blocks: LastBlocks,
     pub waiting: Waiting,
+    pub sizes: Sizes,
     pub messages: Messages,
     pub expiries: Expiries,
     pub quiet: Quiet,
@@ -69,6 +72,18 @@ fn follow_waiting(
     waiting.count(queued);
 }
 
+/// The item at the place changed, by which one part of the totals came for another: it may wait now.
+#[inline(always)]
+fn follow_sizes(sizes: &mut Sizes, items: &VecDeque<Item>, place: usize, old: Totals, new: Totals)
+    ensures { (m : Bool) (how : Change) (is : List Item) → items.now.items ≡ change_at place (apply_change how) is → Exchanges m place how is old new
+        → HasSizes sizes.old is → HasSizes sizes.new items.now.items }
+{
+    if new.queued <= old.queued {
+        return;
+    }
+    sizes.follow(place, payload_at(items, place), true);
+}
+
 /// The item at the place changed, by which one part of the totals came for another: it may be outstanding now.
 #[inline(always)]
 fn follow_quiet(quiet: &mut Quiet, place: usize, old: Totals, new: Totals)
@@ -90,6 +105,7 @@ impl Indexes {
             totals: Totals::nothing(),
             last_blocks: LastBlocks::new(alloc),
             waiting: Waiting::new(alloc),
+            sizes: Sizes::new(alloc),
             messages: Messages::new(alloc),
             expiries: Expiries::new(alloc),
             quiet: Quiet::new(alloc),
@@ -109,12 +125,10 @@ impl Indexes {
         let part = Totals::of(item, is_interleaved);
         self.totals = self.totals.with_part(part);
         self.last_blocks.take(item.is_acked());
-        self.waiting.follow(
-            place,
-            item.payload_size(),
-            false,
-            item.should_be_retransmitted(),
-        );
+        let size = item.payload_size();
+        let waits = item.should_be_retransmitted();
+        self.waiting.follow(place, size, false, waits);
+        self.sizes.follow(place, size, waits);
         self.messages.add(item.message_id(), place);
         self.expiries.renew(place, u128::MAX, part.earliest);
         self.quiet.stir(place);
@@ -131,6 +145,7 @@ impl Indexes {
         self.totals = self.totals.without_part(part);
         self.last_blocks.pass();
         self.waiting.pass(item.should_be_retransmitted());
+        self.sizes.pass();
         self.messages.leave(item.message_id());
         self.expiries.leave(part.earliest);
         self.quiet.pass();
@@ -162,6 +177,7 @@ impl Indexes {
             new,
             self.totals.queued,
         );
+        follow_sizes(&mut self.sizes, items, place, old, new);
         self.expiries.renew(place, old.earliest, new.earliest);
         follow_quiet(&mut self.quiet, place, old, new);
     }

@@ -15,6 +15,7 @@ ghost use Rattle.sctp_tx_outstanding.specs.Sack.{all_leaving_events, open_size};
 ghost use Rattle.sctp_tx_outstanding.specs.Messages.{Finds, NoneIsOf};
 ghost use Rattle.sctp_tx_outstanding.specs.Quiet.{NoneFlies};
 ghost use Rattle.sctp_tx_outstanding.specs.Waiting.{NoneWaits};
+ghost use Rattle.sctp_tx_outstanding.specs.Sizes.{NoneFits};
 ghost use Rattle.sctp_state.specs.Events.{emit_events, Grown};
 
 mod handover;
@@ -397,6 +398,18 @@ impl Kept {
         ensures { self.new ≡ self.old }
     {
         self.indexes.waiting.renew_least(&self.items);
+    }
+
+    /// A place from this one on, to which a walk came from another, up to which no item that waits has a chunk of so few bytes.
+    pub(crate) fn pass_large(&mut self, from: usize, place: usize, allowed: usize) -> usize
+        ensures same { self.new ≡ self.old }
+        ensures onward { place ≤ result }
+        ensures none { NoneFits self.old.is_interleaved allowed place result self.old.items }
+    {
+        let is_interleaved = self.is_interleaved;
+        let sizes = &mut self.indexes.sizes;
+        sizes.enter(&self.items, from, place, allowed, is_interleaved);
+        sizes.pass_large(place, allowed, is_interleaved)
     }
 
     /// Takes out what is known of the last SACK's blocks.

@@ -1,9 +1,10 @@
 //! Runs of items of which none is outstanding.
 
 ghost use Rattle.std.specs.Prelude.{◌≡◌, ℕ, ◌+◌, ◌<◌, ◌≤◌, ◌^◌};
-ghost use Rattle.sctp_tx_outstanding.specs.Quiet.{run_of, is_quiet_run, NoneFlies, IsQuiet, flies_at};
+ghost use Rattle.sctp_tx_outstanding.specs.Quiet.{is_quiet_run, NoneFlies, IsQuiet, flies_at};
 
 use crate::item::Item;
+use crate::runs::{begin_of, end_of, run_of};
 use std::alloc::Global;
 use std::collections::VecDeque;
 
@@ -57,6 +58,7 @@ fn list_runs(runs: &mut VecDeque<bool>, count: usize)
 impl Quiet {
     ghost use Rattle.std.specs.Prelude.{◌∷◌, [], List, true, false};
     ghost use Rattle.sctp_tx_outstanding.specs.Item.{Item};
+    ghost use Rattle.sctp_tx_outstanding.specs.Runs.{run_of};
     ghost use Rattle.sctp_tx_outstanding.specs.Quiet.{StillBut};
 
     /// No items. Takes no memory.
@@ -69,18 +71,11 @@ impl Quiet {
         }
     }
 
-    /// The run of the item at the place.
-    fn run_of(&self, place: usize) -> usize
-        ensures { result ≡ run_of self.now.offset place }
-    {
-        place / 64 + (self.offset as usize + place % 64) / 64
-    }
-
     /// The item at the place may be outstanding now.
     pub fn stir(&mut self, place: usize)
         ensures { (is js : List Item) → StillBut place is js → IsQuiet self.old is → IsQuiet self.new js }
     {
-        let run = self.run_of(place);
+        let run = run_of(self.offset, place);
         let Some(is_quiet) = self.runs.get_mut(run) else {
             return;
         };
@@ -120,23 +115,6 @@ impl Quiet {
         next
     }
 
-    /// The place of the run's first item, at most `usize::MAX`.
-    fn begin_of(&self, run: usize) -> usize
-        ensures { (k : ℕ) → k < result → run_of self.now.offset k < run }
-    {
-        run.saturating_mul(64).saturating_sub(self.offset as usize)
-    }
-
-    /// The place behind the run of the item at the place.
-    fn end_of(&self, place: usize) -> usize
-        requires { place < 2 ^ 62 }
-        ensures onward { place ≤ result }
-        ensures inside { (k : ℕ) → place ≤ k → k < result → run_of self.now.offset k ≡ run_of self.now.offset place }
-        ensures behind { (k : ℕ) → result ≤ k → run_of self.now.offset place < run_of self.now.offset k }
-    {
-        place + (64 - (self.offset as usize + place % 64) % 64)
-    }
-
     /// Whether the item at the place is the first of its run.
     fn begins(&self, place: usize) -> bool
         ensures { result ≡ true → (k : ℕ) → k < place → run_of self.now.offset k < run_of self.now.offset place }
@@ -166,11 +144,11 @@ impl Quiet {
         if place >= items.len().min(1 << 62) {
             return place;
         }
-        let run = self.run_of(place);
+        let run = run_of(self.offset, place);
         if self.is_quiet(run) {
-            return self.begin_of(self.next_unknown(run)).max(place);
+            return begin_of(self.offset, self.next_unknown(run)).max(place);
         }
-        let end = self.end_of(place);
+        let end = end_of(self.offset, place);
         let next = first_flight(items, place, end);
         if next < end || !self.begins(place) {
             return next;

@@ -32,7 +32,7 @@ pub(crate) fn put(numbers: &mut BTreeSet<u64>, number: u64, waits: bool) -> bool
 }
 
 /// A bound of the sizes, if one more waits.
-fn lesser(least: usize, waits: bool, size: usize) -> usize
+pub(crate) fn lesser(least: usize, waits: bool, size: usize) -> usize
     ensures less { result ≤ least }
     ensures size { waits ≡ true → result ≤ size }
 {

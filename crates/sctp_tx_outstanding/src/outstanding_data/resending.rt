@@ -4,7 +4,7 @@ ghost use Rattle.std.specs.Prelude.{◌≡◌, ◌≤◌, nat_lt, length, map, t
 ghost use Rattle.sctp_tx_outstanding.specs.Views.{resent_of, chunk_of};
 ghost use Rattle.sctp_tx_outstanding.specs.OutstandingData.{number_of};
 ghost use Rattle.sctp_tx_outstanding.specs.Sack.{is_open_at};
-ghost use Rattle.sctp_tx_outstanding.specs.Resending.{again_at, allowance, waiting_for, turn_at, step_at, resent_below, resend, empty_packet, chunk_bytes, IsFull, SomeResent};
+ghost use Rattle.sctp_tx_outstanding.specs.Resending.{again_at, allowance, waiting_for, turn_at, step_at, resent_below, resend, empty_packet, chunk_bytes, IsFull, AreLeft, SomeResent};
 
 use crate::item::copy_of;
 use crate::kept::Change;
@@ -120,6 +120,20 @@ impl OutstandingData {
         self.allowed(filling) < self.kept.least_waiting()
     }
 
+    /// A place from this one on, to which a walk came from another, up to which no item may be sent, for all that is known of
+    /// their sizes. For the fast packet it is this one.
+    fn pass_large(&mut self, from: usize, place: usize, fast: bool, filling: &Filling) -> usize
+        ensures same { self.new ≡ self.old }
+        ensures onward { place ≤ result }
+        ensures left { AreLeft fast place result (resent_of self.old filling.now) }
+    {
+        if fast {
+            return place;
+        }
+        let allowed = self.allowed(filling);
+        self.kept.pass_large(from, place, allowed)
+    }
+
     /// Where each item that waits had its turn, looks how small those are that don't fit: until one does, none is looked at
     /// again.
     fn see_left(&mut self, filling: &Filling)
@@ -149,8 +163,13 @@ impl OutstandingData {
             if count <= next {
                 return Ok(());
             }
-            self.take_turn(next, fast, filling)?;
-            place = next + 1;
+            let end = self.pass_large(place, next, fast, filling);
+            if next < end {
+                place = end.min(count);
+            } else {
+                self.take_turn(next, fast, filling)?;
+                place = next + 1;
+            }
         }
         Ok(())
     }

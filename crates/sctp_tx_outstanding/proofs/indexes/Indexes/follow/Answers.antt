@@ -29,6 +29,7 @@ returns c = λ m is changed parts before.
       totals = totals;
       last_blocks = subst (λ (xs : List Item). Knows c.see.new.self xs) (sym changed) (c.see.ensures k is before.last_blocks);
       waiting = c.follow_waiting.ensures m how is changed parts totals.queued before.waiting;
+      sizes = c.follow_sizes.ensures m how is changed parts before.sizes;
       messages = subst (λ (xs : List Item). Finds c.args.self.now.messages xs) (sym changed) (finds_changed c.args.self.now.messages how k is before.messages);
       expiries = subst (λ (xs : List Item). Expects c.renew.new.self xs) (sym changed) (c.renew.ensures is js (moves_changed m how k is old new parts) before.expiries);
       passed = subst (λ (xs : List Item). IsPassed m xs c.args.self.now.passed) (sym changed)

@@ -6,8 +6,9 @@ returns c = λ m. record {
   totals = search rules;
   last_blocks = search rules;
   waiting = search rules;
+  sizes = search rules;
   messages = search rules;
   expiries = search rules;
   quiet = search rules;
-  passed = c.new-6.ensures m;
+  passed = c.new-7.ensures m;
 }

@@ -22,8 +22,9 @@ returns c =
         c.pass-2.ensures.index i is (sym c.should_be_retransmitted.ensures) c.requires.waiting.0,
         subst (λ l. All (IsAtLeast l) is) (sym c.pass-2.ensures.least) (All-tail (IsAtLeast old.waiting.least) i is c.requires.waiting.1),
       );
+      sizes = c.pass-3.ensures i is c.requires.sizes;
       messages = c.leave.ensures i is (sym c.message_id.ensures) c.requires.messages;
       expiries = c.leave-2.ensures i is (sym (ap (λ (t : Totals). t.earliest) c.of-part.ensures)) c.requires.expiries;
-      quiet = c.pass-3.ensures i is c.requires.quiet;
+      quiet = c.pass-4.ensures i is c.requires.quiet;
       passed = c.leave-3.ensures m i is c.requires.passed;
     }

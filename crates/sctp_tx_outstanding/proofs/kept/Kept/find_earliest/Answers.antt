@@ -16,6 +16,7 @@ invariant_of-self c =
       };
       last_blocks = before.last_blocks;
       waiting = before.waiting;
+      sizes = before.sizes;
       messages = before.messages;
       expiries = c.expect_all.ensures;
       quiet = before.quiet;

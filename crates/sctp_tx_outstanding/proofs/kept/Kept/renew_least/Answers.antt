@@ -7,6 +7,7 @@ invariant_of-self c =
       totals = old.totals;
       last_blocks = old.last_blocks;
       waiting = c.renew_least.ensures old.waiting;
+      sizes = old.sizes;
       messages = old.messages;
       expiries = old.expiries;
       quiet = old.quiet;

@@ -1,6 +1,7 @@
 use Rattle.std.proofs.Common.{◌≡◌, ℕ, true, false, inl, inr, arith, rules}
 use Rattle.std.proofs.lemmas.Bool.{cases_lt}
-use Rattle.sctp_tx_outstanding.specs.Quiet.{flies_at, run_of}
+use Rattle.sctp_tx_outstanding.specs.Quiet.{flies_at}
+use Rattle.sctp_tx_outstanding.specs.Runs.{run_of}
 use Rattle.sctp_tx_outstanding.proofs.quiet.Quiet.next_flight.Goals as goal
 
 pub returns-clause-kept : goal.returns-clause-kept

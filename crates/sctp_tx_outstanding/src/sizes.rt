@@ -1,0 +1,192 @@
+//! How small the payloads of the items are that wait to be sent again, by runs, so that those of which none fits are passed over.
+
+ghost use Rattle.std.specs.Prelude.{◌≡◌, ℕ, ◌<◌, ◌≤◌, ◌^◌, true};
+ghost use Rattle.sctp_tx_outstanding.specs.Sizes.{IsLargeAt, least_in, HasSizes};
+
+use crate::item::{Item, padded_size};
+use crate::runs::{begin_of, end_of, run_of};
+use crate::waiting::lesser;
+use std::alloc::Global;
+use std::collections::VecDeque;
+
+/// How small the payloads of the items of a run are that wait.
+#[derive(Drop)]
+pub struct Sizes {
+    /// No item of a run that waits has a smaller payload, from the first item's run on. Of those behind nothing is known.
+    pub runs: VecDeque<usize>,
+    /// The first item's place in its run.
+    pub offset: u8,
+}
+
+/// A bound of the payloads before, with the one at the place if it waits.
+fn least_at(items: &VecDeque<Item>, place: usize, least: usize) -> usize
+    ensures less { result ≤ least }
+    ensures here { IsLargeAt result place items.now.items }
+{
+    match items.get(place) {
+        Some(item) => lesser(least, item.should_be_retransmitted(), item.payload_size()),
+        None => least,
+    }
+}
+
+/// The least payload of the items that wait from one place up to another, or `usize::MAX`.
+fn least_between(items: &VecDeque<Item>, from: usize, to: usize) -> usize
+    ensures { (k : ℕ) → from ≤ k → k < to → IsLargeAt result k items.now.items }
+{
+    let mut least = usize::MAX;
+    let mut place = from;
+    while place < to {
+        least = least_at(items, place, least);
+        place += 1;
+    }
+    least
+}
+
+/// So many runs are listed, if there is memory for them.
+fn list_runs(runs: &mut VecDeque<usize>, count: usize)
+    ensures { (n : ℕ) → least_in runs.new.items n ≡ least_in runs.old.items n }
+{
+    for _ in runs.len()..count {
+        if runs.push_back(0).is_err() {
+            return;
+        }
+    }
+}
+
+/// Whether the item at the place has a chunk of more bytes.
+fn exceeds(items: &VecDeque<Item>, place: usize, allowed: usize, is_interleaved: bool) -> bool {
+    match items.get(place) {
+        Some(item) => allowed < item.chunk_size(is_interleaved),
+        None => false,
+    }
+}
+
+impl Sizes {
+    ghost use Rattle.std.specs.Prelude.{◌+◌, ◌∷◌, [], Bool, List};
+    ghost use Rattle.sctp_tx_outstanding.specs.Item.{Item};
+    ghost use Rattle.sctp_tx_outstanding.specs.Runs.{run_of};
+    ghost use Rattle.sctp_tx_outstanding.specs.Waiting.{IsAtLeast};
+    ghost use Rattle.sctp_tx_outstanding.specs.Sizes.{Resizes, Exceeds, NoneFits};
+
+    /// No items. Takes no memory.
+    pub fn new(alloc: Global) -> Sizes
+        ensures { HasSizes result [] }
+    {
+        Sizes {
+            runs: VecDeque::new(alloc),
+            offset: 0,
+        }
+    }
+
+    /// The item at the place, whose payload has `size` bytes, waits or not.
+    pub fn follow(&mut self, place: usize, size: usize, waits: bool)
+        ensures { (is js : List Item) → Resizes place size waits is js → HasSizes self.old is → HasSizes self.new js }
+    {
+        if !waits {
+            return;
+        }
+        let run = run_of(self.offset, place);
+        let Some(least) = self.runs.get_mut(run) else {
+            return;
+        };
+        *least = size.min(*least);
+    }
+
+    /// The first item leaves.
+    pub fn pass(&mut self)
+        ensures { (i : Item) (is : List Item) → HasSizes self.old (i ∷ is) → HasSizes self.new is }
+    {
+        if self.offset < 63 {
+            self.offset += 1;
+            return;
+        }
+        self.offset = 0;
+        self.runs.pop_front();
+    }
+
+    /// How many bytes the payloads of the run's items have at least, if they wait.
+    fn least_in(&self, run: usize) -> usize
+        ensures { result ≡ least_in self.now.runs.items run }
+    {
+        match self.runs.get(run) {
+            Some(least) => *least,
+            None => 0,
+        }
+    }
+
+    /// Whether it is known that each chunk of the run's items that wait has more bytes.
+    fn is_large(&self, run: usize, allowed: usize, is_interleaved: bool) -> bool
+        ensures { result ≡ true → (i : Item) → IsAtLeast (least_in self.now.runs.items run) i → Exceeds is_interleaved allowed i }
+    {
+        allowed < padded_size(self.least_in(run).min(1 << 32), is_interleaved)
+    }
+
+    /// The first run from this one on of which that isn't known.
+    fn next_small(&self, run: usize, allowed: usize, is_interleaved: bool) -> usize
+        ensures { (n : ℕ) (i : Item) → run ≤ n → n < result → IsAtLeast (least_in self.now.runs.items n) i → Exceeds is_interleaved allowed i }
+    {
+        let mut next = run;
+        while next < self.runs.len() && self.is_large(next, allowed, is_interleaved) {
+            next += 1;
+        }
+        next
+    }
+
+    /// The items of a run that wait have payloads of so many bytes.
+    fn settle(&mut self, run: usize, least: usize)
+        requires { run + 1 < 2 ^ 64 }
+        ensures { (is : List Item) → ((k : ℕ) → run_of self.old.offset k ≡ run → IsLargeAt least k is) → HasSizes self.old is → HasSizes self.new is }
+    {
+        list_runs(&mut self.runs, run + 1);
+        let Some(known) = self.runs.get_mut(run) else {
+            return;
+        };
+        *known = least;
+    }
+
+    /// Looks how small the items are that wait in the run of the item at the place.
+    fn renew(&mut self, items: &VecDeque<Item>, place: usize)
+        requires { place < 2 ^ 62 }
+        ensures { HasSizes self.old items.now.items → HasSizes self.new items.now.items }
+    {
+        let run = run_of(self.offset, place);
+        let begin = begin_of(self.offset, run);
+        let end = end_of(self.offset, place);
+        let least = least_between(items, begin, end);
+        self.settle(run, least);
+    }
+
+    /// A walk came from one place to the next item that waits: where it enters that one's run and the item doesn't fit, looks
+    /// how small those of the run are.
+    pub fn enter(
+        &mut self,
+        items: &VecDeque<Item>,
+        from: usize,
+        place: usize,
+        allowed: usize,
+        is_interleaved: bool,
+    )
+        ensures { HasSizes self.old items.now.items → HasSizes self.new items.now.items }
+    {
+        let run = run_of(self.offset, place);
+        if begin_of(self.offset, run) < from || place >= 1 << 62 {
+            return;
+        }
+        if self.is_large(run, allowed, is_interleaved) {
+            return;
+        }
+        if exceeds(items, place, allowed, is_interleaved) {
+            self.renew(items, place);
+        }
+    }
+
+    /// A place from this one on up to which no item that waits has a chunk of so few bytes: where a run begins, or this one.
+    pub fn pass_large(&self, place: usize, allowed: usize, is_interleaved: bool) -> usize
+        ensures onward { place ≤ result }
+        ensures none { (is : List Item) → HasSizes self.now is → NoneFits is_interleaved allowed place result is }
+    {
+        let run = run_of(self.offset, place);
+        let next = self.next_small(run, allowed, is_interleaved);
+        begin_of(self.offset, next).max(place)
+    }
+}
