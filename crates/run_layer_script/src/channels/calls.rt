@@ -55,14 +55,15 @@ fn call_noted(
     id: StreamId,
     size: usize,
 ) -> bool {
-    match name {
-        "negotiate" => output.note(channels.negotiate(id, description(output.alloc))),
-        "buffered" => output.note(channels.drain(id, size)),
-        "performed" => output.note(channels.on_reset_performed(id)),
-        "denied" => output.note(channels.on_reset_denied(id)),
-        "reset" => output.note(channels.on_incoming_reset(id)),
+    let outcome = match name {
+        "negotiate" => channels.negotiate(id, description(output.alloc)),
+        "buffered" => channels.drain(id, size),
+        "performed" => channels.on_reset_performed(id),
+        "denied" => channels.on_reset_denied(id),
+        "reset" => channels.on_incoming_reset(id),
         _ => return false,
-    }
+    };
+    output.note(outcome);
     true
 }
 

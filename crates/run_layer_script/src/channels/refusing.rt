@@ -207,7 +207,7 @@ fn state_of(word: &str) -> Option<SocketState> {
 }
 
 /// Prints what the owner is told, until nothing more is.
-fn tell<S: DcSctpSocket>(output: &mut Output, channels: &mut DataChannels, socket: &mut S) {
+fn tell(output: &mut Output, channels: &mut DataChannels, socket: &mut Refusing) {
     for _ in 0..MANY {
         match channels.poll_event(socket) {
             Ok(Some(event)) => {

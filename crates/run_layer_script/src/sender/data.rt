@@ -120,12 +120,6 @@ fn point(data: &OutstandingData, size: usize, output: &mut Output) -> Answer {
     }
 }
 
-/// `prepare SIZE`: looks up how far a forward point of this size goes.
-fn prepare(data: &mut OutstandingData, size: usize) -> Answer {
-    data.prepare_forward_point(size);
-    Answer::Done
-}
-
 fn push_discarded(output: &mut Output, message: Discarded) {
     let names = [message.stream_id.0 as u128, message.message_id.0 as u128];
     output.fill("Discarded { stream_id: #, message_id: # }", &names);
@@ -248,12 +242,16 @@ fn restore(alloc: Global, data: &mut OutstandingData, line: &Line<'_>) -> Answer
     Answer::Done
 }
 
+/// `prepare SIZE`: looks up how far a forward point of this size goes.
 fn change(data: &mut OutstandingData, events: &mut Events, line: &Line<'_>) -> Answer {
     match line.name {
         "time-out" => done(data.nack_all(events)),
         "expire" => done(data.expire_outstanding_chunks(line.first.moment(), events)),
         "begin-reset" => done(data.begin_reset_streams()),
-        "prepare" => prepare(data, line.first.size),
+        "prepare" => {
+            data.prepare_forward_point(line.first.size);
+            Answer::Done
+        }
         _ => asked(data, line),
     }
 }

@@ -81,14 +81,6 @@ fn renew(alloc: Global, kept: &mut Option<Item>, line: &Line<'_>) -> Answer {
     }
 }
 
-/// `names`: the message, and its lifecycle id where its end has one.
-fn names(item: &Item) -> Answer {
-    Answer::Two(
-        u64::from(item.message_id().0),
-        number_of(item.lifecycle_id()),
-    )
-}
-
 fn copied(item: &Item, output: &mut Output) -> Answer {
     match copy_of(output.alloc, item.data()) {
         Ok(copy) => {
@@ -112,6 +104,7 @@ fn sizes(item: &Item, is_interleaved: bool, output: &mut Output) -> Answer {
     )
 }
 
+/// `names`: the message, and its lifecycle id where its end has one.
 fn asked(item: &Item, line: &Line<'_>, output: &mut Output) -> Answer {
     match line.name {
         "is-lost" => Answer::Is(item.is_lost(line.first.flag)),
@@ -119,7 +112,10 @@ fn asked(item: &Item, line: &Line<'_>, output: &mut Output) -> Answer {
         "has-expired" => Answer::Is(item.has_expired(line.first.moment())),
         "was-resent" => Answer::Is(item.has_been_retransmitted()),
         "payload-size" => Answer::Number(item.payload_size() as u64),
-        "names" => names(item),
+        "names" => Answer::Two(
+            u64::from(item.message_id().0),
+            number_of(item.lifecycle_id()),
+        ),
         "data" => push_data(output, item.data()),
         "copy" => copied(item, output),
         "sizes" => sizes(item, line.first.flag, output),

@@ -41,7 +41,7 @@ pub fn answer(output: &mut Output, name: &str, numbers: &[u32]) -> bool {
     match name {
         "default" => accepts(output, Policy::default(), first, second),
         "disabled" => accepts(output, packets::unchecked(), first, second),
-        "dtls" => accepts(output, dtls(), first, second),
+        "dtls" => accepts(output, DTLS, first, second),
         "header" => headers(output, half(first), (second & 0x7fff) as usize),
         "misread" => misread(output, half(first)),
         "result" => output.debug_line(&ReconfigurationResponseResult::try_from(first)),
@@ -53,12 +53,11 @@ pub fn answer(output: &mut Output, name: &str, numbers: &[u32]) -> bool {
     true
 }
 
-fn dtls() -> Policy {
-    Policy {
-        disable_checksum_verification: false,
-        zero_checksum_alternate_error_detection_method: ZERO_CHECKSUM_ALTERNATE_ERROR_DETECTION_METHOD_LOWER_LAYER_DTLS,
-    }
-}
+/// Lets the checksum 0 through, as DTLS below allows.
+const DTLS: Policy = Policy {
+    disable_checksum_verification: false,
+    zero_checksum_alternate_error_detection_method: ZERO_CHECKSUM_ALTERNATE_ERROR_DETECTION_METHOD_LOWER_LAYER_DTLS,
+};
 
 fn accepts(output: &mut Output, policy: Policy, word: u32, field: u32) {
     output.put_line(&policy.accepts(word, field));
