@@ -393,11 +393,11 @@ impl Kept {
         padded_size(self.indexes.waiting.least.min(1 << 32), self.is_interleaved)
     }
 
-    /// Looks how small the items that wait to be sent again are.
+    /// Looks how small the items that wait to be sent again are, as far as is known of their runs.
     pub(crate) fn renew_least(&mut self)
         ensures { self.new ≡ self.old }
     {
-        self.indexes.waiting.renew_least(&self.items);
+        self.indexes.waiting.least = self.indexes.sizes.least(self.items.len());
     }
 
     /// A place from this one on, to which a walk came from another, up to which no item that waits has a chunk of so few bytes.

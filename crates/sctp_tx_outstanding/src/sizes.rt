@@ -62,7 +62,8 @@ fn exceeds(items: &VecDeque<Item>, place: usize, allowed: usize, is_interleaved:
 }
 
 impl Sizes {
-    ghost use Rattle.std.specs.Prelude.{◌+◌, ◌∷◌, [], Bool, List};
+    ghost use Rattle.std.specs.Prelude.{◌+◌, ◌∷◌, [], Bool, List, length};
+    ghost use Rattle.std.specs.List.{All};
     ghost use Rattle.sctp_tx_outstanding.specs.Item.{Item};
     ghost use Rattle.sctp_tx_outstanding.specs.Runs.{run_of};
     ghost use Rattle.sctp_tx_outstanding.specs.Waiting.{IsAtLeast};
@@ -112,6 +113,20 @@ impl Sizes {
             Some(least) => *least,
             None => 0,
         }
+    }
+
+    /// How many bytes the payloads of all items have at least that wait, where so many are kept.
+    pub fn least(&self, count: usize) -> usize
+        ensures { (is : List Item) → length is ≡ count → HasSizes self.now is → All (IsAtLeast result) is }
+    {
+        let last = run_of(self.offset, count.saturating_sub(1));
+        let mut least = usize::MAX;
+        let mut run = 0;
+        while run <= last {
+            least = least.min(self.least_in(run));
+            run += 1;
+        }
+        least
     }
 
     /// Whether it is known that each chunk of the run's items that wait has more bytes.
