@@ -409,7 +409,7 @@ impl Kept {
         let is_interleaved = self.is_interleaved;
         let sizes = &mut self.indexes.sizes;
         sizes.enter(&self.items, from, place, allowed, is_interleaved);
-        sizes.pass_large(place, allowed, is_interleaved)
+        sizes.pass_large(&self.items, place, allowed, is_interleaved)
     }
 
     /// Takes out what is known of the last SACK's blocks.

@@ -1,7 +1,7 @@
 //! How small the payloads of the items are that wait to be sent again, by runs, so that those of which none fits are passed over.
 
-ghost use Rattle.std.specs.Prelude.{◌≡◌, ℕ, ◌<◌, ◌≤◌, ◌^◌, true};
-ghost use Rattle.sctp_tx_outstanding.specs.Sizes.{IsLargeAt, least_in, HasSizes};
+ghost use Rattle.std.specs.Prelude.{◌≡◌, ℕ, ◌<◌, ◌≤◌, ◌^◌, true, false, slice_get};
+ghost use Rattle.sctp_tx_outstanding.specs.Sizes.{IsLargeAt, least_in, HasSizes, ExceedsOf, NoneFits};
 
 use crate::item::{Item, padded_size};
 use crate::runs::{begin_of, end_of, run_of};
@@ -53,12 +53,34 @@ fn list_runs(runs: &mut VecDeque<usize>, count: usize)
     }
 }
 
-/// Whether the item at the place has a chunk of more bytes.
-fn exceeds(items: &VecDeque<Item>, place: usize, allowed: usize, is_interleaved: bool) -> bool {
+/// Whether the item at the place waits and has a chunk of at most so many bytes.
+fn fits(items: &VecDeque<Item>, place: usize, allowed: usize, is_interleaved: bool) -> bool
+    ensures { result ≡ false → ExceedsOf is_interleaved allowed (slice_get items.now.items place) }
+{
     match items.get(place) {
-        Some(item) => allowed < item.chunk_size(is_interleaved),
+        Some(item) => {
+            item.should_be_retransmitted() && item.chunk_size(is_interleaved) <= allowed
+        }
         None => false,
     }
+}
+
+/// The first place from one on up to another whose item does, or the other one.
+fn first_fitting(
+    items: &VecDeque<Item>,
+    from: usize,
+    to: usize,
+    allowed: usize,
+    is_interleaved: bool,
+) -> usize
+    ensures onward { from ≤ result }
+    ensures none { NoneFits is_interleaved allowed from result items.now.items }
+{
+    let mut place = from;
+    while place < to && !fits(items, place, allowed, is_interleaved) {
+        place += 1;
+    }
+    place
 }
 
 impl Sizes {
@@ -67,7 +89,7 @@ impl Sizes {
     ghost use Rattle.sctp_tx_outstanding.specs.Item.{Item};
     ghost use Rattle.sctp_tx_outstanding.specs.Runs.{run_of};
     ghost use Rattle.sctp_tx_outstanding.specs.Waiting.{IsAtLeast};
-    ghost use Rattle.sctp_tx_outstanding.specs.Sizes.{Resizes, Exceeds, NoneFits};
+    ghost use Rattle.sctp_tx_outstanding.specs.Sizes.{Resizes, Exceeds};
 
     /// No items. Takes no memory.
     pub fn new(alloc: Global) -> Sizes
@@ -190,18 +212,30 @@ impl Sizes {
         if self.is_large(run, allowed, is_interleaved) {
             return;
         }
-        if exceeds(items, place, allowed, is_interleaved) {
+        if !fits(items, place, allowed, is_interleaved) {
             self.renew(items, place);
         }
     }
 
-    /// A place from this one on up to which no item that waits has a chunk of so few bytes: where a run begins, or this one.
-    pub fn pass_large(&self, place: usize, allowed: usize, is_interleaved: bool) -> usize
+    /// A place from this one on up to which no item that waits has a chunk of so few bytes: where one may in its run, or where a
+    /// run begins.
+    pub fn pass_large(
+        &self,
+        items: &VecDeque<Item>,
+        place: usize,
+        allowed: usize,
+        is_interleaved: bool,
+    ) -> usize
         ensures onward { place ≤ result }
-        ensures none { (is : List Item) → HasSizes self.now is → NoneFits is_interleaved allowed place result is }
+        ensures none { HasSizes self.now items.now.items → NoneFits is_interleaved allowed place result items.now.items }
     {
         let run = run_of(self.offset, place);
         let next = self.next_small(run, allowed, is_interleaved);
-        begin_of(self.offset, next).max(place)
+        let begin = begin_of(self.offset, next);
+        if place < begin {
+            return begin;
+        }
+        let end = begin_of(self.offset, run + 1);
+        first_fitting(items, place, end, allowed, is_interleaved)
     }
 }

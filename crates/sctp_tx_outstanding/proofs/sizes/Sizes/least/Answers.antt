@@ -1,4 +1,4 @@
-use Rattle.std.proofs.Common.{ℕ, ◌≤◌, arith}
+use Rattle.std.proofs.Common.{arith}
 use Rattle.sctp_tx_outstanding.specs.Runs.{run_of}
 use Rattle.sctp_tx_outstanding.specs.Sizes.{least_in}
 use Rattle.sctp_tx_outstanding.proofs.SizesLemmas.{large_less, all_large}
