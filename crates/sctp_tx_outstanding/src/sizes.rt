@@ -1,6 +1,6 @@
 //! How small the payloads of the items are that wait to be sent again, by runs, so that those of which none fits are passed over.
 
-ghost use Rattle.std.specs.Prelude.{◌≡◌, ℕ, ◌<◌, ◌≤◌, ◌^◌, true, false, slice_get};
+ghost use Rattle.std.specs.Prelude.{◌≡◌, ℕ, ◌<◌, ◌≤◌, ◌^◌, ◌⊎◌, true, false, length, slice_get};
 ghost use Rattle.sctp_tx_outstanding.specs.Sizes.{IsLargeAt, least_in, HasSizes, ExceedsOf, NoneFits};
 
 use crate::item::{Item, padded_size};
@@ -53,6 +53,13 @@ fn list_runs(runs: &mut VecDeque<usize>, count: usize)
     }
 }
 
+/// The next run is listed, if there is memory for it. Of the others as much is known as before.
+fn list_next(runs: &mut VecDeque<usize>)
+    ensures { (n : ℕ) → (n ≡ length runs.old.items) ⊎ (least_in runs.new.items n ≡ least_in runs.old.items n) }
+{
+    let _ = runs.push_back(usize::MAX);
+}
+
 /// Whether the item at the place waits and has a chunk of at most so many bytes.
 fn fits(items: &VecDeque<Item>, place: usize, allowed: usize, is_interleaved: bool) -> bool
     ensures { result ≡ false → ExceedsOf is_interleaved allowed (slice_get items.now.items place) }
@@ -84,7 +91,7 @@ fn first_fitting(
 }
 
 impl Sizes {
-    ghost use Rattle.std.specs.Prelude.{◌+◌, ◌∷◌, [], Bool, List, length};
+    ghost use Rattle.std.specs.Prelude.{◌+◌, ◌∷◌, [], Bool, List};
     ghost use Rattle.std.specs.List.{All};
     ghost use Rattle.sctp_tx_outstanding.specs.Item.{Item};
     ghost use Rattle.sctp_tx_outstanding.specs.Runs.{run_of};
@@ -98,6 +105,16 @@ impl Sizes {
         Sizes {
             runs: VecDeque::new(alloc),
             offset: 0,
+        }
+    }
+
+    /// An item comes at the place behind all others: where it begins the next run to be listed, this is, of which none waits yet.
+    pub fn begin(&mut self, place: usize)
+        ensures { (is : List Item) → length is ≡ place → HasSizes self.old is → HasSizes self.new is }
+    {
+        let run = run_of(self.offset, place);
+        if run == self.runs.len() && begin_of(self.offset, run) == place {
+            list_next(&mut self.runs);
         }
     }
 
