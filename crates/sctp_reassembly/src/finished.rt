@@ -16,7 +16,7 @@ use std::marker::Model;
 
 /// The keys at which complete intervals begin, where they are known. Keys of other intervals may be among them.
 ///
-/// A key goes with a search from a later message on. Where memory lacks for a key, none are known.
+/// A key goes with a search from a later message on, or a forward point to it. Where memory lacks for a key, none are known.
 #[derive(Drop)]
 pub(crate) struct Finished<K: ReassemblyKey> {
     keys: Option<BTreeSet<K>>,
@@ -116,16 +116,16 @@ fn begins_before<K: ReassemblyKey>(keys: &BTreeSet<K>, key: K) -> bool
     }
 }
 
-/// So many keys go at most with one search: so those of messages that have passed go, and none drops very many.
+/// So many keys go at most with one search: so those of messages that were taken go, and none drops very many.
 const FEW: usize = 4;
 
-/// Drops the first of the keys before this one.
-fn drop_few_before<K: ReassemblyKey>(keys: &mut BTreeSet<K>, key: K)
+/// Drops the first of the keys before this one, at most so many.
+fn drop_before<K: ReassemblyKey>(keys: &mut BTreeSet<K>, key: K, most: usize)
     requires keys { AreKeys K.is_key keys.old.keys }
     ensures keys { AreKeys K.is_key keys.new.keys }
     ensures kept { (n : ℕ) → rank_at K.number K.index key ≤ n → is_held (rank_at K.number K.index) n keys.old.keys ≡ true → is_held (rank_at K.number K.index) n keys.new.keys ≡ true }
 {
-    for _ in 0..FEW {
+    for _ in 0..most {
         if !begins_before(keys, key) {
             return;
         }
@@ -191,6 +191,17 @@ impl<K: ReassemblyKey> Finished<K> {
         }
     }
 
+    /// What comes before the message with the number has gone.
+    pub fn pass(&mut self, number: u128)
+        ensures { (m : ℕ) (rs : List (List Held)) → pair_rank number 0 ≤ m → NoneMissed K.number K.index m self.old rs → NoneMissed K.number K.index m self.new rs }
+    {
+        let Some(keys) = &mut self.keys else {
+            return;
+        };
+        let count = keys.len();
+        drop_before(keys, least_of(number), count);
+    }
+
     /// A key before which no complete message with the number begins. None where there is no such message.
     pub fn search(&mut self, number: u128) -> Option<K>
         ensures some { IfSome result (λ k. (rs : List (List Held)) → NoneMissed K.number K.index (pair_rank number 0) self.old rs → NoneEarlier number (rank_at K.number K.index k) rs) }
@@ -201,7 +212,7 @@ impl<K: ReassemblyKey> Finished<K> {
         let Some(keys) = &mut self.keys else {
             return Some(least);
         };
-        drop_few_before(keys, least);
+        drop_before(keys, least, FEW);
         first_from(keys, least)
     }
 }

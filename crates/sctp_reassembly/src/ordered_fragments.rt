@@ -256,12 +256,13 @@ impl<K: ReassemblyKey> OrderedFragments<K> {
         ensures fragments { length self.new.held ≤ length self.old.held }
         ensures least { origin ≤ self.new.next }
     {
-        if self.is_passed(first) {
-            self.list.retain(first);
+        let is_passed = self.is_passed(first);
+        self.list.retain(first);
+        self.finished.pass(first.number() as u128);
+        if is_passed {
             return Ok(());
         }
         self.is_settled = false;
-        self.list.retain(first);
         self.last = self.last.max(first.number() - 1);
         deliver(
             self.alloc,

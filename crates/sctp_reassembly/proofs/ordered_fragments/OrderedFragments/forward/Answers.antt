@@ -13,20 +13,20 @@ pub returns-then-is_passed-clause-ok : goal.returns-then-is_passed-clause-ok
 returns-then-is_passed-clause-ok g c n number index =
     let s = c.args.self.now in
     let here = ap (λ (t : OrderedStream). t.held) c.self.view_is in
-    let passed = c.is_passed.ensures.next c.if-is_passed.true in
+    let passed = c.is_passed-is_passed.ensures.next c.if-is_passed.true in
     let rank : rank_at g.K.ReassemblyKey.number g.K.ReassemblyKey.index c.args.first ≡ pair_rank (suc n) 0 = omega (arith, number, index) in
     let left : c.retain.new.self ≡ from_rank rank_of (pair_rank (suc n) 0) s.held = c.retain.ensures.value ∙ (ap (from_rank rank_of _) here ∙ ap (λ r. from_rank rank_of r s.held) rank) in
-    let none = c.retain.ensures.stays (is_in_turn s.next) (turn_complete s.next) (subst (λ hs. NoneInTurn s.next (intervals_of hs)) (sym here) (c.is_passed.ensures.settled c.if-is_passed.true)) in
+    let none = c.retain.ensures.stays (is_in_turn s.next) (turn_complete s.next) (subst (λ hs. NoneInTurn s.next (intervals_of hs)) (sym here) (c.is_passed-is_passed.ensures.settled c.if-is_passed.true)) in
     ap (λ k. (let t : OrderedStream = record { next = k; held = c.retain.new.self } in t)) (ap (λ (t : OrderedStream). t.next) c.self.view_is) ∙ sym (ap (λ d. d.stream) (passes_next n s c.retain.new.self (omega (arith, number, passed)) left none))
 
 pub returns-then-is_passed-clause-ready : goal.returns-then-is_passed-clause-ready
 returns-then-is_passed-clause-ready g c n number index =
     let s = c.args.self.now in
     let here = ap (λ (t : OrderedStream). t.held) c.self.view_is in
-    let passed = c.is_passed.ensures.next c.if-is_passed.true in
+    let passed = c.is_passed-is_passed.ensures.next c.if-is_passed.true in
     let rank : rank_at g.K.ReassemblyKey.number g.K.ReassemblyKey.index c.args.first ≡ pair_rank (suc n) 0 = omega (arith, number, index) in
     let left : c.retain.new.self ≡ from_rank rank_of (pair_rank (suc n) 0) s.held = c.retain.ensures.value ∙ (ap (from_rank rank_of _) here ∙ ap (λ r. from_rank rank_of r s.held) rank) in
-    let none = c.retain.ensures.stays (is_in_turn s.next) (turn_complete s.next) (subst (λ hs. NoneInTurn s.next (intervals_of hs)) (sym here) (c.is_passed.ensures.settled c.if-is_passed.true)) in
+    let none = c.retain.ensures.stays (is_in_turn s.next) (turn_complete s.next) (subst (λ hs. NoneInTurn s.next (intervals_of hs)) (sym here) (c.is_passed-is_passed.ensures.settled c.if-is_passed.true)) in
     nothing_more c.args.ready.now _ (ap (λ d. d.messages) (passes_next n s c.retain.new.self (omega (arith, number, passed)) left none))
 
 pub returns-then-is_passed-clause-bytes : goal.returns-then-is_passed-clause-bytes
@@ -41,10 +41,12 @@ invariant_of-self g c = record {
     least = c.self.invariant.ordered.least;
     settled = λ on. c.retain.ensures.stays (is_in_turn (c.self.inside.last + 1)) (turn_complete (c.self.inside.last + 1)) (c.self.invariant.ordered.settled on);
   };
-  noted = none_left g.K.ReassemblyKey.number g.K.ReassemblyKey.index (pair_rank (c.self.inside.last + 1) 0) c.self.inside.finished (intervals_of c.self.inside.list) (intervals_of c.retain.new.self) c.retain.ensures.stays c.self.invariant.noted;
+  noted = c.pass.ensures (pair_rank (c.self.inside.last + 1) 0) (intervals_of c.retain.new.self) (omega (arith, c.number.ensures, c.is_passed-is_passed.ensures.next c.if-is_passed.true, ap (λ (t : OrderedStream). t.next) c.self.view_is))
+      (none_left g.K.ReassemblyKey.number g.K.ReassemblyKey.index (pair_rank (c.self.inside.last + 1) 0) c.self.inside.finished (intervals_of c.self.inside.list) (intervals_of c.retain.new.self) c.retain.ensures.stays c.self.invariant.noted);
 }
 
 pub deliver-requires-clause-noted : goal.deliver-requires-clause-noted
 deliver-requires-clause-noted g c =
-    none_later g.K.ReassemblyKey.number g.K.ReassemblyKey.index (pair_rank (c.self.inside.last + 1) 0) (pair_rank (c.max-self-inside.result + 1) 0) c.self.inside.finished (intervals_of c.retain-2.new.self) (omega (arith, c.max-self-inside.ensures))
-    (none_left g.K.ReassemblyKey.number g.K.ReassemblyKey.index (pair_rank (c.self.inside.last + 1) 0) c.self.inside.finished (intervals_of c.self.inside.list) (intervals_of c.retain-2.new.self) c.retain-2.ensures.stays c.self.invariant.noted)
+    c.pass.ensures (pair_rank (c.max-self-inside.result + 1) 0) (intervals_of c.retain.new.self) (omega (arith, c.number.ensures, c.number-2.ensures, c.max-self-inside.ensures))
+    (none_later g.K.ReassemblyKey.number g.K.ReassemblyKey.index (pair_rank (c.self.inside.last + 1) 0) (pair_rank (c.max-self-inside.result + 1) 0) c.self.inside.finished (intervals_of c.retain.new.self) (omega (arith, c.max-self-inside.ensures))
+    (none_left g.K.ReassemblyKey.number g.K.ReassemblyKey.index (pair_rank (c.self.inside.last + 1) 0) c.self.inside.finished (intervals_of c.self.inside.list) (intervals_of c.retain.new.self) c.retain.ensures.stays c.self.invariant.noted))

@@ -1,6 +1,6 @@
 use Rattle.sctp_fragments.specs.ReassemblyKey.{rank_at}
 use Rattle.sctp_reassembly.proofs.FinishedLemmas.{dropped}
-use Rattle.sctp_reassembly.proofs.finished.drop_few_before.Goals as goal
+use Rattle.sctp_reassembly.proofs.finished.drop_before.Goals as goal
 
 pub loop-init : goal.loop-init
 loop-init g c = record { keys = c.requires.keys; held = λ n l h. h }

@@ -2,7 +2,7 @@ use Rattle.std.proofs.Common.{◌≡◌, ◌≤◌, ℕ, true}
 use Rattle.sctp_fragments.specs.Runs.{is_held}
 use Rattle.sctp_fragments.specs.ReassemblyKey.{rank_at}
 use Rattle.sctp_reassembly.specs.Finished.{AreKeys}
-use Rattle.sctp_reassembly.proofs.finished.drop_few_before.Given as goal
+use Rattle.sctp_reassembly.proofs.finished.drop_before.Given as goal
 
 abbrev pub invariant-loop : goal.invariant-loop
 invariant-loop g l = record {
