@@ -393,10 +393,13 @@ impl Kept {
         padded_size(self.indexes.waiting.least.min(1 << 32), self.is_interleaved)
     }
 
-    /// Looks how small the items that wait to be sent again are, as far as is known of their runs.
-    pub(crate) fn renew_least(&mut self)
+    /// Looks how small the items that wait to be sent again are, where none may have a chunk of at most so many bytes.
+    pub(crate) fn renew_least(&mut self, allowed: usize)
         ensures { self.new ≡ self.old }
     {
+        self.indexes
+            .sizes
+            .renew_small(&self.items, allowed, self.is_interleaved);
         self.indexes.waiting.least = self.indexes.sizes.least(self.items.len());
     }
 

@@ -210,6 +210,18 @@ impl Sizes {
         self.settle(run, least);
     }
 
+    /// The same in each run of which it isn't known that all chunks of items that wait have more than so many bytes.
+    pub fn renew_small(&mut self, items: &VecDeque<Item>, allowed: usize, is_interleaved: bool)
+        ensures { HasSizes self.old items.now.items → HasSizes self.new items.now.items }
+    {
+        for run in 0..self.runs.len() {
+            let place = begin_of(self.offset, run);
+            if place < 1 << 62 && !self.is_large(run, allowed, is_interleaved) {
+                self.renew(items, place);
+            }
+        }
+    }
+
     /// A walk came from one place to the next item that waits: where it enters that one's run and the item doesn't fit, looks
     /// how small those of the run are.
     pub fn enter(
