@@ -1,8 +1,10 @@
 -- How small the items are that wait to be sent again, as items come, change and leave.
 use Rattle.std.proofs.lemmas.Bool.{cases_lt, both_ways}
+use Rattle.std.proofs.lemmas.List.Elements.{All-cons, All-nil}
 use Rattle.std.proofs.lemmas.Option.{slice_get_past}
 use Rattle.std.proofs.Common.{◌≡◌, ◌⊎◌, inl, inr, ℕ, zero, suc, ◌+◌, ◌*◌, ◌/◌, ◌<◌, ◌≤◌, Bool, true, false, List, [], ◌∷◌, ◌++◌, drop, length, slice_set, slice_index_or, refl, ap, sym, subst, ◌∙◌, arith}
 use Rattle.std.specs.Prelude.{Option, Some, None, unwrap_or, slice_get, nat_lt}
+use Rattle.std.specs.List.{All}
 use Rattle.sctp_tx_outstanding.specs.Item.{Item, should_be_retransmitted, header_size, chunk_size}
 use Rattle.sctp_tx_outstanding.specs.OutstandingData.{change_at}
 use Rattle.sctp_tx_outstanding.specs.declared.totals.Totals.{Totals}
@@ -42,6 +44,10 @@ pub at_most : (runs : List ℕ) (r less least : ℕ) → r < length runs → lea
 at_most [] r less least h at le = absurd (omega (arith, h))
 at_most (x ∷ xs) zero less least h at le = omega (arith, le, at)
 at_most (x ∷ xs) (suc r) less least h at le = at_most xs r less least (omega (arith, h)) at le
+
+pub all_large : (least : ℕ) (is : List Item) → ((k : ℕ) → k < length is → IsLargeAt least k is) → All (IsAtLeast least) is
+all_large least [] h = All-nil (IsAtLeast least)
+all_large least (i ∷ is) h = All-cons (IsAtLeast least) i is (h 0 (omega arith)) (all_large least is (λ k below. h (suc k) (omega (arith, below))))
 
 -- ---- runs
 

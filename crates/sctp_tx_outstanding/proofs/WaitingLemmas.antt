@@ -1,5 +1,5 @@
 -- The items that wait to be sent again, as items come, change and leave.
-use Rattle.std.proofs.Common.{◌≡◌, ℕ, zero, suc, ◌+◌, ◌-◌, ◌*◌, ◌/◌, ◌<◌, ◌≤◌, ◌==◌, Bool, true, false, cond, List, [], ◌∷◌, ◌++◌, length, slice_index_or, refl, ap, sym, subst, ◌∙◌, inl, inr, arith}
+use Rattle.std.proofs.Common.{◌≡◌, ℕ, zero, suc, ◌+◌, ◌-◌, ◌*◌, ◌/◌, ◌<◌, ◌≤◌, ◌==◌, Bool, true, false, cond, List, [], ◌∷◌, ◌++◌, length, slice_index_or, refl, ap, sym, ◌∙◌, inl, inr, arith}
 use Rattle.std.specs.Prelude.{nat_lt, nat_le, ◌&&◌}
 use Rattle.std.specs.List.{sum_by, All}
 use Rattle.std.specs.Ordering.{nat_cmp}
@@ -15,7 +15,7 @@ use Rattle.sctp_tx_outstanding.specs.Item.{Item, should_be_retransmitted, header
 use Rattle.sctp_tx_outstanding.specs.Change.{apply_change}
 use Rattle.sctp_tx_outstanding.specs.OutstandingData.{change_at, when, queued_part}
 use Rattle.sctp_tx_outstanding.specs.Totals.{parts, nothing, Exchanges}
-use Rattle.sctp_tx_outstanding.specs.Waiting.{waits_at, by_number, waits_as, NoneWaits, is_listed, AreListed, IsAtLeast, FirstAtLeast, Lists, HasSize, StaysAtLeast, Turns}
+use Rattle.sctp_tx_outstanding.specs.Waiting.{waits_at, by_number, waits_as, NoneWaits, is_listed, AreListed, IsAtLeast, Lists, HasSize, StaysAtLeast, Turns}
 use Rattle.sctp_tx_outstanding.specs.declared.waiting.Waiting.{Waiting}
 use Rattle.sctp_serial.proofs.NumberLemmas.{greater_differs}
 
@@ -267,41 +267,6 @@ all_less : (less least : ℕ) (is : List Item) → less ≤ least → All (IsAtL
 all_less less least [] le h = All-nil (IsAtLeast less)
 all_less less least (i ∷ is) le h =
     All-cons (IsAtLeast less) i is (less_too less least i le (All-head (IsAtLeast least) i is h)) (all_less less least is le (All-tail (IsAtLeast least) i is h))
-
-pub first_none : (least : ℕ) (is : List Item) → FirstAtLeast least zero is
-first_none least [] = tt
-first_none least (i ∷ is) = tt
-
-none_next : (from to : ℕ) (i : Item) (is : List Item) → NoneWaits from (suc to) (i ∷ is) → (k : ℕ) → from ≤ suc k → k < to → waits_at k is ≡ false
-none_next from to i is none k above below = none (suc k) above (omega (arith, below))
-
-pub first_on : (least from to : ℕ) (is : List Item) → from ≤ to → NoneWaits from to is → FirstAtLeast least from is → FirstAtLeast least to is
-first_on least from to [] le none h = tt
-first_on least zero zero (i ∷ is) le none h = tt
-first_on least zero (suc to) (i ∷ is) le none h = (
-  λ t. absurd (both_ways (should_be_retransmitted i) (none 0 (omega arith) (omega arith)) t),
-  first_on least zero to is (omega arith) (λ k above below. none_next zero to i is none k (omega arith) below) (first_none least is),
-)
-first_on least (suc from) zero (i ∷ is) le none h = absurd (omega (arith, le))
-first_on least (suc from) (suc to) (i ∷ is) le none h = (
-  h.0,
-  first_on least from to is (omega (arith, le)) (λ k above below. none_next (suc from) to i is none k (omega (arith, above)) below) h.1,
-)
-
-pub first_next : (least less k : ℕ) (is : List Item) (i : Item) → k < length is → i ≡ slice_index_or is k i → less ≤ least → IsAtLeast less i → FirstAtLeast least k is → FirstAtLeast less (suc k) is
-first_next least less k [] i h at le one first = tt
-first_next least less zero (x ∷ is) i h at le one first = (subst (λ (j : Item). IsAtLeast less j) at one, first_none less is)
-first_next least less (suc k) (x ∷ is) i h at le one first = (less_too less least x le first.0, first_next least less k is i (omega (arith, h)) at le one first.1)
-
-pub first_beyond : (least k : ℕ) (is : List Item) → length is ≤ k → FirstAtLeast least k is → FirstAtLeast least (suc k) is
-first_beyond least k [] h first = tt
-first_beyond least zero (i ∷ is) h first = absurd (omega (arith, h))
-first_beyond least (suc k) (i ∷ is) h first = (first.0, first_beyond least k is (omega (arith, h)) first.1)
-
-pub first_all : (least k : ℕ) (is : List Item) → length is ≤ k → FirstAtLeast least k is → All (IsAtLeast least) is
-first_all least k [] h first = All-nil (IsAtLeast least)
-first_all least zero (i ∷ is) h first = absurd (omega (arith, h))
-first_all least (suc k) (i ∷ is) h first = All-cons (IsAtLeast least) i is first.0 (first_all least k is (omega (arith, h)) first.1)
 
 pub stays_changed : (m : Bool) (x : Change) (k size : ℕ) (is : List Item) (old new : Totals) → Exchanges m k x is old new → HasSize k size is
     → StaysAtLeast size (nat_lt 0 new.queued) is (change_at k (apply_change x) is)

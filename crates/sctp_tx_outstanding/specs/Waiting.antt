@@ -40,12 +40,6 @@ IsIndex w is = w.is_known ≡ true → AreListed w.numbers.keys w.first is
 abbrev pub IsAtLeast : ℕ → Item → Type 0
 IsAtLeast least i = should_be_retransmitted i ≡ true → least ≤ length i.fragment.payload
 
--- each of the first ones
-abbrev pub FirstAtLeast : (least count : ℕ) → List Item → Type 0
-FirstAtLeast least n [] = Unit {0}
-FirstAtLeast least zero (i ∷ is) = Unit {0}
-FirstAtLeast least (suc n) (i ∷ is) = IsAtLeast least i × FirstAtLeast least n is
-
 abbrev pub Lists : Waiting → List Item → Type 0
 Lists w is = IsIndex w is × All (IsAtLeast w.least) is
 

@@ -128,6 +128,7 @@ impl Indexes {
         let size = item.payload_size();
         let waits = item.should_be_retransmitted();
         self.waiting.follow(place, size, false, waits);
+        self.sizes.begin(place);
         self.sizes.follow(place, size, waits);
         self.messages.add(item.message_id(), place);
         self.expiries.renew(place, u128::MAX, part.earliest);

@@ -393,11 +393,14 @@ impl Kept {
         padded_size(self.indexes.waiting.least.min(1 << 32), self.is_interleaved)
     }
 
-    /// Looks how small the items that wait to be sent again are.
-    pub(crate) fn renew_least(&mut self)
+    /// Looks how small the items that wait to be sent again are, where none may have a chunk of at most so many bytes.
+    pub(crate) fn renew_least(&mut self, allowed: usize)
         ensures { self.new ≡ self.old }
     {
-        self.indexes.waiting.renew_least(&self.items);
+        self.indexes
+            .sizes
+            .renew_small(&self.items, allowed, self.is_interleaved);
+        self.indexes.waiting.least = self.indexes.sizes.least(self.items.len());
     }
 
     /// A place from this one on, to which a walk came from another, up to which no item that waits has a chunk of so few bytes.
@@ -409,7 +412,7 @@ impl Kept {
         let is_interleaved = self.is_interleaved;
         let sizes = &mut self.indexes.sizes;
         sizes.enter(&self.items, from, place, allowed, is_interleaved);
-        sizes.pass_large(place, allowed, is_interleaved)
+        sizes.pass_large(&self.items, place, allowed, is_interleaved)
     }
 
     /// Takes out what is known of the last SACK's blocks.

@@ -1,7 +1,7 @@
 //! How small the payloads of the items are that wait to be sent again, by runs, so that those of which none fits are passed over.
 
-ghost use Rattle.std.specs.Prelude.{◌≡◌, ℕ, ◌<◌, ◌≤◌, ◌^◌, true};
-ghost use Rattle.sctp_tx_outstanding.specs.Sizes.{IsLargeAt, least_in, HasSizes};
+ghost use Rattle.std.specs.Prelude.{◌≡◌, ℕ, ◌<◌, ◌≤◌, ◌^◌, ◌⊎◌, true, false, length, slice_get};
+ghost use Rattle.sctp_tx_outstanding.specs.Sizes.{IsLargeAt, least_in, HasSizes, ExceedsOf, NoneFits};
 
 use crate::item::{Item, padded_size};
 use crate::runs::{begin_of, end_of, run_of};
@@ -53,20 +53,50 @@ fn list_runs(runs: &mut VecDeque<usize>, count: usize)
     }
 }
 
-/// Whether the item at the place has a chunk of more bytes.
-fn exceeds(items: &VecDeque<Item>, place: usize, allowed: usize, is_interleaved: bool) -> bool {
+/// The next run is listed, if there is memory for it. Of the others as much is known as before.
+fn list_next(runs: &mut VecDeque<usize>)
+    ensures { (n : ℕ) → (n ≡ length runs.old.items) ⊎ (least_in runs.new.items n ≡ least_in runs.old.items n) }
+{
+    let _ = runs.push_back(usize::MAX);
+}
+
+/// Whether the item at the place waits and has a chunk of at most so many bytes.
+fn fits(items: &VecDeque<Item>, place: usize, allowed: usize, is_interleaved: bool) -> bool
+    ensures { result ≡ false → ExceedsOf is_interleaved allowed (slice_get items.now.items place) }
+{
     match items.get(place) {
-        Some(item) => allowed < item.chunk_size(is_interleaved),
+        Some(item) => {
+            item.should_be_retransmitted() && item.chunk_size(is_interleaved) <= allowed
+        }
         None => false,
     }
 }
 
+/// The first place from one on up to another whose item does, or the other one.
+fn first_fitting(
+    items: &VecDeque<Item>,
+    from: usize,
+    to: usize,
+    allowed: usize,
+    is_interleaved: bool,
+) -> usize
+    ensures onward { from ≤ result }
+    ensures none { NoneFits is_interleaved allowed from result items.now.items }
+{
+    let mut place = from;
+    while place < to && !fits(items, place, allowed, is_interleaved) {
+        place += 1;
+    }
+    place
+}
+
 impl Sizes {
     ghost use Rattle.std.specs.Prelude.{◌+◌, ◌∷◌, [], Bool, List};
+    ghost use Rattle.std.specs.List.{All};
     ghost use Rattle.sctp_tx_outstanding.specs.Item.{Item};
     ghost use Rattle.sctp_tx_outstanding.specs.Runs.{run_of};
     ghost use Rattle.sctp_tx_outstanding.specs.Waiting.{IsAtLeast};
-    ghost use Rattle.sctp_tx_outstanding.specs.Sizes.{Resizes, Exceeds, NoneFits};
+    ghost use Rattle.sctp_tx_outstanding.specs.Sizes.{Resizes, Exceeds};
 
     /// No items. Takes no memory.
     pub fn new(alloc: Global) -> Sizes
@@ -75,6 +105,16 @@ impl Sizes {
         Sizes {
             runs: VecDeque::new(alloc),
             offset: 0,
+        }
+    }
+
+    /// An item comes at the place behind all others: where it begins the next run to be listed, this is, of which none waits yet.
+    pub fn begin(&mut self, place: usize)
+        ensures { (is : List Item) → length is ≡ place → HasSizes self.old is → HasSizes self.new is }
+    {
+        let run = run_of(self.offset, place);
+        if run == self.runs.len() && begin_of(self.offset, run) == place {
+            list_next(&mut self.runs);
         }
     }
 
@@ -112,6 +152,20 @@ impl Sizes {
             Some(least) => *least,
             None => 0,
         }
+    }
+
+    /// How many bytes the payloads of all items have at least that wait, where so many are kept.
+    pub fn least(&self, count: usize) -> usize
+        ensures { (is : List Item) → length is ≡ count → HasSizes self.now is → All (IsAtLeast result) is }
+    {
+        let last = run_of(self.offset, count.saturating_sub(1));
+        let mut least = usize::MAX;
+        let mut run = 0;
+        while run <= last {
+            least = least.min(self.least_in(run));
+            run += 1;
+        }
+        least
     }
 
     /// Whether it is known that each chunk of the run's items that wait has more bytes.
@@ -156,6 +210,18 @@ impl Sizes {
         self.settle(run, least);
     }
 
+    /// The same in each run of which it isn't known that all chunks of items that wait have more than so many bytes.
+    pub fn renew_small(&mut self, items: &VecDeque<Item>, allowed: usize, is_interleaved: bool)
+        ensures { HasSizes self.old items.now.items → HasSizes self.new items.now.items }
+    {
+        for run in 0..self.runs.len() {
+            let place = begin_of(self.offset, run);
+            if place < 1 << 62 && !self.is_large(run, allowed, is_interleaved) {
+                self.renew(items, place);
+            }
+        }
+    }
+
     /// A walk came from one place to the next item that waits: where it enters that one's run and the item doesn't fit, looks
     /// how small those of the run are.
     pub fn enter(
@@ -175,18 +241,30 @@ impl Sizes {
         if self.is_large(run, allowed, is_interleaved) {
             return;
         }
-        if exceeds(items, place, allowed, is_interleaved) {
+        if !fits(items, place, allowed, is_interleaved) {
             self.renew(items, place);
         }
     }
 
-    /// A place from this one on up to which no item that waits has a chunk of so few bytes: where a run begins, or this one.
-    pub fn pass_large(&self, place: usize, allowed: usize, is_interleaved: bool) -> usize
+    /// A place from this one on up to which no item that waits has a chunk of so few bytes: where one may in its run, or where a
+    /// run begins.
+    pub fn pass_large(
+        &self,
+        items: &VecDeque<Item>,
+        place: usize,
+        allowed: usize,
+        is_interleaved: bool,
+    ) -> usize
         ensures onward { place ≤ result }
-        ensures none { (is : List Item) → HasSizes self.now is → NoneFits is_interleaved allowed place result is }
+        ensures none { HasSizes self.now items.now.items → NoneFits is_interleaved allowed place result items.now.items }
     {
         let run = run_of(self.offset, place);
         let next = self.next_small(run, allowed, is_interleaved);
-        begin_of(self.offset, next).max(place)
+        let begin = begin_of(self.offset, next);
+        if place < begin {
+            return begin;
+        }
+        let end = begin_of(self.offset, run + 1);
+        first_fitting(items, place, end, allowed, is_interleaved)
     }
 }

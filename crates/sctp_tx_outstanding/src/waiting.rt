@@ -1,7 +1,7 @@
 //! The items that wait to be sent again.
 
 ghost use Rattle.std.specs.Prelude.{◌≡◌, ℕ, ◌<◌, ◌≤◌, ◌==◌, true, false, if◌then◌else◌, IfSome, IfNone, ◌+◌};
-ghost use Rattle.sctp_tx_outstanding.specs.Waiting.{is_listed, IsAtLeast, IsIndex, FirstAtLeast};
+ghost use Rattle.sctp_tx_outstanding.specs.Waiting.{is_listed, IsIndex};
 ghost use Rattle.std.specs.List.{All};
 
 use crate::item::Item;
@@ -37,34 +37,6 @@ pub(crate) fn lesser(least: usize, waits: bool, size: usize) -> usize
     ensures size { waits ≡ true → result ≤ size }
 {
     if waits { least.min(size) } else { least }
-}
-
-/// A bound of the first items' sizes, with the one at the place.
-fn least_at(items: &VecDeque<Item>, place: usize, least: usize) -> usize
-    ensures { FirstAtLeast least place items.now.items → FirstAtLeast result (place + 1) items.now.items }
-{
-    let Some(item) = items.get(place) else {
-        return least;
-    };
-    lesser(least, item.should_be_retransmitted(), item.payload_size())
-}
-
-/// The least payload of the items that wait.
-fn least_of(items: &VecDeque<Item>, waiting: &Waiting) -> usize
-    ensures { IsIndex waiting.now items.now.items → All (IsAtLeast result) items.now.items }
-{
-    let count = items.len();
-    let mut least = usize::MAX;
-    let mut place = 0;
-    while place < count {
-        let next = waiting.next(place);
-        if count <= next {
-            return least;
-        }
-        least = least_at(items, next, least);
-        place = next + 1;
-    }
-    least
 }
 
 /// The least number from this one on.
@@ -153,13 +125,6 @@ impl Waiting {
         self.numbers.clear();
         self.first = 0;
         self.is_known = true;
-    }
-
-    /// Looks how small the payloads of the items that wait are.
-    pub fn renew_least(&mut self, items: &VecDeque<Item>)
-        ensures { Lists self.old items.now.items → Lists self.new items.now.items }
-    {
-        self.least = least_of(items, self);
     }
 
     /// The place from this one on up to which no item waits.

@@ -142,7 +142,8 @@ impl OutstandingData {
         if self.is_full(false, filling) {
             return;
         }
-        self.kept.renew_least();
+        let allowed = self.allowed(filling);
+        self.kept.renew_least(allowed);
     }
 
     /// Gives each item that waits its turn, up to the last one that may be sent; no other has one.

@@ -47,7 +47,7 @@ returns c =
       last_blocks = c.take.ensures is i (sym c.is_acked.ensures) before.last_blocks;
       waiting = c.follow.ensures is (is ++ i ∷ []) (turns_pushed old.waiting.first place is i c.should_be_retransmitted-waits.result count waits)
           (stays_pushed c.payload_size-size.result c.should_be_retransmitted-waits.result is i waits size.size) before.waiting;
-      sizes = c.follow-2.ensures is (is ++ i ∷ []) (resizes_pushed c.payload_size-size.result c.should_be_retransmitted-waits.result is i place count waits size.size) before.sizes;
+      sizes = c.follow-2.ensures is (is ++ i ∷ []) (resizes_pushed c.payload_size-size.result c.should_be_retransmitted-waits.result is i place count waits size.size) (c.begin.ensures is count before.sizes);
       messages = c.add.ensures is i count (sym c.message_id.ensures) before.messages;
       expiries = c.renew.ensures is (is ++ i ∷ []) (moves_pushed place never c.of-part.result.earliest is i count refl earliest) before.expiries;
       passed = passed_before m is (i ∷ []) old.passed.count old.passed.left old.passed.touched.items before.passed;

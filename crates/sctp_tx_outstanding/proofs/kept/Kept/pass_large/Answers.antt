@@ -20,4 +20,4 @@ invariant_of-self c =
 pub returns-clause-none : goal.returns-clause-none
 returns-clause-none c =
     subst (λ (k : Kept). NoneFits k.is_interleaved c.args.allowed c.args.place c.pass_large.result k.items) c.self.view_is
-    (c.pass_large.ensures.none c.self.inside.items.items (c.enter.ensures c.self.invariant.sizes))
+    (c.pass_large.ensures.none (c.enter.ensures c.self.invariant.sizes))
