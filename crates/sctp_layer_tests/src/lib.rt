@@ -6,6 +6,8 @@
 #[cfg(test)]
 mod long;
 #[cfg(test)]
+mod outstanding;
+#[cfg(test)]
 mod receiver;
 #[cfg(test)]
 mod receives;

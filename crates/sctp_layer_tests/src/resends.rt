@@ -1,9 +1,8 @@
 //! Items of mixed sizes that wait to be sent again, over thousands: each packet takes the first ones that fit.
 
-ghost use Rattle.std.specs.Prelude.{◌<◌, ◌^◌, length, IfOk};
-
+use crate::outstanding::message;
 use sctp_packet::Data;
-use sctp_serial::{Fsn, Mid, OutgoingMessageId, PpId, SocketTime, Ssn, StreamId, StreamKey, Tsn};
+use sctp_serial::{OutgoingMessageId, SocketTime, Tsn};
 use sctp_state::Events;
 use sctp_tx_outstanding::{Item, OutstandingData};
 use std::alloc::{AllocError, Global};
@@ -17,6 +16,7 @@ type Row = (u32, usize, (u32, u32, usize));
 
 /// Tests know no more of outstanding items than their answers.
 trait Resends {
+    /// A chunk of 24 bytes, or of 1,016.
     fn sends(&mut self, is_small: bool) -> Result<(), AllocError>;
 
     fn loses_all(&mut self) -> Result<(), AllocError>;
@@ -40,23 +40,6 @@ fn fresh(alloc: Global) -> Sender {
     }
 }
 
-/// A chunk of 24 bytes, or of 1,016.
-fn message(alloc: Global, is_small: bool) -> Result<Data, AllocError>
-    ensures { IfOk result (λ m. length m.payload.items < 2 ^ 32) }
-{
-    let size = if is_small { 8 } else { 1_000 };
-    Ok(Data {
-        stream_key: StreamKey::Unordered(StreamId(1)),
-        ssn: Ssn(0),
-        is_beginning: true,
-        is_end: true,
-        mid: Mid(0),
-        fsn: Fsn(0),
-        ppid: PpId(53),
-        payload: vec![in alloc; 7u8; size]?,
-    })
-}
-
 /// The TSNs of the first and of the last one, and how many there are.
 fn ends(chunks: Vec<(Tsn, Data)>) -> (u32, u32, usize) {
     let first = match chunks.first() {
@@ -74,7 +57,7 @@ fn ends(chunks: Vec<(Tsn, Data)>) -> (u32, u32, usize) {
 
 impl Resends for Sender {
     fn sends(&mut self, is_small: bool) -> Result<(), AllocError> {
-        let message = message(self.alloc, is_small)?;
+        let message = message(self.alloc, if is_small { 8 } else { 1_000 })?;
         let id = OutgoingMessageId(0);
         let item = Item::new(id, message, SocketTime::zero(), 65_535, None, None);
         self.items.insert(item)?;

@@ -1,10 +1,9 @@
 //! SACKs whose blocks differ from the last one's here and there, over thousands of items.
 
-ghost use Rattle.std.specs.Prelude.{◌<◌, ◌^◌, length, IfOk};
-
+use crate::outstanding::{message, sack};
 use sctp_chunk::SpareBuffers;
-use sctp_packet::{Data, GapAckBlock, SackChunk};
-use sctp_serial::{Fsn, Mid, OutgoingMessageId, PpId, SocketTime, Ssn, StreamId, StreamKey, Tsn};
+use sctp_packet::SackChunk;
+use sctp_serial::{OutgoingMessageId, SocketTime, Tsn};
 use sctp_state::Events;
 use sctp_tx_outstanding::{Item, OutstandingData};
 use std::alloc::{AllocError, Global};
@@ -40,24 +39,9 @@ fn fresh(alloc: Global) -> Sender {
     }
 }
 
-fn message(alloc: Global) -> Result<Data, AllocError>
-    ensures { IfOk result (λ m. length m.payload.items < 2 ^ 32) }
-{
-    Ok(Data {
-        stream_key: StreamKey::Unordered(StreamId(1)),
-        ssn: Ssn(0),
-        is_beginning: true,
-        is_end: true,
-        mid: Mid(0),
-        fsn: Fsn(0),
-        ppid: PpId(53),
-        payload: Vec::from_slice(alloc, &[7])?,
-    })
-}
-
 impl Outstanding for Sender {
     fn sends(&mut self) -> Result<(), AllocError> {
-        let message = message(self.alloc)?;
+        let message = message(self.alloc, 1)?;
         let id = OutgoingMessageId(0);
         let item = Item::new(id, message, SocketTime::zero(), 65_535, None, None);
         self.items.insert(item)?;
@@ -77,19 +61,6 @@ impl Outstanding for Sender {
             info.has_packet_loss,
         ))
     }
-}
-
-fn sack(alloc: Global, tsn: u32, blocks: &[(u16, u16)]) -> Result<SackChunk, AllocError> {
-    let mut gap_ack_blocks = Vec::new(alloc);
-    for (start, end) in blocks {
-        gap_ack_blocks.push(GapAckBlock::new(*start, *end))?;
-    }
-    Ok(SackChunk {
-        cumulative_tsn_ack: Tsn(tsn),
-        a_rwnd: 5_242_880,
-        gap_ack_blocks,
-        duplicate_tsns: Vec::new(alloc),
-    })
 }
 
 /// Whether the SACKs bring what is wanted, one after another.

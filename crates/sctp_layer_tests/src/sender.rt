@@ -1,8 +1,9 @@
 //! Scenarios of a sender in which any allocation may be refused: each call answers as with ample memory, or that memory lacks. What it
 //! leaves then its contract says; the sender goes on until nothing is left.
 
+use crate::outstanding::sack;
 use Call::{Accept, BeginReset, Expire, Sack, Send, SendFast, TimeOut};
-use sctp_packet::{Data, GapAckBlock, SackChunk};
+use sctp_packet::{Data, SackChunk};
 use sctp_serial::{Message, PpId, SocketTime, StreamId, Tsn};
 use sctp_state::{Events, Options, SendOptions};
 use sctp_tx::{HandleSackResult, RetransmissionQueue, SendQueue};
@@ -169,17 +170,12 @@ impl Sends for Sender {
     }
 }
 
-fn sack(alloc: Global, tsn: u32, first: u16, last: u16) -> Result<SackChunk, AllocError> {
-    let mut gap_ack_blocks = Vec::new(alloc);
+/// A SACK with this block, if it has a first offset.
+fn sack_of(alloc: Global, tsn: u32, first: u16, last: u16) -> Result<SackChunk, AllocError> {
     if first > 0 {
-        gap_ack_blocks.push(GapAckBlock::new(first, last))?;
+        return sack(alloc, tsn, &[(first, last)]);
     }
-    Ok(SackChunk {
-        cumulative_tsn_ack: Tsn(tsn),
-        a_rwnd: 5_242_880,
-        gap_ack_blocks,
-        duplicate_tsns: Vec::new(alloc),
-    })
+    sack(alloc, tsn, &[])
 }
 
 fn hears<S: Sends>(
@@ -203,7 +199,7 @@ fn answer<S: Sends>(alloc: Global, sender: &mut S, call: Call) -> Result<u32, Al
         Accept(stream, size, limit) => sender.accepts(stream, size, limit),
         Send(millis, count) => sends_each(sender, millis, count),
         SendFast(millis) => sender.sends_fast(millis),
-        Sack(millis, tsn, first, last) => hears(sender, millis, sack(alloc, tsn, first, last)),
+        Sack(millis, tsn, first, last) => hears(sender, millis, sack_of(alloc, tsn, first, last)),
         TimeOut(millis) => sender.times_out(millis),
         Expire(millis) => sender.expires(millis),
         BeginReset => sender.begins_reset(),
@@ -215,7 +211,7 @@ fn turn<S: Sends>(alloc: Global, sender: &mut S, millis: u64) {
     let _ = sender.times_out(millis);
     let _ = sender.expires(millis);
     let _ = sender.sends(millis);
-    let sack = sack(alloc, sender.last_tsn(), 0, 0);
+    let sack = sack(alloc, sender.last_tsn(), &[]);
     let _ = hears(sender, millis, sack);
 }
 
