@@ -3,7 +3,7 @@
 ghost use Rattle.std.specs.Prelude.{◌≡◌, ◌==◌, ◌+◌, true, Some, map, min, option_map, slice_get, nat_lt, sum_by, ◌<◌, ◌≤◌, ◌∷◌, ◌++◌, [], length, drop, take, OnOk, OnErr, IfOk, IfSome, IfNone};
 ghost use Rattle.sctp_tx_outstanding.specs.Change.{apply_change};
 ghost use Rattle.std.specs.List.{All};
-ghost use Rattle.sctp_tx_outstanding.specs.Item.{NotBefore, earliest_of, never, ack};
+ghost use Rattle.sctp_tx_outstanding.specs.Item.{NotBefore, earliest_of, never};
 ghost use Rattle.sctp_tx_outstanding.specs.Expiries.{Expects, FindsDue};
 ghost use Rattle.sctp_tx_outstanding.specs.OutstandingData.{change_at, abandon_if_of, last_of, later_at, without_payload, packet_part, payload_part, flight_part, queued_part, fast_part};
 ghost use Rattle.sctp_tx_outstanding.specs.Totals.{Exchanges};
@@ -303,6 +303,7 @@ impl Kept {
     ghost use Rattle.std.specs.Prelude.{false};
     ghost use Rattle.std.specs.List.{All};
     ghost use Rattle.sctp_tx_outstanding.specs.Item.{chunk_size, should_be_retransmitted};
+    ghost use Rattle.sctp_tx_outstanding.specs.declared.kept.Change.TheVariants.{Ack};
 
     /// No items. Takes no memory.
     pub(crate) fn new(alloc: Global, is_interleaved: bool) -> Kept
@@ -456,26 +457,13 @@ impl Kept {
         self.indexes.expiries.due(alloc, now, self.items.len())
     }
 
-    /// Changes the item at the place, if there is one.
+    /// Changes the item at the place, if there is one. If that acknowledges it, the answer is the bytes of its chunk, where it was
+    /// neither acknowledged nor given up.
     #[inline(always)]
-    pub(crate) fn change(&mut self, place: usize, how: Change)
-        ensures { self.new ≡ record self.old { items = change_at place (apply_change how) self.old.items } }
+    pub(crate) fn change(&mut self, place: usize, how: Change) -> Option<usize>
+        ensures items { self.new ≡ record self.old { items = change_at place (apply_change how) self.old.items } }
+        ensures size { how ≡ Ack → result ≡ open_size self.old.is_interleaved (slice_get self.old.items place) }
     {
-        let changed = change_item(&mut self.items, self.is_interleaved, place, how);
-        let Some((parts, _)) = changed else {
-            return;
-        };
-        self.indexes.follow(&self.items, place, how, parts);
-    }
-
-    /// The item at the place is acknowledged. The answer is the bytes of its chunk, where it was neither acknowledged nor given
-    /// up.
-    #[inline(always)]
-    pub(crate) fn ack(&mut self, place: usize) -> Option<usize>
-        ensures items { self.new ≡ record self.old { items = change_at place ack self.old.items } }
-        ensures size { result ≡ open_size self.old.is_interleaved (slice_get self.old.items place) }
-    {
-        let how = Change::Ack;
         let changed = change_item(&mut self.items, self.is_interleaved, place, how);
         let Some((parts, size)) = changed else {
             return None;

@@ -125,7 +125,7 @@ fn settle_at(kept: &mut Kept, place: usize, is_covered: bool, covered: Covered) 
         kept.change(place, Change::Uncover);
         return covered;
     }
-    match kept.ack(place) {
+    match kept.change(place, Change::Ack) {
         Some(size) => Covered {
             bytes: covered.bytes.saturating_add(size),
             below: place,

@@ -25,4 +25,4 @@ pub returns : goal.returns
 returns c =
     let k = c.args.kept.now in
     let here : is_of c.args.message_id.0 c.in-Some.item.now ≡ true = grind (arith, nat_tests, c.message_id.ensures, c.if-message_id.false) in
-    c.change.ensures ∙ ap (λ (js : List Item). record k { items = js }) (laid_of c.args.message_id.0 c.args.place k.items (is_of_at_here c.args.message_id.0 c.args.place k.items c.in-Some.item.now (search rules) ∙ here))
+    c.change.ensures.items ∙ ap (λ (js : List Item). record k { items = js }) (laid_of c.args.message_id.0 c.args.place k.items (is_of_at_here c.args.message_id.0 c.args.place k.items c.in-Some.item.now (search rules) ∙ here))
