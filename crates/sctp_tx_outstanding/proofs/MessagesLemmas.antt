@@ -121,9 +121,6 @@ left keys news first next i is message e small of put known = λ m n few.
 
 -- ---- none is kept
 
-of_none : (message k : ℕ) → is_of_at message k [] ≡ false
-of_none message k = refl
-
 pub none_kept : (keys : List ℕ) (first : ℕ) → keys ≡ [] → AreKeys keys first []
 none_kept keys first e = λ m n few. ap (λ ks. is_listed ks (pair_key m n)) e ∙ sym (as_never first (λ k. is_of_at m k []) (λ k. refl) n)
 

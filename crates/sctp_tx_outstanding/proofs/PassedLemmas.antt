@@ -37,9 +37,6 @@ looked_up now is n k (Some b) len inside at = sym (slice_get_read is n k (now b)
 
 -- ---- items come, leave and change
 
-pub none_passed : (m : Bool) (is : List Item) (left : ℕ) → ArePassed m is 0 left []
-none_passed m is left = record { within = omega arith; given_up = refl; ascends = tt; named = λ e. refl }
-
 pub passed_left : (m : Bool) (i : Item) (is : List Item) (count left : ℕ) (ts : List Touched) → ArePassed m (i ∷ is) (suc count) left ts → ArePassed m is count (suc left) ts
 passed_left m i is count left ts h = record {
   within = omega (arith, h.within);
@@ -47,9 +44,6 @@ passed_left m i is count left ts h = record {
   ascends = h.ascends;
   named = λ e. sym (kept_more left (find e ts)) ∙ ap (λ (o : Option Touched). kept_of (suc left) o) (h.named e) ∙ first_gone m e left i (take count is);
 }
-
-pub passed_still : (m : Bool) (i : Item) (is : List Item) (left : ℕ) (ts : List Touched) → ArePassed m (i ∷ is) 0 left ts → ArePassed m is 0 left ts
-passed_still m i is left ts h = record { within = omega arith; given_up = refl; ascends = h.ascends; named = h.named }
 
 pub passed_before : (m : Bool) (is js : List Item) (count left : ℕ) (ts : List Touched) → ArePassed m is count left ts → ArePassed m (is ++ js) count left ts
 passed_before m is js count left ts h =

@@ -1,8 +1,7 @@
 -- A walk through items and blocks.
 use Rattle.std.proofs.Common.{◌≡◌, ℕ, zero, suc, ◌+◌, ◌<◌, ◌≤◌, ◌||◌, Bool, true, false, cond, List, [], ◌∷◌, length, drop, slice_index_or, min, refl, ap, sym, subst, ◌∙◌, arith}
-use Rattle.std.specs.Prelude.{nat_le, slice_get}
+use Rattle.std.specs.Prelude.{slice_get}
 use Rattle.std.proofs.Math.Seq.{drop-cons}
-use Rattle.std.proofs.lemmas.Bool.Decides.{nat_tests}
 use Rattle.sctp_chunk.specs.declared.sack.GapAckBlock.{GapAckBlock}
 use Rattle.sctp_chunk.specs.Covered.{is_covered, covers, AreRuns}
 use Rattle.sctp_tx_outstanding.specs.Item.{Item}
@@ -12,18 +11,6 @@ use Rattle.sctp_tx_outstanding.specs.Passes.{IsCursor, IsWalk, ack_or_uncover_fr
 use Rattle.sctp_chunk.proofs.SackLemmas.{is_covered_below}
 
 -- ---- blocks
-
-pub covered_first : (lowest offset : ℕ) (b : GapAckBlock) (bs : List GapAckBlock) → AreRuns lowest (b ∷ bs) → offset ≤ b.end → nat_le b.start offset ≡ is_covered (b ∷ bs) offset
-covered_first lowest offset b bs h less =
-    let rest = is_covered_below (b.end + 2) offset bs h.2 (omega (arith, less)) in
-    grind (arith, nat_tests, rest)
-
-pub covered_at : (bs : List GapAckBlock) (at offset : ℕ) (d : GapAckBlock) → IsCursor bs offset at → at < length bs → offset ≤ (slice_index_or bs at d).end
-    → nat_le (slice_index_or bs at d).start offset ≡ is_covered bs offset
-covered_at bs at offset d h less ends =
-    let e : drop at bs ≡ slice_index_or bs at d ∷ drop (suc at) bs = drop-cons bs at d less in
-    let runs = subst (λ cs. AreRuns h.lowest cs) e h.runs in
-    covered_first h.lowest offset (slice_index_or bs at d) (drop (suc at) bs) runs ends ∙ ap (λ cs. is_covered cs offset) (sym e) ∙ h.same offset (omega arith)
 
 uncovered_first : (lowest o : ℕ) (b : GapAckBlock) (bs : List GapAckBlock) → AreRuns lowest (b ∷ bs) → o < b.start → is_covered (b ∷ bs) o ≡ false
 uncovered_first lowest o b bs h less = is_covered_below b.start o (b ∷ bs) (omega arith, h.1, h.2) less

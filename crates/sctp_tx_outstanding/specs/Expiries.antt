@@ -33,11 +33,6 @@ abbrev pub Sets : (moment number : ℕ) → Bool → (old new : List ℕ) → Ty
 Sets moment number is_there old new = (m n : ℕ) → m < never → n < 2 ^ 32
     → is_listed new (pair_key m n) ≡ (if (m == moment) && (n == number) then is_there else is_listed old (pair_key m n))
 
--- an item that was listed under one moment alone is listed under another alone
-abbrev pub Replaces : (number was will : ℕ) → (old new : List ℕ) → Type 0
-Replaces number was will old new = (m n : ℕ) → m < never → n < 2 ^ 32 → is_listed old (pair_key m number) ≡ (was == m)
-    → is_listed new (pair_key m n) ≡ (if n == number then will == m else is_listed old (pair_key m n))
-
 -- ---- what expires now
 
 -- whether the item at the place does
