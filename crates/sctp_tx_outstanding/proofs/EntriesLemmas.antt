@@ -4,6 +4,7 @@ use Rattle.std.specs.Prelude.{◌&&◌, ◌||◌, ◌==◌, not, nat_lt, nat_le,
 use Rattle.std.specs.List.{list_all, list_any, AllWithin}
 use Rattle.std.specs.List.Sorted.{IsNonDecreasingBy, IsPartitionedBy}
 use Rattle.std.proofs.lemmas.List.Sorted.{IsPartitionedBy-ltb}
+use Rattle.std.proofs.Math.Bool.{or-false}
 use Rattle.std.proofs.lemmas.Bool.{eqb-true, leb-true, lt-ltb, ltb-false, ltb-true, or_from, and_parts}
 use Rattle.std.proofs.lemmas.Bool.Decides.{nat_tests}
 use Rattle.sctp_tx_outstanding.specs.declared.skips.SkipEntry.{SkipEntry}
@@ -209,10 +210,6 @@ place_is e (d ∷ ds) (suc n) le below from =
     place_is e ds n (omega (arith, le)) (λ k x low high. below (suc k) x (omega arith) (omega (arith, high))) (λ k x low high. from (suc k) x (omega (arith, low)) (omega (arith, high))) in
     ap (λ k. suc k) later ∙ sym (ap (λ b. cond b (suc (entries_before e ds)) 0) (below 0 d (omega arith) (omega arith)))
 
-or_nothing : (b : Bool) → b ≡ (b || false)
-or_nothing true = refl
-or_nothing false = refl
-
 module _ (e d : SkipEntry) (ds : List SkipEntry) (h : Rising (suc (rank d)) ds) (ih : is_alike_at e (entries_before e ds) ds ≡ list_any (is_alike e) ds) where
   found_by : (before : Bool) → is_before d e ≡ before → is_alike_at e (cond before (suc (entries_before e ds)) 0) (d ∷ ds) ≡ (is_alike e d || list_any (is_alike e) ds)
   found_by true before =
@@ -220,7 +217,7 @@ module _ (e d : SkipEntry) (ds : List SkipEntry) (h : Rising (suc (rank d)) ds) 
       ih ∙ sym (ap (λ b. b || list_any (is_alike e) ds) (alike_is e d ∙ greater_differs (rank d) (rank e) less))
   found_by false before =
       let up : rank e ≤ rank d = ltb-false (rank d) (rank e) (sym (before_is d e) ∙ before) in
-      or_nothing (is_alike e d) ∙ sym (ap (λ b. is_alike e d || b) (none_alike e (suc (rank d)) ds (omega (arith, up)) h))
+      sym (or-false (is_alike e d)) ∙ sym (ap (λ b. is_alike e d || b) (none_alike e (suc (rank d)) ds (omega (arith, up)) h))
 
 alike_found : (e : SkipEntry) (lo : ℕ) (es : List SkipEntry) → Rising lo es → is_alike_at e (entries_before e es) es ≡ list_any (is_alike e) es
 alike_found e lo [] h = refl

@@ -96,7 +96,7 @@ impl Model for Item {
 
 impl Item {
     ghost use Rattle.std.specs.Prelude.{Option, true};
-    ghost use Rattle.sctp_tx_outstanding.specs.Item.{is_outstanding, should_be_retransmitted, is_fast, is_nacked, is_acked, is_abandoned, has_been_retransmitted, has_expired, expiry, is_used_up, ack, uncover, is_lost, nack, mark_as_retransmitted, miss_fast, abandon, rtt_from};
+    ghost use Rattle.sctp_tx_outstanding.specs.Item.{is_outstanding, is_open, should_be_retransmitted, is_fast, is_nacked, is_acked, is_abandoned, has_been_retransmitted, has_expired, expiry, is_used_up, ack, uncover, is_lost, nack, mark_as_retransmitted, miss_fast, abandon, rtt_from};
 
     /// A fragment that is sent now for the first time.
     pub fn new(
@@ -187,6 +187,14 @@ impl Item {
         ensures { result ≡ should_be_retransmitted self.now }
     {
         matches!(self.state, ItemState::Queued | ItemState::QueuedFast)
+    }
+
+    /// Whether it is neither acknowledged nor given up.
+    #[inline(always)]
+    pub(crate) fn is_open(&self) -> bool
+        ensures { result ≡ is_open self.now }
+    {
+        self.is_outstanding() || self.should_be_retransmitted()
     }
 
     /// Whether it is to be sent again by the packet that ignores the congestion window.
@@ -330,7 +338,7 @@ impl Item {
         if !self.is_outstanding() {
             return;
         }
-        let is_lost = at_once || self.reports >= 2;
+        let is_lost = self.is_lost(at_once);
         self.state = ItemState::nacked(is_lost, fast);
         self.reports = if is_lost { 0 } else { self.reports + 1 };
     }

@@ -247,7 +247,7 @@ fn stays(item: &Item, change: Change) -> bool
 fn open_size(item: &Item, is_interleaved: bool) -> Option<usize>
     ensures { result ≡ open_size is_interleaved (Some item.now) }
 {
-    if item.is_outstanding() || item.should_be_retransmitted() {
+    if item.is_open() {
         return Some(item.chunk_size(is_interleaved));
     }
     None
@@ -301,7 +301,6 @@ impl Model for Kept {
 
 impl Kept {
     ghost use Rattle.std.specs.Prelude.{false};
-    ghost use Rattle.std.specs.List.{All};
     ghost use Rattle.sctp_tx_outstanding.specs.Item.{chunk_size, should_be_retransmitted};
     ghost use Rattle.sctp_tx_outstanding.specs.declared.kept.Change.TheVariants.{Ack};
 

@@ -8,7 +8,7 @@ ghost use Rattle.sctp_chunk.specs.Chunk.{forward_tsn_chunk, i_forward_tsn_chunk}
 ghost use Rattle.sctp_tx_outstanding.specs.declared.item.ItemState.TheVariants.{InFlight};
 ghost use Rattle.sctp_tx_outstanding.specs.Entries.{ssn_skip, mid_skip};
 ghost use Rattle.sctp_serial.specs.Unwrapped.{origin};
-ghost use Rattle.sctp_state.specs.Events.{emit_given_up, emit_events};
+ghost use Rattle.sctp_state.specs.Events.{emit_given_up, emit_events, first_of};
 ghost use Rattle.sctp_tx_outstanding.specs.Views.{discard_of, point_of};
 ghost use Rattle.sctp_tx_outstanding.specs.Losses.{loss_of};
 ghost use Rattle.sctp_tx_outstanding.specs.OutstandingData.{append_item, begin_reset, is_last, begun_at};
@@ -18,7 +18,6 @@ ghost use Rattle.sctp_tx_outstanding.specs.Expiries.{FindsDue};
 ghost use Rattle.sctp_tx_outstanding.specs.Interrupted.{Same, SomeNacked, SomeExpired, SackPartlyTaken};
 ghost use Rattle.sctp_tx_outstanding.specs.Forward.{is_forward_due, stops, forward_point};
 ghost use Rattle.sctp_tx_outstanding.specs.Sack.{sample, is_in_range, is_valid, staying, leaving, departing_bytes, all_leaving_events, receive_sack, acked_bytes, highest_end};
-ghost use Rattle.sctp_state.specs.Events.{first_of};
 
 mod handover;
 mod idle;

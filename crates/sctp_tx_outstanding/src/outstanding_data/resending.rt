@@ -23,7 +23,7 @@ impl OutstandingData {
             return false;
         }
         match self.kept.get((number - self.acked - 1) as usize) {
-            Some(item) => item.is_outstanding() || item.should_be_retransmitted(),
+            Some(item) => item.is_open(),
             None => false,
         }
     }
