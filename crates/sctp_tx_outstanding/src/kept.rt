@@ -545,13 +545,6 @@ impl Kept {
     {
         self.indexes.messages.next(message_id, place)
     }
-
-    /// Gives up all items of a message.
-    pub(crate) fn abandon(&mut self, message_id: OutgoingMessageId)
-        ensures { self.new ≡ record self.old { items = map (abandon_if_of message_id.0) self.old.items } }
-    {
-        abandon_all(self, message_id);
-    }
 }
 
 /// Gives up the item at the place, where it is one of the message.
@@ -568,7 +561,7 @@ fn abandon_at(kept: &mut Kept, place: usize, message_id: OutgoingMessageId)
 }
 
 /// Gives up all items of a message.
-fn abandon_all(kept: &mut Kept, message_id: OutgoingMessageId)
+pub(crate) fn abandon_all(kept: &mut Kept, message_id: OutgoingMessageId)
     ensures { kept.new ≡ record kept.old { items = map (abandon_if_of message_id.0) kept.old.items } }
 {
     let count = kept.len();

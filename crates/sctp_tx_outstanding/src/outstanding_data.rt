@@ -26,7 +26,7 @@ mod resending;
 use crate::breakpoints::Breakpoints;
 use crate::expiries::Due;
 use crate::item::Item;
-use crate::kept::{Change, Kept, placeholder};
+use crate::kept::{Change, Kept, abandon_all, placeholder};
 use crate::passed::ForwardPoint;
 use crate::sack::{AckInfo, highest_end, settle_all, take_out};
 use crate::skips::{mid_skips, pass, ssn_skips};
@@ -307,7 +307,7 @@ impl OutstandingData {
             events.roll_back(mark);
             return Err(AllocError);
         }
-        self.kept.abandon(message_id);
+        abandon_all(&mut self.kept, message_id);
         Ok(())
     }
 
