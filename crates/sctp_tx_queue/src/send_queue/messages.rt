@@ -410,6 +410,7 @@ impl Messages {
     {
         if let Some(room) = &mut self.room {
             keep_partly_sent(room, buffered);
+            room.shrink_to(MOST_MESSAGES_OF_SPARE_ROOM);
         }
         self.leave_room();
     }
