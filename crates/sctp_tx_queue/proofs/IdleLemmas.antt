@@ -17,7 +17,7 @@ use Rattle.sctp_tx_queue.proofs.SettledLemmas.{put_back}
 none_begun : (q : Queue) → q.begun ≡ None → unbegun q ≡ q
 none_begun q h = ap (λ b. let r : Queue = record q { begun = b } in r) (sym h)
 
-none_of : {X : Type 0} (xs : List X) → (length xs == 0) ≡ true → xs ≡ []
+pub none_of : {X : Type 0} (xs : List X) → (length xs == 0) ≡ true → xs ≡ []
 none_of {X} xs h = go xs (eqb-true (length xs) 0 h)
   where
     go : (ys : List X) → length ys ≡ 0 → ys ≡ []

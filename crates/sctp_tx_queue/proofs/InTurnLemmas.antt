@@ -35,13 +35,16 @@ all_found (e ∷ es) s =
     (ap (λ (b : Bool). cond b (Some e.1) (lookup (is_at (nat_cmp e.0)) es)) (at_itself e.0), found_behind e es es (are_above e.0 es s) (all_found es s.1))
 
 -- the queue has these streams
-abbrev Has : Queue → Entries → Type 0
+abbrev pub Has : Queue → Entries → Type 0
 Has q [] = Unit {0}
 Has q (e ∷ es) = (stream e.0 q.streams ≡ e.1) × Has q es
 
 has_found : (q : Queue) (es : Entries) → AreFound q.streams.entries es → Has q es
 has_found q [] h = tt
 has_found q (e ∷ es) h = (ap (λ (o : Option Stream). unwrap_or o (blank q.streams)) h.0, has_found q es h.1)
+
+pub has_all : (q : Queue) → IsStrictlySortedBy nat_cmp (keys_of q.streams.entries) → Has q q.streams.entries
+has_all q s = has_found q q.streams.entries (all_found q.streams.entries s)
 
 -- and still those above one that is emptied
 has_others : (q : Queue) (id : ℕ) (es : Entries) → AreAbove id es → Has q es → Has (emptied_one id q) es
@@ -59,4 +62,4 @@ in_turn (e ∷ es) q t s h =
 
 pub emitted_in_turn : {P : Type 0} (q : Queue) (t : Emitted P) → IsStrictlySortedBy nat_cmp (keys_of q.streams.entries)
     → emit_all_ended (values_of q.streams.entries) t ≡ (empty q t).emitted
-emitted_in_turn q t s = sym (in_turn q.streams.entries q t s (has_found q q.streams.entries (all_found q.streams.entries s)))
+emitted_in_turn q t s = sym (in_turn q.streams.entries q t s (has_all q s))

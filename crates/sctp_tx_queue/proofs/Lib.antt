@@ -23,3 +23,4 @@ pub mod TakenUpLemmas
 pub mod UnfinishedLemmas
 pub mod WholeLemmas
 pub mod IdleLemmas
+pub mod OthersOutLemmas

@@ -1,9 +1,10 @@
 -- An association has ended: what waits or is partly sent is given up.
-use Rattle.std.specs.Prelude.{ℕ, ◌==◌, ◌&&◌, Bool, not, is_some, List, [], ◌∷◌, length}
+use Rattle.std.specs.Prelude.{ℕ, ◌==◌, ◌&&◌, ◌||◌, Bool, not, if◌then◌else◌, is_some, List, [], ◌∷◌, length}
 use Rattle.std.specs.Map.{keys_of}
 use Rattle.sctp_state.specs.Events.{Emitted, emit_events, emit_given_up, expired_events}
 use Rattle.sctp_state.specs.declared.api.GivenUpCause.TheVariants.{Ended}
-use Rattle.sctp_tx_queue.specs.SendQueue.{Queued, Stream, Streams, Queue, stream, put_stream, set_sendable, is_empty}
+use Rattle.sctp_stream_scheduler.specs.StreamScheduler.{Scheduler, is_active}
+use Rattle.sctp_tx_queue.specs.SendQueue.{Queued, Stream, Streams, Entries, Queue, stream, put_stream, set_sendable, has_nothing, is_empty}
 use Rattle.sctp_tx_queue.specs.Restarted.{unbegun}
 use Rattle.sctp_tx_queue.specs.Settings.{Changed}
 
@@ -40,6 +41,15 @@ empty q emitted = record {
   queue = unbegun (each_emptied (keys_of q.streams.entries) q);
   emitted = emit_each_ended (keys_of q.streams.entries) q emitted;
 }
+
+-- the stream has messages, or is in line
+abbrev pub is_to_empty : ℕ → Stream → Scheduler → Bool
+is_to_empty id s sch = not (has_nothing s) || is_active id sch
+
+-- those streams, ascending by id: to empty another one changes nothing
+abbrev pub streams_to_empty : Scheduler → Entries → List ℕ
+streams_to_empty sch [] = []
+streams_to_empty sch (e ∷ es) = if is_to_empty e.0 e.1 sch then e.0 ∷ streams_to_empty sch es else streams_to_empty sch es
 
 -- no message waits or is partly sent, and no stream is in line
 abbrev pub is_idle : Queue → Bool

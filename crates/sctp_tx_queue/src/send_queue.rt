@@ -592,12 +592,12 @@ impl SendQueue {
         if self.is_idle() {
             return Ok(());
         }
-        let ids = self.streams.ids(self.alloc)?;
         let mark = events.mark();
-        if self.streams.emit_ended(events).is_err() {
+        let scheduler = &self.scheduler;
+        let Ok(ids) = self.streams.emit_ended(self.alloc, scheduler, events) else {
             events.roll_back(mark);
             return Err(AllocError);
-        }
+        };
         self.empty_each(&ids);
         self.begun = None;
         Ok(())
@@ -618,12 +618,11 @@ impl SendQueue {
         }
     }
 
-    /// Drops the messages of a stream, which takes no memory: it has nothing to send from then on.
-    #[tactic(auto, using(crate::proofs::AddedLemmas::any_keeps))]
+    /// Drops the messages of a stream, which needs no memory: it has nothing to send from then on.
     fn empty_one(&mut self, id: StreamId)
         ensures { self.new ≡ emptied_one id.0 self.old }
     {
-        self.changed = ChangedStreams::any();
+        self.changed.add(id);
         self.scheduler.leave(id);
         self.streams.change(id, StreamChange::Empty);
     }

@@ -61,10 +61,7 @@ fn present(
 }
 
 /// All streams, by ascending id.
-pub(crate) fn stream_ids(
-    alloc: Global,
-    streams: &BTreeMap<u16, Stream>,
-) -> Result<Vec<StreamId>, AllocError>
+fn stream_ids(alloc: Global, streams: &BTreeMap<u16, Stream>) -> Result<Vec<StreamId>, AllocError>
     ensures { IfOk result (λ ids. map (λ id. id.0) ids.items ≡ keys_of streams.now.entries) }
 {
     let mut ids = Vec::new(alloc);

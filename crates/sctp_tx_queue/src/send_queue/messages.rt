@@ -21,7 +21,7 @@ use crate::send_queue::sending::StreamTurn;
 use sctp_chunk::SpareBuffers;
 use sctp_serial::{OutgoingMessageId, SocketTime, StreamId};
 use sctp_state::api::handover::HandoverStreamMessage;
-use sctp_state::{Events, GivenUpCause, ThresholdWatcher};
+use sctp_state::{Events, GivenUpCause, ThresholdWatcher, take_first};
 use std::alloc::{AllocError, Global};
 use std::collections::VecDeque;
 use std::marker::Model;
@@ -152,7 +152,7 @@ fn drop_stale_front(
     ensures less { buffered.new.amount ≤ buffered.old.amount }
 {
     while is_stale_front(messages, now) {
-        let Some(message) = messages.pop_front() else {
+        let Some(message) = take_first(messages) else {
             return;
         };
         buffered.decrease(message.left());
@@ -176,7 +176,7 @@ fn move_front_on(
         message.move_on(numbers, size, room);
         return None;
     }
-    messages.pop_front()
+    take_first(messages)
 }
 
 /// Drops the message at the front.
@@ -187,7 +187,7 @@ fn pop_front(messages: &mut VecDeque<QueuedMessage>, buffered: &mut ThresholdWat
     ensures threshold { buffered.new.low_threshold ≡ buffered.old.low_threshold }
     ensures less { buffered.new.amount ≤ buffered.old.amount }
 {
-    if let Some(message) = messages.pop_front() {
+    if let Some(message) = take_first(messages) {
         buffered.decrease(message.left());
     }
 }
@@ -410,6 +410,7 @@ impl Messages {
     {
         if let Some(room) = &mut self.room {
             keep_partly_sent(room, buffered);
+            room.shrink_to(MOST_MESSAGES_OF_SPARE_ROOM);
         }
         self.leave_room();
     }

@@ -1,9 +1,9 @@
 //! What waits on one stream.
 
-ghost use Rattle.std.specs.Prelude.{◌≡◌, ◌+◌, ◌-◌, ◌<◌, ◌≤◌, ◌^◌, [], ◌++◌, sum_by, IsTrue, is_some, IfOk, OnOk, OnErr, option_map, map, if◌then◌else◌};
+ghost use Rattle.std.specs.Prelude.{◌≡◌, ◌+◌, ◌-◌, ◌<◌, ◌≤◌, ◌^◌, [], ◌++◌, sum_by, IsTrue, is_some, IfOk, OnOk, OnErr, option_map, map, not, if◌then◌else◌};
 ghost use Rattle.sctp_state.specs.Events.{Grown};
 ghost use Rattle.sctp_state.specs.ThresholdWatcher.{crosses};
-ghost use Rattle.sctp_tx_queue.specs.SendQueue.{remaining_bytes, amount_of, watched_amount, blank_stream, sendable, push, is_stopped};
+ghost use Rattle.sctp_tx_queue.specs.SendQueue.{remaining_bytes, amount_of, watched_amount, blank_stream, sendable, push, is_stopped, has_nothing};
 ghost use Rattle.sctp_tx_queue.specs.Produced.{is_front_stale, emit_expired, without_stale, front_numbers, front_took, next_fragment, advance, pause_after, pause_if_pending, front_needs_room};
 ghost use Rattle.sctp_tx_queue.specs.Settings.{with_threshold, without_front, front_discarded};
 ghost use Rattle.sctp_tx_queue.specs.Resets.{is_ready, after_step, emit_unsent, prepare_stream, pause_for_reset};
@@ -533,6 +533,12 @@ impl Stream {
     {
         self.messages.keep_partly_sent(&mut self.buffered);
         self.pause_state = waiting(self.messages.is_empty(), self.pause_state);
+    }
+
+    pub(crate) fn has_messages(&self) -> bool
+        ensures { result ≡ not (has_nothing self.now) }
+    {
+        !self.messages.is_empty()
     }
 
     /// Emits of all messages that they are given up, as their association ended.

@@ -1,6 +1,6 @@
 //! The streams that were named, and what is left on all of them.
 
-ghost use Rattle.std.specs.Prelude.{◌≡◌, ◌+◌, ◌<◌, ◌≤◌, ◌^◌, ◌==◌, true, [], None, Some, IsTrue, IsSome, IfOk, OnOk, OnErr, option_map, map, take, filter};
+ghost use Rattle.std.specs.Prelude.{◌≡◌, ◌+◌, ◌<◌, ◌≤◌, ◌^◌, ◌==◌, true, [], ◌∷◌, ◌++◌, if◌then◌else◌, None, Some, IsTrue, IsSome, IfOk, OnOk, OnErr, option_map, map, take, filter};
 ghost use Rattle.std.specs.Map.{lookup, keys_of, values_of};
 ghost use Rattle.std.specs.List.{list_all, list_any};
 ghost use Rattle.std.specs.List.Sorted.{IsStrictlySortedBy};
@@ -19,14 +19,14 @@ ghost use Rattle.sctp_tx_queue.specs.Readiness.{has_reset_pending};
 ghost use Rattle.sctp_tx_queue.specs.Bounded.{one};
 ghost use Rattle.sctp_tx_queue.specs.Change.{changed};
 ghost use Rattle.sctp_tx_queue.specs.Restarted.{restart, is_restarted, may_differ, Joins};
-ghost use Rattle.sctp_tx_queue.specs.Emptied.{emit_all_ended};
+ghost use Rattle.sctp_tx_queue.specs.Emptied.{emit_ended, emit_all_ended, is_to_empty, streams_to_empty};
 ghost use Rattle.sctp_state.specs.Validity.{are_valid_messages, queued_bytes, outgoing_ids, rises_from};
 ghost use Rattle.sctp_state.specs.Handover.{transmission_of};
 ghost use Rattle.sctp_tx_queue.specs.Restored.{entries_from, streams_from};
 ghost use Rattle.sctp_tx_queue.specs.Views.{produced_of};
 
 use crate::data_to_send::DataToSend;
-use crate::send_queue::changes::{ChangedStreams, stream_ids};
+use crate::send_queue::changes::ChangedStreams;
 use crate::send_queue::message::QueuedMessage;
 use crate::send_queue::messages::SpareRooms;
 use crate::send_queue::ready_ids::{ReadyIds, first_ids};
@@ -445,15 +445,22 @@ impl Streams {
         }
     }
 
-    /// Emits of all messages that they are given up, as their association ended.
-    pub(crate) fn emit_ended(&self, events: &mut Events) -> Result<(), AllocError>
-        ensures ok { OnOk result (events.new ≡ emit_all_ended (values_of self.now.entries) events.old) }
+    /// Emits of all messages that they are given up, as their association ended. The answer is the streams that have
+    /// messages or are in line, by ascending id.
+    pub(crate) fn emit_ended(
+        &self,
+        alloc: Global,
+        scheduler: &StreamScheduler,
+        events: &mut Events,
+    ) -> Result<Vec<StreamId>, AllocError>
+        ensures streams { IfOk result (λ ids. map (λ id. id.0) ids.items ≡ streams_to_empty scheduler.now self.now.entries) }
+        ensures emitted { OnOk result (events.new ≡ emit_all_ended (values_of self.now.entries) events.old) }
         ensures ordered { IsStrictlySortedBy nat_cmp (keys_of self.now.entries) }
         ensures err { OnErr result (Grown events.old events.new) }
     {
         // (read for its clause: the ids ascend)
         let _count = self.streams.len();
-        emit_each_ended(&self.streams, events)
+        emit_each_ended(alloc, &self.streams, scheduler, events)
     }
 
     /// The streams in the record of a socket that is handed over.
@@ -476,13 +483,6 @@ impl Streams {
         ensures { IfOk result (λ records. map stream_message_of records.items ≡ queued_messages now self.now.entries) }
     {
         queued_messages(alloc, now, &self.streams)
-    }
-
-    /// All streams, by ascending id.
-    pub(crate) fn ids(&self, alloc: Global) -> Result<Vec<StreamId>, AllocError>
-        ensures { IfOk result (λ ids. map (λ id. id.0) ids.items ≡ keys_of self.now.entries) }
-    {
-        stream_ids(alloc, &self.streams)
     }
 
     /// Those that may have changed, by ascending id.
@@ -555,14 +555,48 @@ fn ready_streams(
     Ok(ids)
 }
 
-fn emit_each_ended(streams: &BTreeMap<u16, Stream>, events: &mut Events) -> Result<(), AllocError>
-    ensures ok { OnOk result (events.new ≡ emit_all_ended (values_of streams.now.entries) events.old) }
+/// Whether a stream has messages or is in line.
+fn is_to_empty(scheduler: &StreamScheduler, id: StreamId, stream: &Stream) -> bool
+    ensures { result ≡ is_to_empty id.0 stream.now scheduler.now }
+{
+    stream.has_messages() || scheduler.is_active(id)
+}
+
+/// Emits of the messages of a stream that they are given up. One that has messages or is in line is added to these.
+fn emit_and_list(
+    ids: &mut Vec<StreamId>,
+    scheduler: &StreamScheduler,
+    id: StreamId,
+    stream: &Stream,
+    events: &mut Events,
+) -> Result<(), AllocError>
+    ensures listed { OnOk result (map (λ id. id.0) ids.new.items ≡ map (λ id. id.0) ids.old.items ++ (if is_to_empty id.0 stream.now scheduler.now then id.0 ∷ [] else [])) }
+    ensures emitted { OnOk result (events.new ≡ emit_ended stream.now.messages events.old) }
     ensures err { OnErr result (Grown events.old events.new) }
 {
-    for (_, stream) in streams {
-        stream.emit_ended(events)?;
+    if !is_to_empty(scheduler, id, stream) {
+        return Ok(());
     }
-    Ok(())
+    ids.push(id)?;
+    stream.emit_ended(events)
+}
+
+/// Emits of the messages of all streams that they are given up. The answer is those that have messages or are in line.
+fn emit_each_ended(
+    alloc: Global,
+    streams: &BTreeMap<u16, Stream>,
+    scheduler: &StreamScheduler,
+    events: &mut Events,
+) -> Result<Vec<StreamId>, AllocError>
+    ensures streams { IfOk result (λ ids. map (λ id. id.0) ids.items ≡ streams_to_empty scheduler.now streams.now.entries) }
+    ensures emitted { OnOk result (events.new ≡ emit_all_ended (values_of streams.now.entries) events.old) }
+    ensures err { OnErr result (Grown events.old events.new) }
+{
+    let mut ids = Vec::new(alloc);
+    for (id, stream) in streams {
+        emit_and_list(&mut ids, scheduler, StreamId(*id), stream, events)?;
+    }
+    Ok(ids)
 }
 
 fn outgoing_streams(

@@ -3,6 +3,7 @@ use Rattle.std.specs.Prelude.{option_map}
 use Rattle.sctp_stream_scheduler.specs.StreamScheduler.{Scheduler, set_bytes_remaining}
 use Rattle.sctp_tx_queue.specs.SendQueue.{Queue, Streams, stream, put_stream}
 use Rattle.sctp_tx_queue.specs.Emptied.{emptied, emptied_one}
+use Rattle.sctp_tx_queue.proofs.AddedLemmas.{keeps_one}
 use Rattle.sctp_tx_queue.proofs.EmptiedLemmas.{emptied_sendable}
 use Rattle.sctp_tx_queue.proofs.send_queue.SendQueue.empty_one.Goals as goal
 
@@ -14,3 +15,10 @@ returns c =
     ap (λ ss. queue ss c.leave.new.self) c.change.ensures
     ∙ ap (λ sch. queue after sch) (c.leave.ensures ∙ sym (ap (λ n. set_bytes_remaining id n (stream id after).priority c.self.inside.scheduler) (emptied_sendable id c.self.inside.streams)))
     ∙ ap (λ q. emptied_one id q) c.self.view_is
+
+pub invariant_of-self : goal.invariant_of-self
+invariant_of-self c =
+    let id = c.args.id.0 in
+    let queue : Streams → Scheduler → Queue = λ ss sch. record { streams = ss; scheduler = sch; next_number = c.self.inside.next_message_id.0; begun = option_map (λ i. i.0) c.self.inside.begun } in
+    keeps_one id 0 0 (emptied (stream id c.self.inside.streams)) c.self.inside.changed c.add.new.self (queue c.self.inside.streams c.self.inside.scheduler) (queue c.change.new.self c.leave.new.self) c.self.invariant c.add.ensures c.change.ensures
+    c.leave.ensures (λ k h. h)
