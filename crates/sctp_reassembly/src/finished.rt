@@ -17,21 +17,22 @@ use std::marker::Model;
 /// The keys at which complete intervals begin, where they are known. Keys of other intervals may be among them.
 ///
 /// A key goes with a search from a later message on, or a forward point to it. Where memory lacks for a key, none are known.
+/// They stand apart, since most streams have none.
 #[derive(Drop)]
 pub(crate) struct Finished<K: ReassemblyKey> {
-    keys: Option<BTreeSet<K>>,
+    keys: Option<Box<BTreeSet<K>>>,
 }
 
 impl<K: ReassemblyKey> Model for Finished<K> {
-    ghost use Rattle.std.specs.Prelude.{Option};
+    ghost use Rattle.std.specs.Prelude.{Option, option_map};
     ghost use Rattle.std.specs.BTreeSet.{BTreeSet};
     ghost use Rattle.sctp_reassembly.specs.Finished.{AreKnown};
 
     ghost Value = { Option (BTreeSet K) };
 
-    ghost view = { λ s. s.keys };
+    ghost view = { λ s. option_map (λ b. b.value) s.keys };
 
-    ghost invariant = { λ s. AreKnown K.is_key s.keys };
+    ghost invariant = { λ s. AreKnown K.is_key (option_map (λ b. b.value) s.keys) };
 }
 
 /// Adds a key.
@@ -105,6 +106,19 @@ fn all_keys<K: ReassemblyKey>(
     Ok(keys)
 }
 
+/// The same, where a list has them.
+fn kept_keys<K: ReassemblyKey>(
+    alloc: Global,
+    first: &Option<Interval<K>>,
+    later: &BTreeMap<K, Interval<K>>,
+) -> Result<Box<BTreeSet<K>>, AllocError>
+    ensures keys { IfOk result (λ b. AreKeys K.is_key b.value.keys) }
+    ensures none { IfOk result (λ b. NoneMissed K.number K.index 0 (Some b.value) (lists_of (held_of K.number K.index) (all_of first.now later.now.entries))) }
+{
+    let keys = all_keys(alloc, first, later)?;
+    Ok(Box::new(alloc, keys)?)
+}
+
 /// Whether the first of the keys is before this one.
 fn begins_before<K: ReassemblyKey>(keys: &BTreeSet<K>, key: K) -> bool
     ensures some { result ≡ true → 0 < length keys.now.keys }
@@ -149,6 +163,18 @@ fn first_from<K: ReassemblyKey>(keys: &BTreeSet<K>, key: K) -> Option<K>
     }
 }
 
+/// The same, where some of those before it go.
+fn take_first_from<K: ReassemblyKey>(keys: &mut BTreeSet<K>, key: K) -> Option<K>
+    requires keys { AreKeys K.is_key keys.old.keys }
+    ensures keys { AreKeys K.is_key keys.new.keys }
+    ensures kept { (n : ℕ) → rank_at K.number K.index key ≤ n → is_held (rank_at K.number K.index) n keys.old.keys ≡ true → is_held (rank_at K.number K.index) n keys.new.keys ≡ true }
+    ensures some { IfSome result (λ k. (n : ℕ) → rank_at K.number K.index key ≤ n → is_held (rank_at K.number K.index) n keys.new.keys ≡ true → rank_at K.number K.index k ≤ n) }
+    ensures none { IfNone result ((n : ℕ) → rank_at K.number K.index key ≤ n → is_held (rank_at K.number K.index) n keys.new.keys ≡ false) }
+{
+    drop_before(keys, key, FEW);
+    first_from(keys, key)
+}
+
 impl<K: ReassemblyKey> Finished<K> {
     /// None are known.
     pub fn unknown() -> Finished<K>
@@ -165,7 +191,7 @@ impl<K: ReassemblyKey> Finished<K> {
     ) -> Finished<K>
         ensures { NoneMissed K.number K.index 0 result (lists_of (held_of K.number K.index) (all_of first.now later.now.entries)) }
     {
-        match all_keys(alloc, first, later) {
+        match kept_keys(alloc, first, later) {
             Ok(keys) => Finished { keys: Some(keys) },
             Err(_) => Finished { keys: None },
         }
@@ -212,7 +238,6 @@ impl<K: ReassemblyKey> Finished<K> {
         let Some(keys) = &mut self.keys else {
             return Some(least);
         };
-        drop_before(keys, least, FEW);
-        first_from(keys, least)
+        take_first_from(keys, least)
     }
 }
