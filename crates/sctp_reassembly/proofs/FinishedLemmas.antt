@@ -9,14 +9,14 @@ use Rattle.std.specs.BTreeMap.Range.{IsLeBy}
 use Rattle.std.specs.declared.ops.Bound.TheVariants.{Unbounded, Included}
 use Rattle.std.proofs.lemmas.Bool.{and_parts, eq-eqb}
 use Rattle.std.proofs.lemmas.Bool.Decides.{nat_tests}
-use Rattle.std.proofs.lemmas.List.Elements.{All-head, All-tail}
+use Rattle.std.proofs.lemmas.List.Elements.{All-cons, All-head, All-tail}
 use Rattle.sctp_serial.proofs.NumberLemmas.{is_equal}
 use Rattle.sctp_fragments.specs.declared.interval.Interval.{Interval}
 use Rattle.sctp_fragments.specs.ReassemblyKey.{pair_rank, rank_at}
 use Rattle.sctp_fragments.specs.Interval.{held_of, run_of, lists_of}
 use Rattle.sctp_fragments.specs.Runs.{is_held}
 use Rattle.sctp_fragments.specs.Held.{Held, rank_of, intervals_of, is_complete, is_in_turn, NonePass, NoneInTurn, without_first_of, IsPlaced}
-use Rattle.sctp_reassembly.specs.Finished.{AreKeys, BeginsAt, is_missed, is_earlier, NoneMissed, NoneEarlier}
+use Rattle.sctp_reassembly.specs.Finished.{BeginsAt, is_missed, is_earlier, NoneMissed, NoneEarlier}
 use Rattle.sctp_reassembly.proofs.DeliverLemmas.{NonePass_with}
 use Rattle.sctp_reassembly.proofs.NoteLemmas.{not_above}
 
@@ -234,13 +234,13 @@ module _ {K : Type 0} (number index : K → ℕ) where
 
   -- the first key went, which is below the rank
   pub record IsDropped (is_key : K → Type 0) (least : ℕ) (old new : List K) : Type 0 where
-    pub keys : AreKeys is_key old → AreKeys is_key new
+    pub keys : All is_key old → All is_key new
     pub held : (n : ℕ) → least ≤ n → is_held rank n old ≡ true → is_held rank n new ≡ true
 
   pub dropped : (is_key : K → Type 0) (least : ℕ) (old new : List K) (r : Option K) → IfSome r (λ k. old ≡ k ∷ new) → IfNone r (new ≡ old) → ((k : K) (ks : List K) → old ≡ k ∷ ks → rank k < least) → IsDropped is_key least old new
-  dropped is_key least old new None some none first = record { keys = λ h. subst (AreKeys is_key) (sym none) h; held = λ n l h. subst (λ (t : List K). is_held rank n t ≡ true) (sym none) h }
+  dropped is_key least old new None some none first = record { keys = λ h. subst (All is_key) (sym none) h; held = λ n l h. subst (λ (t : List K). is_held rank n t ≡ true) (sym none) h }
   dropped is_key least old new (Some k) some none first = record {
-    keys = λ h. (subst (AreKeys is_key) some h).1;
+    keys = λ h. All-tail is_key k new (subst (All is_key) some h);
     held = λ n l h. out_kept k new least n (first k new some) l (subst (λ (t : List K). is_held rank n t ≡ true) some h);
   }
 
@@ -249,14 +249,14 @@ module _ {K : Type 0} (number index : K → ℕ) where
   dropped_fewer old new (Some k) some more found = omega (arith, ap length some)
 
   module _ (cmp : K → K → Ordering) (is_key : K → Type 0) (by_rank : (x y : K) → is_key x → is_key y → cmp x y ≡ nat_cmp (rank x) (rank y)) (k : K) (p : is_key k) where
-    pub keys_with : (ks : List K) → AreKeys is_key ks → AreKeys is_key (insert_key cmp ks k)
-    keys_with [] h = (p, tt)
-    keys_with (x ∷ xs) h = go (cmp k x) (keys_with xs h.1)
+    pub keys_with : (ks : List K) → All is_key ks → All is_key (insert_key cmp ks k)
+    keys_with [] h = All-cons is_key k [] p h
+    keys_with (x ∷ xs) h = go (cmp k x) (keys_with xs (All-tail is_key x xs h))
       where
-        go : (o : Ordering) → AreKeys is_key (insert_key cmp xs k) → AreKeys is_key (match_ordering o (k ∷ x ∷ xs) (x ∷ xs) (x ∷ insert_key cmp xs k))
-        go Less ih = (p, h)
+        go : (o : Ordering) → All is_key (insert_key cmp xs k) → All is_key (match_ordering o (k ∷ x ∷ xs) (x ∷ xs) (x ∷ insert_key cmp xs k))
+        go Less ih = All-cons is_key k (x ∷ xs) p h
         go Equal ih = h
-        go Greater ih = (h.0, ih)
+        go Greater ih = All-cons is_key x (insert_key cmp xs k) (All-head is_key x xs h) ih
 
     or_right : (a b : Bool) → b ≡ true → (a || b) ≡ true
     or_right true b h = refl
@@ -279,13 +279,13 @@ module _ {K : Type 0} (number index : K → ℕ) where
         go Equal ih = h
         go Greater ih = or_both (rank x == n) (is_held rank n xs) (is_held rank n (insert_key cmp xs k)) ih h
 
-    pub held_itself : (ks : List K) → AreKeys is_key ks → is_held rank (rank k) (insert_key cmp ks k) ≡ true
+    pub held_itself : (ks : List K) → All is_key ks → is_held rank (rank k) (insert_key cmp ks k) ≡ true
     held_itself [] h = or_left (rank k == rank k) false (eq-eqb (rank k) (rank k) refl)
-    held_itself (x ∷ xs) h = go (cmp k x) refl (held_itself xs h.1)
+    held_itself (x ∷ xs) h = go (cmp k x) refl (held_itself xs (All-tail is_key x xs h))
       where
         go : (o : Ordering) → cmp k x ≡ o → is_held rank (rank k) (insert_key cmp xs k) ≡ true → is_held rank (rank k) (match_ordering o (k ∷ x ∷ xs) (x ∷ xs) (x ∷ insert_key cmp xs k)) ≡ true
         go Less is ih = or_left (rank k == rank k) (is_held rank (rank k) (x ∷ xs)) (eq-eqb (rank k) (rank k) refl)
-        go Equal is ih = or_left (rank x == rank k) (is_held rank (rank k) xs) (eq-eqb (rank x) (rank k) (is_equal (rank k) (rank x) (sym (by_rank k x p h.0) ∙ is)))
+        go Equal is ih = or_left (rank x == rank k) (is_held rank (rank k) xs) (eq-eqb (rank x) (rank k) (is_equal (rank k) (rank x) (sym (by_rank k x p (All-head is_key x xs h)) ∙ is)))
         go Greater is ih = or_right (rank x == rank k) (is_held rank (rank k) (insert_key cmp xs k)) ih
 
     -- a key of a rank is one that the set has
@@ -312,12 +312,12 @@ module _ {K : Type 0} (number index : K → ℕ) where
     key_later : (x : K) (xs : List K) (n : ℕ) → HasKey xs n → HasKey (x ∷ xs) n
     key_later x xs n h = record { key = h.key; valid = h.valid; ranked = h.ranked; there = or_right (is_at (cmp h.key) x) (list_any (is_at (cmp h.key)) xs) h.there }
 
-    pub has_key : (ks : List K) → AreKeys is_key ks → (n : ℕ) → is_held rank n ks ≡ true → HasKey ks n
+    pub has_key : (ks : List K) → All is_key ks → (n : ℕ) → is_held rank n ks ≡ true → HasKey ks n
     has_key [] keys n h = absurd (cc)
-    has_key (x ∷ xs) keys n h = go (rank x == n) refl h (has_key xs keys.1 n)
+    has_key (x ∷ xs) keys n h = go (rank x == n) refl h (has_key xs (All-tail is_key x xs keys) n)
       where
         go : (b : Bool) → (rank x == n) ≡ b → (b || is_held rank n xs) ≡ true → (is_held rank n xs ≡ true → HasKey xs n) → HasKey (x ∷ xs) n
-        go true is h ih = key_first x xs n keys.0 is
+        go true is h ih = key_first x xs n (All-head is_key x xs keys) is
         go false is h ih = key_later x xs n (ih h)
 
     not_below : (a b : ℕ) → a ≤ b → is_gt (nat_cmp a b) ≡ false
@@ -327,7 +327,7 @@ module _ {K : Type 0} (number index : K → ℕ) where
     from_key : (x y : K) → is_key x → is_key y → rank x ≤ rank y → is_gt (cmp x y) ≡ false
     from_key x y q r l = ap is_gt (by_rank x y q r) ∙ not_below (rank x) (rank y) l
 
-    pub first_least : (s : BTreeSet K) (r : List K) (x : K) → AreKeys is_key s.keys → is_key x → IsKeyRangeOf cmp (Included k) Unbounded s r → slice_get r 0 ≡ Some x
+    pub first_least : (s : BTreeSet K) (r : List K) (x : K) → All is_key s.keys → is_key x → IsKeyRangeOf cmp (Included k) Unbounded s r → slice_get r 0 ≡ Some x
         → (n : ℕ) → rank k ≤ n → is_held rank n s.keys ≡ true → rank x ≤ n
     first_least s r x keys q range first n low held =
         let h = has_key s.keys keys n held in
@@ -336,7 +336,7 @@ module _ {K : Type 0} (number index : K → ℕ) where
         let up = not_above (rank x) (rank h.key) (sym (ap is_gt (by_rank x h.key q h.valid)) ∙ least) in
         omega (arith, up, h.ranked)
 
-    pub first_none : (s : BTreeSet K) (r : List K) → AreKeys is_key s.keys → IsKeyRangeOf cmp (Included k) Unbounded s r → r ≡ []
+    pub first_none : (s : BTreeSet K) (r : List K) → All is_key s.keys → IsKeyRangeOf cmp (Included k) Unbounded s r → r ≡ []
         → (n : ℕ) → rank k ≤ n → is_held rank n s.keys ≡ false
     first_none s r keys range none n low = go (is_held rank n s.keys) refl
       where

@@ -1,12 +1,13 @@
 //! Complete intervals by the keys at which they begin: so one is found without a look at those that aren't complete.
 
 ghost use Rattle.std.specs.Prelude.{◌≡◌, ◌≤◌, ◌<◌, ◌∷◌, [], ℕ, List, Some, None, true, false, IfOk, OnOk, IfSome, IfNone, length};
+ghost use Rattle.std.specs.List.{All};
 ghost use Rattle.sctp_fragments.specs.Held.{Held, is_complete, NoneInTurn};
 ghost use Rattle.sctp_fragments.specs.Runs.{is_held};
 ghost use Rattle.sctp_fragments.specs.ReassemblyKey.{pair_rank, rank_at};
 ghost use Rattle.sctp_fragments.specs.Interval.{held_of, run_of, lists_of};
 ghost use Rattle.sctp_reassembly.specs.Places.{all_of, runs_at};
-ghost use Rattle.sctp_reassembly.specs.Finished.{AreKeys, BeginsAt, is_missed, NoneMissed, NoneEarlier};
+ghost use Rattle.sctp_reassembly.specs.Finished.{BeginsAt, is_missed, NoneMissed, NoneEarlier};
 
 use crate::places::least_of;
 use sctp_fragments::{Interval, ReassemblyKey, is_before};
@@ -37,8 +38,8 @@ impl<K: ReassemblyKey> Model for Finished<K> {
 
 /// Adds a key.
 fn add_key<K: ReassemblyKey>(keys: &mut BTreeSet<K>, key: K) -> Result<(), AllocError>
-    requires keys { AreKeys K.is_key keys.old.keys }
-    ensures keys { OnOk result (AreKeys K.is_key keys.new.keys) }
+    requires keys { All K.is_key keys.old.keys }
+    ensures keys { OnOk result (All K.is_key keys.new.keys) }
     ensures kept { OnOk result ((n : ℕ) → is_held (rank_at K.number K.index) n keys.old.keys ≡ true → is_held (rank_at K.number K.index) n keys.new.keys ≡ true) }
     ensures added { OnOk result (is_held (rank_at K.number K.index) (rank_at K.number K.index key) keys.new.keys ≡ true) }
 {
@@ -63,8 +64,8 @@ fn add_complete<K: ReassemblyKey>(
     keys: &mut BTreeSet<K>,
     interval: &Interval<K>,
 ) -> Result<(), AllocError>
-    requires keys { AreKeys K.is_key keys.old.keys }
-    ensures keys { OnOk result (AreKeys K.is_key keys.new.keys) }
+    requires keys { All K.is_key keys.old.keys }
+    ensures keys { OnOk result (All K.is_key keys.new.keys) }
     ensures kept { OnOk result ((n : ℕ) → is_held (rank_at K.number K.index) n keys.old.keys ≡ true → is_held (rank_at K.number K.index) n keys.new.keys ≡ true) }
     ensures added { OnOk result (is_missed (rank_at K.number K.index) 0 (Some keys.new) (run_of (held_of K.number K.index) interval.now) ≡ false) }
 {
@@ -79,7 +80,7 @@ fn later_keys<K: ReassemblyKey>(
     alloc: Global,
     later: &BTreeMap<K, Interval<K>>,
 ) -> Result<BTreeSet<K>, AllocError>
-    ensures keys { IfOk result (λ s. AreKeys K.is_key s.keys) }
+    ensures keys { IfOk result (λ s. All K.is_key s.keys) }
     ensures none { IfOk result (λ s. NoneMissed K.number K.index 0 (Some s) (runs_at K.number K.index later.now.entries)) }
 {
     let mut keys = BTreeSet::new(alloc);
@@ -95,7 +96,7 @@ fn all_keys<K: ReassemblyKey>(
     first: &Option<Interval<K>>,
     later: &BTreeMap<K, Interval<K>>,
 ) -> Result<BTreeSet<K>, AllocError>
-    ensures keys { IfOk result (λ s. AreKeys K.is_key s.keys) }
+    ensures keys { IfOk result (λ s. All K.is_key s.keys) }
     ensures none { IfOk result (λ s. NoneMissed K.number K.index 0 (Some s) (lists_of (held_of K.number K.index) (all_of first.now later.now.entries))) }
 {
     let mut keys = later_keys(alloc, later)?;
@@ -112,7 +113,7 @@ fn kept_keys<K: ReassemblyKey>(
     first: &Option<Interval<K>>,
     later: &BTreeMap<K, Interval<K>>,
 ) -> Result<Box<BTreeSet<K>>, AllocError>
-    ensures keys { IfOk result (λ b. AreKeys K.is_key b.value.keys) }
+    ensures keys { IfOk result (λ b. All K.is_key b.value.keys) }
     ensures none { IfOk result (λ b. NoneMissed K.number K.index 0 (Some b.value) (lists_of (held_of K.number K.index) (all_of first.now later.now.entries))) }
 {
     let keys = all_keys(alloc, first, later)?;
@@ -135,8 +136,8 @@ const FEW: usize = 4;
 
 /// Drops the first of the keys before this one, at most so many.
 fn drop_before<K: ReassemblyKey>(keys: &mut BTreeSet<K>, key: K, most: usize)
-    requires keys { AreKeys K.is_key keys.old.keys }
-    ensures keys { AreKeys K.is_key keys.new.keys }
+    requires keys { All K.is_key keys.old.keys }
+    ensures keys { All K.is_key keys.new.keys }
     ensures kept { (n : ℕ) → rank_at K.number K.index key ≤ n → is_held (rank_at K.number K.index) n keys.old.keys ≡ true → is_held (rank_at K.number K.index) n keys.new.keys ≡ true }
 {
     for _ in 0..most {
@@ -149,7 +150,7 @@ fn drop_before<K: ReassemblyKey>(keys: &mut BTreeSet<K>, key: K, most: usize)
 
 /// The first key from this one on.
 fn first_from<K: ReassemblyKey>(keys: &BTreeSet<K>, key: K) -> Option<K>
-    requires keys { AreKeys K.is_key keys.now.keys }
+    requires keys { All K.is_key keys.now.keys }
     ensures some { IfSome result (λ k. (n : ℕ) → rank_at K.number K.index key ≤ n → is_held (rank_at K.number K.index) n keys.now.keys ≡ true → rank_at K.number K.index k ≤ n) }
     ensures none { IfNone result ((n : ℕ) → rank_at K.number K.index key ≤ n → is_held (rank_at K.number K.index) n keys.now.keys ≡ false) }
 {
@@ -165,8 +166,8 @@ fn first_from<K: ReassemblyKey>(keys: &BTreeSet<K>, key: K) -> Option<K>
 
 /// The same, where some of those before it go.
 fn take_first_from<K: ReassemblyKey>(keys: &mut BTreeSet<K>, key: K) -> Option<K>
-    requires keys { AreKeys K.is_key keys.old.keys }
-    ensures keys { AreKeys K.is_key keys.new.keys }
+    requires keys { All K.is_key keys.old.keys }
+    ensures keys { All K.is_key keys.new.keys }
     ensures kept { (n : ℕ) → rank_at K.number K.index key ≤ n → is_held (rank_at K.number K.index) n keys.old.keys ≡ true → is_held (rank_at K.number K.index) n keys.new.keys ≡ true }
     ensures some { IfSome result (λ k. (n : ℕ) → rank_at K.number K.index key ≤ n → is_held (rank_at K.number K.index) n keys.new.keys ≡ true → rank_at K.number K.index k ≤ n) }
     ensures none { IfNone result ((n : ℕ) → rank_at K.number K.index key ≤ n → is_held (rank_at K.number K.index) n keys.new.keys ≡ false) }
