@@ -1,6 +1,6 @@
 -- Complete intervals by the keys at which they begin.
 use Rattle.std.proofs.Common.{◌≡◌, ℕ, ◌<◌, ◌≤◌, ◌==◌, Bool, true, false, cond, not, Option, Some, None, List, [], ◌∷◌, ◌++◌, refl, ap, sym, subst, ◌∙◌, arith, Ordering, Less, Equal, Greater, append_assoc, append-nil}
-use Rattle.std.specs.Prelude.{◌&&◌, ◌||◌, nat_lt, length, IfSome, IfNone, IsSome, ◌↔◌}
+use Rattle.std.specs.Prelude.{◌&&◌, ◌||◌, nat_lt, IfSome, IfNone}
 use Rattle.std.specs.List.{All, list_any, slice_get}
 use Rattle.std.specs.Ordering.{nat_cmp, is_gt, is_eq, match_ordering}
 use Rattle.std.specs.BTreeSet.{BTreeSet, insert_key, IsKeyRangeOf}
@@ -55,12 +55,6 @@ wider false p x y f h = refl
 wider true true x y f h = refl
 wider true false true y f h = rw (f refl refl) refl
 wider true false false y f h = absurd (cc)
-
-at_key : (a p x : Bool) → x ≡ true → (a && (not p && not x)) ≡ false
-at_key false p x h = refl
-at_key true true x h = refl
-at_key true false true h = refl
-at_key true false false h = cc
 
 not_earlier : (a e p x l : Bool) → (e ≡ true → p ≡ false) → (e ≡ true → x ≡ true → l ≡ false) → (a && (not p && not x)) ≡ false → ((a && e) && l) ≡ false
 not_earlier false e p x l f g h = refl
@@ -139,10 +133,6 @@ module _ {K : Type 0} (number index : K → ℕ) where
 
   pub none_kept : (m : ℕ) (s t : BTreeSet K) (rs : List (List Held)) → ((n : ℕ) → m ≤ n → is_held rank n s.keys ≡ true → is_held rank n t.keys ≡ true) → NoneMissed number index m (Some s) rs → NoneMissed number index m (Some t) rs
   none_kept m s t rs kept h = pass_weaker (is_missed rank m (Some s)) (is_missed rank m (Some t)) (missed_kept m s t kept) rs h
-
-  pub missed_at : (m n : ℕ) (s : BTreeSet K) (r : List Held) → is_held rank n s.keys ≡ true → BeginsAt n r → is_missed rank m (Some s) r ≡ false
-  missed_at m n s [] held b = absurd b
-  missed_at m n s (d ∷ ds) held b = at_key (is_complete (d ∷ ds)) (nat_lt (rank_of d) m) (is_held rank (rank_of d) s.keys) (subst (λ (j : ℕ). is_held rank j s.keys ≡ true) (sym b) held)
 
   -- the first key from the number on is not above the beginning of a message with it
   pub none_earlier : (n k : ℕ) (s : BTreeSet K) (rs : List (List Held)) → ((j : ℕ) → pair_rank n 0 ≤ j → is_held rank j s.keys ≡ true → k ≤ j) → NoneMissed number index (pair_rank n 0) (Some s) rs → NoneEarlier n k rs
@@ -243,10 +233,6 @@ module _ {K : Type 0} (number index : K → ℕ) where
     keys = λ h. All-tail is_key k new (subst (All is_key) some h);
     held = λ n l h. out_kept k new least n (first k new some) l (subst (λ (t : List K). is_held rank n t ≡ true) some h);
   }
-
-  pub dropped_fewer : (old new : List K) (r : Option K) → IfSome r (λ k. old ≡ k ∷ new) → 0 < length old → IsSome r ↔ (0 < length old) → length new < length old
-  dropped_fewer old new None some more found = let no = found.1 more in absurd (cc)
-  dropped_fewer old new (Some k) some more found = omega (arith, ap length some)
 
   module _ (cmp : K → K → Ordering) (is_key : K → Type 0) (by_rank : (x y : K) → is_key x → is_key y → cmp x y ≡ nat_cmp (rank x) (rank y)) (k : K) (p : is_key k) where
     pub keys_with : (ks : List K) → All is_key ks → All is_key (insert_key cmp ks k)
