@@ -1,6 +1,6 @@
 -- Complete intervals by the keys at which they begin.
 use Rattle.std.proofs.Common.{◌≡◌, ℕ, ◌<◌, ◌≤◌, ◌==◌, Bool, true, false, cond, not, Option, Some, None, List, [], ◌∷◌, ◌++◌, refl, ap, sym, subst, ◌∙◌, arith, Ordering, Less, Equal, Greater, append_assoc, append-nil}
-use Rattle.std.specs.Prelude.{◌&&◌, ◌||◌, nat_lt, length, IfSome, IfNone, IsSome, ◌↔◌}
+use Rattle.std.specs.Prelude.{◌&&◌, ◌||◌, nat_lt, IfSome, IfNone}
 use Rattle.std.specs.List.{All, list_any, slice_get}
 use Rattle.std.specs.Ordering.{nat_cmp, is_gt, is_eq, match_ordering}
 use Rattle.std.specs.BTreeSet.{BTreeSet, insert_key, IsKeyRangeOf}
@@ -9,14 +9,14 @@ use Rattle.std.specs.BTreeMap.Range.{IsLeBy}
 use Rattle.std.specs.declared.ops.Bound.TheVariants.{Unbounded, Included}
 use Rattle.std.proofs.lemmas.Bool.{and_parts, eq-eqb}
 use Rattle.std.proofs.lemmas.Bool.Decides.{nat_tests}
-use Rattle.std.proofs.lemmas.List.Elements.{All-head, All-tail}
+use Rattle.std.proofs.lemmas.List.Elements.{All-cons, All-head, All-tail}
 use Rattle.sctp_serial.proofs.NumberLemmas.{is_equal}
 use Rattle.sctp_fragments.specs.declared.interval.Interval.{Interval}
 use Rattle.sctp_fragments.specs.ReassemblyKey.{pair_rank, rank_at}
 use Rattle.sctp_fragments.specs.Interval.{held_of, run_of, lists_of}
 use Rattle.sctp_fragments.specs.Runs.{is_held}
 use Rattle.sctp_fragments.specs.Held.{Held, rank_of, intervals_of, is_complete, is_in_turn, NonePass, NoneInTurn, without_first_of, IsPlaced}
-use Rattle.sctp_reassembly.specs.Finished.{AreKeys, BeginsAt, is_missed, is_earlier, NoneMissed, NoneEarlier}
+use Rattle.sctp_reassembly.specs.Finished.{BeginsAt, is_missed, is_earlier, NoneMissed, NoneEarlier}
 use Rattle.sctp_reassembly.proofs.DeliverLemmas.{NonePass_with}
 use Rattle.sctp_reassembly.proofs.NoteLemmas.{not_above}
 
@@ -55,12 +55,6 @@ wider false p x y f h = refl
 wider true true x y f h = refl
 wider true false true y f h = rw (f refl refl) refl
 wider true false false y f h = absurd (cc)
-
-at_key : (a p x : Bool) → x ≡ true → (a && (not p && not x)) ≡ false
-at_key false p x h = refl
-at_key true true x h = refl
-at_key true false true h = refl
-at_key true false false h = cc
 
 not_earlier : (a e p x l : Bool) → (e ≡ true → p ≡ false) → (e ≡ true → x ≡ true → l ≡ false) → (a && (not p && not x)) ≡ false → ((a && e) && l) ≡ false
 not_earlier false e p x l f g h = refl
@@ -139,10 +133,6 @@ module _ {K : Type 0} (number index : K → ℕ) where
 
   pub none_kept : (m : ℕ) (s t : BTreeSet K) (rs : List (List Held)) → ((n : ℕ) → m ≤ n → is_held rank n s.keys ≡ true → is_held rank n t.keys ≡ true) → NoneMissed number index m (Some s) rs → NoneMissed number index m (Some t) rs
   none_kept m s t rs kept h = pass_weaker (is_missed rank m (Some s)) (is_missed rank m (Some t)) (missed_kept m s t kept) rs h
-
-  pub missed_at : (m n : ℕ) (s : BTreeSet K) (r : List Held) → is_held rank n s.keys ≡ true → BeginsAt n r → is_missed rank m (Some s) r ≡ false
-  missed_at m n s [] held b = absurd b
-  missed_at m n s (d ∷ ds) held b = at_key (is_complete (d ∷ ds)) (nat_lt (rank_of d) m) (is_held rank (rank_of d) s.keys) (subst (λ (j : ℕ). is_held rank j s.keys ≡ true) (sym b) held)
 
   -- the first key from the number on is not above the beginning of a message with it
   pub none_earlier : (n k : ℕ) (s : BTreeSet K) (rs : List (List Held)) → ((j : ℕ) → pair_rank n 0 ≤ j → is_held rank j s.keys ≡ true → k ≤ j) → NoneMissed number index (pair_rank n 0) (Some s) rs → NoneEarlier n k rs
@@ -234,29 +224,25 @@ module _ {K : Type 0} (number index : K → ℕ) where
 
   -- the first key went, which is below the rank
   pub record IsDropped (is_key : K → Type 0) (least : ℕ) (old new : List K) : Type 0 where
-    pub keys : AreKeys is_key old → AreKeys is_key new
+    pub keys : All is_key old → All is_key new
     pub held : (n : ℕ) → least ≤ n → is_held rank n old ≡ true → is_held rank n new ≡ true
 
   pub dropped : (is_key : K → Type 0) (least : ℕ) (old new : List K) (r : Option K) → IfSome r (λ k. old ≡ k ∷ new) → IfNone r (new ≡ old) → ((k : K) (ks : List K) → old ≡ k ∷ ks → rank k < least) → IsDropped is_key least old new
-  dropped is_key least old new None some none first = record { keys = λ h. subst (AreKeys is_key) (sym none) h; held = λ n l h. subst (λ (t : List K). is_held rank n t ≡ true) (sym none) h }
+  dropped is_key least old new None some none first = record { keys = λ h. subst (All is_key) (sym none) h; held = λ n l h. subst (λ (t : List K). is_held rank n t ≡ true) (sym none) h }
   dropped is_key least old new (Some k) some none first = record {
-    keys = λ h. (subst (AreKeys is_key) some h).1;
+    keys = λ h. All-tail is_key k new (subst (All is_key) some h);
     held = λ n l h. out_kept k new least n (first k new some) l (subst (λ (t : List K). is_held rank n t ≡ true) some h);
   }
 
-  pub dropped_fewer : (old new : List K) (r : Option K) → IfSome r (λ k. old ≡ k ∷ new) → 0 < length old → IsSome r ↔ (0 < length old) → length new < length old
-  dropped_fewer old new None some more found = let no = found.1 more in absurd (cc)
-  dropped_fewer old new (Some k) some more found = omega (arith, ap length some)
-
   module _ (cmp : K → K → Ordering) (is_key : K → Type 0) (by_rank : (x y : K) → is_key x → is_key y → cmp x y ≡ nat_cmp (rank x) (rank y)) (k : K) (p : is_key k) where
-    pub keys_with : (ks : List K) → AreKeys is_key ks → AreKeys is_key (insert_key cmp ks k)
-    keys_with [] h = (p, tt)
-    keys_with (x ∷ xs) h = go (cmp k x) (keys_with xs h.1)
+    pub keys_with : (ks : List K) → All is_key ks → All is_key (insert_key cmp ks k)
+    keys_with [] h = All-cons is_key k [] p h
+    keys_with (x ∷ xs) h = go (cmp k x) (keys_with xs (All-tail is_key x xs h))
       where
-        go : (o : Ordering) → AreKeys is_key (insert_key cmp xs k) → AreKeys is_key (match_ordering o (k ∷ x ∷ xs) (x ∷ xs) (x ∷ insert_key cmp xs k))
-        go Less ih = (p, h)
+        go : (o : Ordering) → All is_key (insert_key cmp xs k) → All is_key (match_ordering o (k ∷ x ∷ xs) (x ∷ xs) (x ∷ insert_key cmp xs k))
+        go Less ih = All-cons is_key k (x ∷ xs) p h
         go Equal ih = h
-        go Greater ih = (h.0, ih)
+        go Greater ih = All-cons is_key x (insert_key cmp xs k) (All-head is_key x xs h) ih
 
     or_right : (a b : Bool) → b ≡ true → (a || b) ≡ true
     or_right true b h = refl
@@ -279,13 +265,13 @@ module _ {K : Type 0} (number index : K → ℕ) where
         go Equal ih = h
         go Greater ih = or_both (rank x == n) (is_held rank n xs) (is_held rank n (insert_key cmp xs k)) ih h
 
-    pub held_itself : (ks : List K) → AreKeys is_key ks → is_held rank (rank k) (insert_key cmp ks k) ≡ true
+    pub held_itself : (ks : List K) → All is_key ks → is_held rank (rank k) (insert_key cmp ks k) ≡ true
     held_itself [] h = or_left (rank k == rank k) false (eq-eqb (rank k) (rank k) refl)
-    held_itself (x ∷ xs) h = go (cmp k x) refl (held_itself xs h.1)
+    held_itself (x ∷ xs) h = go (cmp k x) refl (held_itself xs (All-tail is_key x xs h))
       where
         go : (o : Ordering) → cmp k x ≡ o → is_held rank (rank k) (insert_key cmp xs k) ≡ true → is_held rank (rank k) (match_ordering o (k ∷ x ∷ xs) (x ∷ xs) (x ∷ insert_key cmp xs k)) ≡ true
         go Less is ih = or_left (rank k == rank k) (is_held rank (rank k) (x ∷ xs)) (eq-eqb (rank k) (rank k) refl)
-        go Equal is ih = or_left (rank x == rank k) (is_held rank (rank k) xs) (eq-eqb (rank x) (rank k) (is_equal (rank k) (rank x) (sym (by_rank k x p h.0) ∙ is)))
+        go Equal is ih = or_left (rank x == rank k) (is_held rank (rank k) xs) (eq-eqb (rank x) (rank k) (is_equal (rank k) (rank x) (sym (by_rank k x p (All-head is_key x xs h)) ∙ is)))
         go Greater is ih = or_right (rank x == rank k) (is_held rank (rank k) (insert_key cmp xs k)) ih
 
     -- a key of a rank is one that the set has
@@ -312,12 +298,12 @@ module _ {K : Type 0} (number index : K → ℕ) where
     key_later : (x : K) (xs : List K) (n : ℕ) → HasKey xs n → HasKey (x ∷ xs) n
     key_later x xs n h = record { key = h.key; valid = h.valid; ranked = h.ranked; there = or_right (is_at (cmp h.key) x) (list_any (is_at (cmp h.key)) xs) h.there }
 
-    pub has_key : (ks : List K) → AreKeys is_key ks → (n : ℕ) → is_held rank n ks ≡ true → HasKey ks n
+    pub has_key : (ks : List K) → All is_key ks → (n : ℕ) → is_held rank n ks ≡ true → HasKey ks n
     has_key [] keys n h = absurd (cc)
-    has_key (x ∷ xs) keys n h = go (rank x == n) refl h (has_key xs keys.1 n)
+    has_key (x ∷ xs) keys n h = go (rank x == n) refl h (has_key xs (All-tail is_key x xs keys) n)
       where
         go : (b : Bool) → (rank x == n) ≡ b → (b || is_held rank n xs) ≡ true → (is_held rank n xs ≡ true → HasKey xs n) → HasKey (x ∷ xs) n
-        go true is h ih = key_first x xs n keys.0 is
+        go true is h ih = key_first x xs n (All-head is_key x xs keys) is
         go false is h ih = key_later x xs n (ih h)
 
     not_below : (a b : ℕ) → a ≤ b → is_gt (nat_cmp a b) ≡ false
@@ -327,7 +313,7 @@ module _ {K : Type 0} (number index : K → ℕ) where
     from_key : (x y : K) → is_key x → is_key y → rank x ≤ rank y → is_gt (cmp x y) ≡ false
     from_key x y q r l = ap is_gt (by_rank x y q r) ∙ not_below (rank x) (rank y) l
 
-    pub first_least : (s : BTreeSet K) (r : List K) (x : K) → AreKeys is_key s.keys → is_key x → IsKeyRangeOf cmp (Included k) Unbounded s r → slice_get r 0 ≡ Some x
+    pub first_least : (s : BTreeSet K) (r : List K) (x : K) → All is_key s.keys → is_key x → IsKeyRangeOf cmp (Included k) Unbounded s r → slice_get r 0 ≡ Some x
         → (n : ℕ) → rank k ≤ n → is_held rank n s.keys ≡ true → rank x ≤ n
     first_least s r x keys q range first n low held =
         let h = has_key s.keys keys n held in
@@ -336,7 +322,7 @@ module _ {K : Type 0} (number index : K → ℕ) where
         let up = not_above (rank x) (rank h.key) (sym (ap is_gt (by_rank x h.key q h.valid)) ∙ least) in
         omega (arith, up, h.ranked)
 
-    pub first_none : (s : BTreeSet K) (r : List K) → AreKeys is_key s.keys → IsKeyRangeOf cmp (Included k) Unbounded s r → r ≡ []
+    pub first_none : (s : BTreeSet K) (r : List K) → All is_key s.keys → IsKeyRangeOf cmp (Included k) Unbounded s r → r ≡ []
         → (n : ℕ) → rank k ≤ n → is_held rank n s.keys ≡ false
     first_none s r keys range none n low = go (is_held rank n s.keys) refl
       where

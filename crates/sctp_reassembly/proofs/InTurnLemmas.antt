@@ -89,9 +89,6 @@ module _ {K : Type 0} (is_key : K → Type 0) (number index : K → ℕ) where
     pub later_earlier : (m : ℕ) → NoneEarlier n m (lists_of (held_of number index) (all_of first later)) → NoneEarlier n m (runs later)
     later_earlier m h = (subst (NoneEarlier n m) lists_are h).1
 
-    pub none_in_all : (b : Bool) → b ≡ is_in_turn n (run_of (held_of number index) i) → b ≡ false → NoneInTurn n (runs later) → NoneInTurn n (lists_of (held_of number index) (all_of first later))
-    none_in_all b turn off none = subst (NoneInTurn n) (sym lists_are) (sym turn ∙ off, none)
-
     -- what the map has under the key goes
     module _ (b : Bool) (turn : b ≡ is_in_turn n (run_of (held_of number index) i)) (off : b ≡ false) (k : K) (j : IsFirstPassing is_key number index (is_in_turn n) k later) where
       later_first_out : (new : List (K × Interval K)) (d : Interval K) → d ≡ j.interval → new ≡ j.front ++ j.back → IsFirstOut (is_in_turn n) (lists_of (held_of number index) (all_of first later)) (run_of (held_of number index) d) (run_of (held_of number index) i ∷ runs new)

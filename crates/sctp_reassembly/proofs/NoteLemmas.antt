@@ -304,13 +304,6 @@ noted_next e left old new es kept made all id =
     go true h same = inl (subst (λ (o : Option UnorderedStream). HasNote new id (unwrap_or o fresh_unordered).held) same (subst (λ i. HasNote new i e.1.held) (equal_at id e.0 h) made))
     go false h same = inr same
 
-pub all_noted : (notes : Notes) (es : Entries UnorderedStream) → NotedOrLeft [] notes es → AreNoted notes es
-all_noted notes es all id =
-    elim (all id) [
-      | inl has ↦ has
-      | inr same ↦ inl (ap (λ (o : Option UnorderedStream). (unwrap_or o fresh_unordered).held) (sym same))
-    ]
-
 -- what is restored holds nothing
 pub restored_noted : (notes : Notes) (records : List HandoverUnorderedStream) → AreNoted notes (unordered_entries records)
 restored_noted notes records id = inl (none records)

@@ -1,19 +1,16 @@
 -- Complete intervals by the keys at which they begin.
 use Rattle.std.specs.Prelude.{◌≡◌, ℕ, ◌&&◌, not, nat_lt, Bool, false, Option, Some, None, List, [], ◌∷◌}
 use Rattle.std.specs.BTreeSet.{BTreeSet}
+use Rattle.std.specs.List.{All}
 use Rattle.sctp_fragments.specs.ReassemblyKey.{pair_rank, rank_at}
 use Rattle.sctp_fragments.specs.Runs.{is_held}
 use Rattle.sctp_fragments.specs.Held.{Held, rank_of, intervals_of, is_complete, is_in_turn, NonePass}
 use Rattle.sctp_reassembly.specs.Delivery.{OrderedStream, IsOrdered}
 
-abbrev pub AreKeys : {K : Type 0} → (K → Type 0) → List K → Type 0
-AreKeys is_key [] = Unit {0}
-AreKeys is_key (k ∷ ks) = is_key k × AreKeys is_key ks
-
 -- the keys, where they are known
 abbrev pub AreKnown : {K : Type 0} → (K → Type 0) → Option (BTreeSet K) → Type 0
 AreKnown is_key None = Unit {0}
-AreKnown is_key (Some s) = AreKeys is_key s.keys
+AreKnown is_key (Some s) = All is_key s.keys
 
 -- whether a complete run, which begins at the rank m or above it, begins at none of the keys, where they are known
 abbrev pub is_missed : {K : Type 0} → (K → ℕ) → ℕ → Option (BTreeSet K) → List Held → Bool

@@ -1,12 +1,13 @@
 //! Complete intervals by the keys at which they begin: so one is found without a look at those that aren't complete.
 
 ghost use Rattle.std.specs.Prelude.{◌≡◌, ◌≤◌, ◌<◌, ◌∷◌, [], ℕ, List, Some, None, true, false, IfOk, OnOk, IfSome, IfNone, length};
+ghost use Rattle.std.specs.List.{All};
 ghost use Rattle.sctp_fragments.specs.Held.{Held, is_complete, NoneInTurn};
 ghost use Rattle.sctp_fragments.specs.Runs.{is_held};
 ghost use Rattle.sctp_fragments.specs.ReassemblyKey.{pair_rank, rank_at};
 ghost use Rattle.sctp_fragments.specs.Interval.{held_of, run_of, lists_of};
 ghost use Rattle.sctp_reassembly.specs.Places.{all_of, runs_at};
-ghost use Rattle.sctp_reassembly.specs.Finished.{AreKeys, BeginsAt, is_missed, NoneMissed, NoneEarlier};
+ghost use Rattle.sctp_reassembly.specs.Finished.{BeginsAt, is_missed, NoneMissed, NoneEarlier};
 
 use crate::places::least_of;
 use sctp_fragments::{Interval, ReassemblyKey, is_before};
@@ -17,27 +18,28 @@ use std::marker::Model;
 /// The keys at which complete intervals begin, where they are known. Keys of other intervals may be among them.
 ///
 /// A key goes with a search from a later message on, or a forward point to it. Where memory lacks for a key, none are known.
+/// They stand apart, since most streams have none.
 #[derive(Drop)]
 pub(crate) struct Finished<K: ReassemblyKey> {
-    keys: Option<BTreeSet<K>>,
+    keys: Option<Box<BTreeSet<K>>>,
 }
 
 impl<K: ReassemblyKey> Model for Finished<K> {
-    ghost use Rattle.std.specs.Prelude.{Option};
+    ghost use Rattle.std.specs.Prelude.{Option, option_map};
     ghost use Rattle.std.specs.BTreeSet.{BTreeSet};
     ghost use Rattle.sctp_reassembly.specs.Finished.{AreKnown};
 
     ghost Value = { Option (BTreeSet K) };
 
-    ghost view = { λ s. s.keys };
+    ghost view = { λ s. option_map (λ b. b.value) s.keys };
 
-    ghost invariant = { λ s. AreKnown K.is_key s.keys };
+    ghost invariant = { λ s. AreKnown K.is_key (option_map (λ b. b.value) s.keys) };
 }
 
 /// Adds a key.
 fn add_key<K: ReassemblyKey>(keys: &mut BTreeSet<K>, key: K) -> Result<(), AllocError>
-    requires keys { AreKeys K.is_key keys.old.keys }
-    ensures keys { OnOk result (AreKeys K.is_key keys.new.keys) }
+    requires keys { All K.is_key keys.old.keys }
+    ensures keys { OnOk result (All K.is_key keys.new.keys) }
     ensures kept { OnOk result ((n : ℕ) → is_held (rank_at K.number K.index) n keys.old.keys ≡ true → is_held (rank_at K.number K.index) n keys.new.keys ≡ true) }
     ensures added { OnOk result (is_held (rank_at K.number K.index) (rank_at K.number K.index key) keys.new.keys ≡ true) }
 {
@@ -62,8 +64,8 @@ fn add_complete<K: ReassemblyKey>(
     keys: &mut BTreeSet<K>,
     interval: &Interval<K>,
 ) -> Result<(), AllocError>
-    requires keys { AreKeys K.is_key keys.old.keys }
-    ensures keys { OnOk result (AreKeys K.is_key keys.new.keys) }
+    requires keys { All K.is_key keys.old.keys }
+    ensures keys { OnOk result (All K.is_key keys.new.keys) }
     ensures kept { OnOk result ((n : ℕ) → is_held (rank_at K.number K.index) n keys.old.keys ≡ true → is_held (rank_at K.number K.index) n keys.new.keys ≡ true) }
     ensures added { OnOk result (is_missed (rank_at K.number K.index) 0 (Some keys.new) (run_of (held_of K.number K.index) interval.now) ≡ false) }
 {
@@ -78,7 +80,7 @@ fn later_keys<K: ReassemblyKey>(
     alloc: Global,
     later: &BTreeMap<K, Interval<K>>,
 ) -> Result<BTreeSet<K>, AllocError>
-    ensures keys { IfOk result (λ s. AreKeys K.is_key s.keys) }
+    ensures keys { IfOk result (λ s. All K.is_key s.keys) }
     ensures none { IfOk result (λ s. NoneMissed K.number K.index 0 (Some s) (runs_at K.number K.index later.now.entries)) }
 {
     let mut keys = BTreeSet::new(alloc);
@@ -94,7 +96,7 @@ fn all_keys<K: ReassemblyKey>(
     first: &Option<Interval<K>>,
     later: &BTreeMap<K, Interval<K>>,
 ) -> Result<BTreeSet<K>, AllocError>
-    ensures keys { IfOk result (λ s. AreKeys K.is_key s.keys) }
+    ensures keys { IfOk result (λ s. All K.is_key s.keys) }
     ensures none { IfOk result (λ s. NoneMissed K.number K.index 0 (Some s) (lists_of (held_of K.number K.index) (all_of first.now later.now.entries))) }
 {
     let mut keys = later_keys(alloc, later)?;
@@ -103,6 +105,19 @@ fn all_keys<K: ReassemblyKey>(
     };
     add_complete(&mut keys, interval)?;
     Ok(keys)
+}
+
+/// The same, where a list has them.
+fn kept_keys<K: ReassemblyKey>(
+    alloc: Global,
+    first: &Option<Interval<K>>,
+    later: &BTreeMap<K, Interval<K>>,
+) -> Result<Box<BTreeSet<K>>, AllocError>
+    ensures keys { IfOk result (λ b. All K.is_key b.value.keys) }
+    ensures none { IfOk result (λ b. NoneMissed K.number K.index 0 (Some b.value) (lists_of (held_of K.number K.index) (all_of first.now later.now.entries))) }
+{
+    let keys = all_keys(alloc, first, later)?;
+    Ok(Box::new(alloc, keys)?)
 }
 
 /// Whether the first of the keys is before this one.
@@ -121,8 +136,8 @@ const FEW: usize = 4;
 
 /// Drops the first of the keys before this one, at most so many.
 fn drop_before<K: ReassemblyKey>(keys: &mut BTreeSet<K>, key: K, most: usize)
-    requires keys { AreKeys K.is_key keys.old.keys }
-    ensures keys { AreKeys K.is_key keys.new.keys }
+    requires keys { All K.is_key keys.old.keys }
+    ensures keys { All K.is_key keys.new.keys }
     ensures kept { (n : ℕ) → rank_at K.number K.index key ≤ n → is_held (rank_at K.number K.index) n keys.old.keys ≡ true → is_held (rank_at K.number K.index) n keys.new.keys ≡ true }
 {
     for _ in 0..most {
@@ -135,7 +150,7 @@ fn drop_before<K: ReassemblyKey>(keys: &mut BTreeSet<K>, key: K, most: usize)
 
 /// The first key from this one on.
 fn first_from<K: ReassemblyKey>(keys: &BTreeSet<K>, key: K) -> Option<K>
-    requires keys { AreKeys K.is_key keys.now.keys }
+    requires keys { All K.is_key keys.now.keys }
     ensures some { IfSome result (λ k. (n : ℕ) → rank_at K.number K.index key ≤ n → is_held (rank_at K.number K.index) n keys.now.keys ≡ true → rank_at K.number K.index k ≤ n) }
     ensures none { IfNone result ((n : ℕ) → rank_at K.number K.index key ≤ n → is_held (rank_at K.number K.index) n keys.now.keys ≡ false) }
 {
@@ -147,6 +162,18 @@ fn first_from<K: ReassemblyKey>(keys: &BTreeSet<K>, key: K) -> Option<K>
         }
         None => None,
     }
+}
+
+/// The same, where some of those before it go.
+fn take_first_from<K: ReassemblyKey>(keys: &mut BTreeSet<K>, key: K) -> Option<K>
+    requires keys { All K.is_key keys.old.keys }
+    ensures keys { All K.is_key keys.new.keys }
+    ensures kept { (n : ℕ) → rank_at K.number K.index key ≤ n → is_held (rank_at K.number K.index) n keys.old.keys ≡ true → is_held (rank_at K.number K.index) n keys.new.keys ≡ true }
+    ensures some { IfSome result (λ k. (n : ℕ) → rank_at K.number K.index key ≤ n → is_held (rank_at K.number K.index) n keys.new.keys ≡ true → rank_at K.number K.index k ≤ n) }
+    ensures none { IfNone result ((n : ℕ) → rank_at K.number K.index key ≤ n → is_held (rank_at K.number K.index) n keys.new.keys ≡ false) }
+{
+    drop_before(keys, key, FEW);
+    first_from(keys, key)
 }
 
 impl<K: ReassemblyKey> Finished<K> {
@@ -165,7 +192,7 @@ impl<K: ReassemblyKey> Finished<K> {
     ) -> Finished<K>
         ensures { NoneMissed K.number K.index 0 result (lists_of (held_of K.number K.index) (all_of first.now later.now.entries)) }
     {
-        match all_keys(alloc, first, later) {
+        match kept_keys(alloc, first, later) {
             Ok(keys) => Finished { keys: Some(keys) },
             Err(_) => Finished { keys: None },
         }
@@ -212,7 +239,6 @@ impl<K: ReassemblyKey> Finished<K> {
         let Some(keys) = &mut self.keys else {
             return Some(least);
         };
-        drop_before(keys, least, FEW);
-        first_from(keys, least)
+        take_first_from(keys, least)
     }
 }

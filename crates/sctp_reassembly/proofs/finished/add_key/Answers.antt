@@ -1,13 +1,13 @@
 use Rattle.std.proofs.Common.{◌≡◌, true, sym, subst}
 use Rattle.sctp_fragments.specs.Runs.{is_held}
 use Rattle.sctp_fragments.specs.ReassemblyKey.{rank_at}
-use Rattle.sctp_reassembly.specs.Finished.{AreKeys}
+use Rattle.std.specs.List.{All}
 use Rattle.sctp_reassembly.proofs.FinishedLemmas.{keys_with, held_with, held_itself}
 use Rattle.sctp_reassembly.proofs.finished.add_key.Goals as goal
 
 pub returns-clause-keys : goal.returns-clause-keys
 returns-clause-keys g c =
-    subst (AreKeys g.K.ReassemblyKey.is_key) (sym c.in_ok-insert.ensures.keys) (keys_with g.K.ReassemblyKey.number g.K.ReassemblyKey.index g.K.Ord.cmp g.K.ReassemblyKey.is_key g.met.K.ReassemblyKey.by_rank c.args.key c.known.ensures c.args.keys.now.keys c.requires.keys)
+    subst (All g.K.ReassemblyKey.is_key) (sym c.in_ok-insert.ensures.keys) (keys_with g.K.ReassemblyKey.number g.K.ReassemblyKey.index g.K.Ord.cmp g.K.ReassemblyKey.is_key g.met.K.ReassemblyKey.by_rank c.args.key c.known.ensures c.args.keys.now.keys c.requires.keys)
 
 pub returns-clause-kept : goal.returns-clause-kept
 returns-clause-kept g c n held =

@@ -1,5 +1,5 @@
 use Rattle.std.specs.Map.{values_of}
-use Rattle.sctp_reassembly.specs.Finished.{AreKeys}
+use Rattle.std.specs.List.{All}
 use Rattle.sctp_reassembly.proofs.FinishedLemmas.{AreSeen}
 use Rattle.sctp_reassembly.proofs.finished.later_keys.Given as goal
 
@@ -7,6 +7,6 @@ abbrev pub invariant-loop-interval : goal.invariant-loop-interval
 invariant-loop-interval g l = record {
   next : (goal.iterator-loop-interval g).can_next l.interval-iterator;
   finite : (goal.iterator-loop-interval g).is_finite l.interval-iterator;
-  keys : AreKeys g.K.ReassemblyKey.is_key l.keys.keys;
+  keys : All g.K.ReassemblyKey.is_key l.keys.keys;
   seen : AreSeen g.K.ReassemblyKey.number g.K.ReassemblyKey.index l.keys (values_of l.later.entries) l.interval-iterator;
 }
