@@ -6,13 +6,16 @@ use Rattle.std.proofs.Math.Seq.{drop-nil}
 use Rattle.sctp_chunk.specs.declared.sack.GapAckBlock.{GapAckBlock}
 use Rattle.sctp_chunk.specs.Covered.{is_covered}
 use Rattle.sctp_tx_outstanding.specs.declared.sack.Covered.{Covered}
-use Rattle.sctp_tx_outstanding.specs.Item.{Item}
+use Rattle.sctp_tx_outstanding.specs.declared.item.ItemState.{ItemState}
+use Rattle.sctp_tx_outstanding.specs.declared.item.ItemState.TheVariants.{InFlight, Missing, Queued, QueuedFast, Acked, GivenUp}
+use Rattle.sctp_tx_outstanding.specs.Item.{Item, is_given_up, is_abandoned}
+use Rattle.sctp_tx_outstanding.specs.Runs.{IsGivenUpOf}
 use Rattle.sctp_tx_outstanding.specs.OutstandingData.{change_at}
 use Rattle.sctp_tx_outstanding.specs.Sack.{ack_or_uncover, newly_of, bytes_of}
 use Rattle.sctp_tx_outstanding.specs.Passes.{ack_or_uncover_from, acked_from, below_from, AllAre, Advances}
 use Rattle.sctp_tx_outstanding.specs.LastBlocks.{Rest, RestBelow}
 use Rattle.sctp_tx_outstanding.proofs.TotalsLemmas.{length_change}
-use Rattle.sctp_tx_outstanding.proofs.ReceivedLemmas.{settle_front, acked_front, below_front, below_agree}
+use Rattle.sctp_tx_outstanding.proofs.ReceivedLemmas.{given_up_rests, given_up_stays, settle_front, acked_front, below_front, below_agree}
 use Rattle.sctp_tx_outstanding.proofs.SackLemmas.{settle_step, acked_step, below_step, summed}
 
 -- ---- behind so many items
@@ -42,6 +45,31 @@ pub rest_behind : (olds : List GapAckBlock) (k off o : ℕ) (is : List Item) →
 rest_behind olds zero off o is e h = subst (λ n. Rest olds n is) (omega (arith, e)) h
 rest_behind olds (suc k) off o [] e h = tt
 rest_behind olds (suc k) off o (i ∷ is) e h = rest_behind olds k (suc off) o is (omega (arith, e)) h.1
+
+-- ---- items that were given up
+
+given_up_is : (s : ItemState) → is_given_up s ≡ true → s ≡ GivenUp
+given_up_is InFlight h = cc
+given_up_is Missing h = cc
+given_up_is Queued h = cc
+given_up_is QueuedFast h = cc
+given_up_is Acked h = cc
+given_up_is GivenUp h = refl
+
+rests_given_up : (covered : Bool) (i : Item) → is_abandoned i ≡ true → ack_or_uncover covered i ≡ i
+rests_given_up true i h = given_up_rests i (given_up_is i.state h)
+rests_given_up false i h = given_up_stays i (given_up_is i.state h)
+
+rest_each : (bs : List GapAckBlock) (n o : ℕ) (is : List Item) → ((j : ℕ) → j < n → IsGivenUpOf (slice_get is j)) → RestBelow bs n o is
+rest_each bs zero o is h = tt
+rest_each bs (suc n) o [] h = tt
+rest_each bs (suc n) o (i ∷ is) h = (rests_given_up (is_covered bs o) i (h 0 (omega arith)), rest_each bs n (suc o) is (λ j less. h (suc j) (omega (arith, less))))
+
+pub rest_given_up : (bs : List GapAckBlock) (k n o : ℕ) (is : List Item) → ((j : ℕ) → k ≤ j → j < k + n → IsGivenUpOf (slice_get is j)) → RestBelow bs n o (drop k is)
+rest_given_up bs zero n o is h = rest_each bs n o is (λ j less. h j (omega arith) (omega (arith, less)))
+rest_given_up bs (suc k) zero o [] h = tt
+rest_given_up bs (suc k) (suc n) o [] h = tt
+rest_given_up bs (suc k) n o (i ∷ is) h = rest_given_up bs k n o is (λ j le less. h (suc j) (omega (arith, le)) (omega (arith, less)))
 
 -- ---- earlier blocks and new ones that say the same
 

@@ -4,7 +4,7 @@ use Rattle.std.specs.Prelude.{◌&&◌, ◌==◌, not, nat_lt, nat_le}
 use Rattle.std.specs.List.{list_any}
 use Rattle.std.proofs.lemmas.Bool.{lt-ltb, le-ltb, leb-true, leb-false}
 use Rattle.sctp_serial.proofs.NumberLemmas.{greater_differs}
-use Rattle.sctp_tx_outstanding.proofs.WaitingLemmas.{not_below}
+use Rattle.sctp_tx_outstanding.proofs.NumbersLemmas.{not_below}
 use Rattle.sctp_tx_outstanding.specs.Breaks.{AscendFrom, is_first_passed}
 use Rattle.sctp_tx_outstanding.specs.Item.{Item, is_abandoned}
 use Rattle.sctp_tx_outstanding.specs.OutstandingData.{Items, is_last}

@@ -14,11 +14,11 @@ use Rattle.sctp_tx_outstanding.specs.Change.{apply_change}
 use Rattle.sctp_tx_outstanding.specs.OutstandingData.{change_at}
 use Rattle.sctp_tx_outstanding.specs.Totals.{parts, Exchanges}
 use Rattle.sctp_tx_outstanding.specs.Messages.{pair_key}
-use Rattle.sctp_tx_outstanding.specs.Waiting.{by_number, is_listed}
+use Rattle.sctp_tx_outstanding.specs.Numbers.{by_number, is_listed}
 use Rattle.sctp_tx_outstanding.specs.Expiries.{expires_as, AreMoments, Expects, Moves, Sets, expires_at, ListsUpTo}
 use Rattle.sctp_tx_outstanding.proofs.EarliestLemmas.{not_before}
 use Rattle.sctp_tx_outstanding.proofs.MessagesLemmas.{turn_round, out, stays}
-use Rattle.sctp_tx_outstanding.proofs.WaitingLemmas.{as_below, as_at, as_next, here, ahead, behind, further, nowhere, not_below, is_same_lem}
+use Rattle.sctp_tx_outstanding.proofs.NumbersLemmas.{as_below, as_at, as_next, here, ahead, behind, further, nowhere, not_below, is_same_lem}
 use Rattle.sctp_serial.proofs.NumberLemmas.{greater_differs}
 
 -- ---- an item changes

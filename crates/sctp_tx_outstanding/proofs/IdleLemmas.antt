@@ -4,59 +4,42 @@ use Rattle.std.specs.Prelude.{◌&&◌, nat_le, nat_lt, slice_get}
 use Rattle.std.specs.List.{All}
 use Rattle.std.proofs.lemmas.Bool.Decides.{nat_tests}
 use Rattle.std.proofs.lemmas.List.Elements.{All-head, All-tail, All-cons, All-nil}
-use Rattle.sctp_tx_outstanding.specs.declared.item.ItemState.{ItemState}
-use Rattle.sctp_tx_outstanding.specs.declared.item.ItemState.TheVariants.{InFlight, Missing, Queued, QueuedFast, Acked, GivenUp}
 use Rattle.sctp_tx_outstanding.specs.declared.outstanding_data.Turn.TheVariants.{Send, PassOver, Leave}
-use Rattle.sctp_tx_outstanding.specs.Item.{Item, waits, waits_fast, should_be_retransmitted, chunk_size}
+use Rattle.sctp_tx_outstanding.specs.Item.{Item, should_be_retransmitted, chunk_size}
 use Rattle.sctp_tx_outstanding.specs.Resending.{Resent, size_in, allowance, IsFull, AreLeft, turn_of, apply_turn, step_at, resent_below}
 use Rattle.sctp_tx_outstanding.specs.Sizes.{ExceedsOf, NoneFits}
-use Rattle.sctp_tx_outstanding.specs.Waiting.{waits_at, NoneWaits}
+use Rattle.sctp_tx_outstanding.specs.Waiting.{waits_for, waits_of, waits_at, NoneWaits}
 
-idle : (k : ℕ) (is : List Item) (i : Item) → waits_at k is ≡ false → slice_get is k ≡ Some i → waits i.state ≡ false
-idle k [] i h e = absurd (cc)
-idle zero (j ∷ is) i h e =
-    let same : j ≡ i = cc in
-    subst (λ (x : Item). waits x.state ≡ false) same h
-idle (suc k) (j ∷ is) i h e = idle k is i h e
-
-not_fast : (s : ItemState) → waits s ≡ false → waits_fast s ≡ false
-not_fast InFlight h = refl
-not_fast Missing h = refl
-not_fast Queued h = refl
-not_fast QueuedFast h = absurd (cc)
-not_fast Acked h = refl
-not_fast GivenUp h = refl
-
-idle_turn : (fast : Bool) (k : ℕ) (x : Resent) (i : Item) → waits i.state ≡ false → apply_turn (turn_of fast (Some i) x) k x ≡ x
-idle_turn true k x i h = ap (λ b. apply_turn (cond b (cond (nat_le (size_in x i) x.room) Send PassOver) Leave) k x) (not_fast i.state h)
+idle_turn : (fast : Bool) (k : ℕ) (x : Resent) (i : Item) → waits_for fast i ≡ false → apply_turn (turn_of fast (Some i) x) k x ≡ x
+idle_turn true k x i h = ap (λ b. apply_turn (cond b (cond (nat_le (size_in x i) x.room) Send PassOver) Leave) k x) h
 idle_turn false k x i h = ap (λ b. apply_turn (cond (b && nat_le (size_in x i) (allowance x)) Send Leave) k x) h
 
-idle_step : (fast : Bool) (k : ℕ) (x : Resent) → waits_at k x.outstanding.items.kept ≡ false → step_at fast k x ≡ x
-idle_step fast k x h = at_item (slice_get x.outstanding.items.kept k) refl where
-  at_item : (o : Option Item) → slice_get x.outstanding.items.kept k ≡ o → apply_turn (turn_of fast o x) k x ≡ x
+idle_step : (fast : Bool) (k : ℕ) (x : Resent) → waits_at fast k x.outstanding.items.kept ≡ false → step_at fast k x ≡ x
+idle_step fast k x h = at_item (slice_get x.outstanding.items.kept k) h where
+  at_item : (o : Option Item) → waits_of fast o ≡ false → apply_turn (turn_of fast o x) k x ≡ x
   at_item None e = refl
-  at_item (Some i) e = idle_turn fast k x i (idle k x.outstanding.items.kept i h e)
+  at_item (Some i) e = idle_turn fast k x i e
 
-pub none_less : (from to less : ℕ) (is : List Item) → less ≤ to → NoneWaits from to is → NoneWaits from less is
-none_less from to less is le h = λ k above below. h k above (omega (arith, below, le))
+pub none_less : (fast : Bool) (from to less : ℕ) (is : List Item) → less ≤ to → NoneWaits fast from to is → NoneWaits fast from less is
+none_less fast from to less is le h = λ k above below. h k above (omega (arith, below, le))
 
-idle_more : (fast : Bool) (x : Resent) (more p n : ℕ) → n ≡ more + p → NoneWaits p n (resent_below fast p x).outstanding.items.kept → resent_below fast n x ≡ resent_below fast p x
+idle_more : (fast : Bool) (x : Resent) (more p n : ℕ) → n ≡ more + p → NoneWaits fast p n (resent_below fast p x).outstanding.items.kept → resent_below fast n x ≡ resent_below fast p x
 idle_more fast x zero p n e h =
     let same : n ≡ p = omega (arith, e) in
     ap (λ k. resent_below fast k x) same
 idle_more fast x (suc more) p n e h =
     let is_next : n ≡ suc (more + p) = omega (arith, e) in
     let is = (resent_below fast p x).outstanding.items.kept in
-    let ih = idle_more fast x more p (more + p) refl (none_less p n (more + p) is (omega (arith, e)) h) in
+    let ih = idle_more fast x more p (more + p) refl (none_less fast p n (more + p) is (omega (arith, e)) h) in
     ap (λ k. resent_below fast k x) is_next ∙ ap (λ (y : Resent). step_at fast (more + p) y) ih ∙ idle_step fast (more + p) (resent_below fast p x) (h (more + p) (omega arith) (omega (arith, e)))
 
 -- up to the next item that waits nothing changes
-pub idle_on : (fast : Bool) (x : Resent) (p n : ℕ) → p ≤ n → NoneWaits p n (resent_below fast p x).outstanding.items.kept → resent_below fast n x ≡ resent_below fast p x
+pub idle_on : (fast : Bool) (x : Resent) (p n : ℕ) → p ≤ n → NoneWaits fast p n (resent_below fast p x).outstanding.items.kept → resent_below fast n x ≡ resent_below fast p x
 idle_on fast x p n le h = idle_more fast x (n - p) p n (omega (arith, le)) h
 
-pub idle_at : (fast : Bool) (x now : Resent) (p n : ℕ) → now ≡ resent_below fast p x → p ≤ n → NoneWaits p n now.outstanding.items.kept → now ≡ resent_below fast n x
+pub idle_at : (fast : Bool) (x now : Resent) (p n : ℕ) → now ≡ resent_below fast p x → p ≤ n → NoneWaits fast p n now.outstanding.items.kept → now ≡ resent_below fast n x
 idle_at fast x now p n e le h =
-    e ∙ sym (idle_on fast x p n le (subst (λ (y : Resent). NoneWaits p n y.outstanding.items.kept) e h))
+    e ∙ sym (idle_on fast x p n le (subst (λ (y : Resent). NoneWaits fast p n y.outstanding.items.kept) e h))
 
 -- ---- a packet into which no item that waits fits
 

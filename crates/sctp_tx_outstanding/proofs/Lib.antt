@@ -13,10 +13,12 @@ pub mod AbandonedItemsLemmas
 pub mod LossesLemmas
 pub mod MessagesLemmas
 pub mod PassedLemmas
+pub mod NumbersLemmas
 pub mod PointLemmas
 pub mod QuietLemmas
 pub mod RecordLemmas
 pub mod RoomLemmas
+pub mod RunsLemmas
 pub mod SackLemmas
 pub mod SizesLemmas
 pub mod EmittingLemmas

@@ -9,11 +9,11 @@ use Rattle.sctp_tx_outstanding.specs.declared.kept.Change.TheVariants as changes
 use Rattle.sctp_tx_outstanding.specs.Item.{Item, is_of, abandon}
 use Rattle.sctp_tx_outstanding.specs.Change.{apply_change}
 use Rattle.sctp_tx_outstanding.specs.OutstandingData.{change_at, abandon_if_of, is_of_at, later_of, later_at, without_payload}
-use Rattle.sctp_tx_outstanding.specs.Waiting.{by_number, is_listed}
+use Rattle.sctp_tx_outstanding.specs.Numbers.{by_number, is_listed}
 use Rattle.sctp_tx_outstanding.specs.Messages.{NoneIsOf, is_of_as, pair_key, AreKeys, Finds}
 use Rattle.sctp_tx_outstanding.specs.declared.messages.Messages.{Messages}
 use Rattle.sctp_tx_outstanding.proofs.AbandonedItemsLemmas.{laid}
-use Rattle.sctp_tx_outstanding.proofs.WaitingLemmas.{as_below, as_at, as_never, as_next, as_alike, as_turned, here, ahead, behind, further, not_below, is_same_lem, equal}
+use Rattle.sctp_tx_outstanding.proofs.NumbersLemmas.{as_below, as_at, as_never, as_next, as_alike, as_turned, here, ahead, behind, further, not_below, is_same_lem, equal}
 use Rattle.sctp_serial.proofs.NumberLemmas.{greater_differs}
 
 -- ---- keys

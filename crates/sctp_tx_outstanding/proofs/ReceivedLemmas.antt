@@ -52,6 +52,9 @@ acked_rests i s r = rests_covered i (ap (λ z. acked z) s ∙ sym s) (ap (λ z. 
 pub given_up_rests : (i : Item) → i.state ≡ GivenUp → ack i ≡ i
 given_up_rests i s = rests_covered i (ap (λ z. acked z) s ∙ sym s) (ap (λ z. cond (is_given_up z) i.reports 0) s)
 
+pub given_up_stays : (i : Item) → i.state ≡ GivenUp → uncover i ≡ i
+given_up_stays i s = rests_uncovered i (ap (λ z. uncovered z) s ∙ sym s)
+
 pub still : (s : ItemState) → acked s ≡ s → is_in_flight s ≡ false
 still InFlight h = absurd (cc)
 still Missing h = absurd (cc)

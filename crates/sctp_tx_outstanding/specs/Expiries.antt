@@ -5,7 +5,7 @@ use Rattle.sctp_tx_outstanding.specs.declared.expiries.Due.{Due}
 use Rattle.sctp_tx_outstanding.specs.Item.{Item, expiry, never}
 use Rattle.sctp_tx_outstanding.specs.Losses.{expires}
 use Rattle.sctp_tx_outstanding.specs.Messages.{pair_key}
-use Rattle.sctp_tx_outstanding.specs.Waiting.{by_number, is_listed}
+use Rattle.sctp_tx_outstanding.specs.Numbers.{by_number, is_listed}
 
 -- whether the item at the place expires at the moment, and not before
 abbrev pub expires_as : (moment k : ℕ) → List Item → Bool

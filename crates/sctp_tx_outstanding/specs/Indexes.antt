@@ -6,18 +6,16 @@ use Rattle.sctp_tx_outstanding.specs.Expiries.{Expects}
 use Rattle.sctp_tx_outstanding.specs.LastBlocks.{Knows}
 use Rattle.sctp_tx_outstanding.specs.Messages.{Finds}
 use Rattle.sctp_tx_outstanding.specs.Passed.{IsPassed}
-use Rattle.sctp_tx_outstanding.specs.Quiet.{IsQuiet}
-use Rattle.sctp_tx_outstanding.specs.Sizes.{HasSizes}
+use Rattle.sctp_tx_outstanding.specs.Runs.{HasRuns}
+use Rattle.sctp_tx_outstanding.specs.Sizes.{AreAtLeast}
 use Rattle.sctp_tx_outstanding.specs.Totals.{AreTotals}
-use Rattle.sctp_tx_outstanding.specs.Waiting.{Lists}
 
 -- each of the indexes is of these items
 pub record AreIndexes (is_interleaved : Bool) (is : List Item) (x : Indexes) : Type 0 where
   pub totals : AreTotals is_interleaved is x.totals
   pub last_blocks : Knows x.last_blocks is
-  pub waiting : Lists x.waiting is
-  pub sizes : HasSizes x.sizes is
+  pub least : AreAtLeast x.least is
+  pub runs : HasRuns x.runs is
   pub messages : Finds x.messages is
   pub expiries : Expects x.expiries is
-  pub quiet : IsQuiet x.quiet is
   pub passed : IsPassed is_interleaved is x.passed

@@ -13,6 +13,7 @@ pub mod OutstandingData
 pub mod Keeps
 pub mod Losses
 pub mod Messages
+pub mod Numbers
 pub mod Passed
 pub mod Passes
 pub mod Point

@@ -3,7 +3,7 @@ use Rattle.std.specs.Prelude.{◌≡◌, ℕ, ◌+◌, ◌*◌, ◌^◌, ◌<◌
 use Rattle.sctp_tx_outstanding.specs.declared.messages.Messages.{Messages}
 use Rattle.sctp_tx_outstanding.specs.Item.{Item}
 use Rattle.sctp_tx_outstanding.specs.OutstandingData.{is_of_at}
-use Rattle.sctp_tx_outstanding.specs.Waiting.{by_number, is_listed}
+use Rattle.sctp_tx_outstanding.specs.Numbers.{by_number, is_listed}
 
 -- none from one place up to another is of the message
 abbrev pub NoneIsOf : (message from to : ℕ) → List Item → Type 0

@@ -2,11 +2,11 @@
 
 ghost use Rattle.std.specs.Prelude.{◌≡◌, ℕ, ◌<◌, ◌≤◌, ◌==◌, true, false, IfSome};
 ghost use Rattle.sctp_tx_outstanding.specs.Messages.{pair_key};
-ghost use Rattle.sctp_tx_outstanding.specs.Waiting.{is_listed};
+ghost use Rattle.sctp_tx_outstanding.specs.Numbers.{is_listed};
 ghost use Rattle.sctp_tx_outstanding.specs.Expiries.{ListsUpTo, Sets};
 
 use crate::messages::number_at;
-use crate::waiting::{least_from, put};
+use crate::numbers::{least_from, put};
 use sctp_serial::SocketTime;
 use std::alloc::Global;
 use std::collections::BTreeSet;

@@ -8,9 +8,8 @@ ghost use Rattle.sctp_tx_outstanding.specs.OutstandingData.{change_at, queued_pa
 ghost use Rattle.sctp_tx_outstanding.specs.declared.totals.Totals.{Totals};
 ghost use Rattle.sctp_tx_outstanding.specs.declared.kept.Change.{Change};
 ghost use Rattle.sctp_tx_outstanding.specs.Totals.{Exchanges};
-ghost use Rattle.sctp_tx_outstanding.specs.Waiting.{HasSize, Lists};
-ghost use Rattle.sctp_tx_outstanding.specs.Quiet.{IsQuiet};
-ghost use Rattle.sctp_tx_outstanding.specs.Sizes.{HasSizes};
+ghost use Rattle.sctp_tx_outstanding.specs.Runs.{SameBut};
+ghost use Rattle.sctp_tx_outstanding.specs.Sizes.{AreAtLeast};
 ghost use Rattle.sctp_tx_outstanding.specs.Indexes.{AreIndexes};
 
 use crate::expiries::Expiries;
@@ -19,10 +18,9 @@ use crate::kept::Change;
 use crate::last_blocks::LastBlocks;
 use crate::messages::Messages;
 use crate::passed::Passed;
-use crate::quiet::Quiet;
-use crate::sizes::Sizes;
+use crate::runs::Runs;
+use crate::sizes::{least_at, lesser};
 use crate::totals::Totals;
-use crate::waiting::Waiting;
 use std::alloc::Global;
 use std::collections::VecDeque;
 
@@ -32,68 +30,23 @@ use std::collections::VecDeque;
 pub struct Indexes {
     pub totals: Totals,
     pub last_blocks: LastBlocks,
-    pub waiting: Waiting,
-    pub sizes: Sizes,
+    /// No item that waits to be sent again has a smaller payload.
+    pub least: usize,
+    pub runs: Runs,
     pub messages: Messages,
     pub expiries: Expiries,
-    pub quiet: Quiet,
     pub passed: Passed,
 }
 
-/// The bytes of the payload of the item at the place.
-fn payload_at(items: &VecDeque<Item>, place: usize) -> usize
-    ensures { HasSize place result items.now.items }
-{
-    match items.get(place) {
-        Some(item) => item.payload_size(),
-        None => 0,
-    }
-}
-
-/// The item at the place changed, by which one part of the totals came for another, and so many wait now: it may be one of
-/// them, or no longer.
+/// The item at the place has come or changed, and so many wait now: a bound of their payloads.
 #[inline(always)]
-fn follow_waiting(
-    waiting: &mut Waiting,
-    items: &VecDeque<Item>,
-    place: usize,
-    old: Totals,
-    new: Totals,
-    queued: usize,
-)
-    ensures { (m : Bool) (how : Change) (is : List Item) → items.now.items ≡ change_at place (apply_change how) is → Exchanges m place how is old new
-        → queued ≡ sum_by queued_part items.now.items → Lists waiting.old is → Lists waiting.new items.now.items }
+fn follow_least(least: usize, items: &VecDeque<Item>, place: usize, queued: usize) -> usize
+    ensures { (is : List Item) → SameBut place is items.now.items → queued ≡ sum_by queued_part items.now.items → AreAtLeast least is → AreAtLeast result items.now.items }
 {
-    if old.queued == new.queued {
-        return;
+    if queued == 0 {
+        return usize::MAX;
     }
-    let size = payload_at(items, place);
-    waiting.follow(place, size, old.queued > 0, new.queued > 0);
-    waiting.count(queued);
-}
-
-/// The item at the place changed, by which one part of the totals came for another: it may wait now.
-#[inline(always)]
-fn follow_sizes(sizes: &mut Sizes, items: &VecDeque<Item>, place: usize, old: Totals, new: Totals)
-    ensures { (m : Bool) (how : Change) (is : List Item) → items.now.items ≡ change_at place (apply_change how) is → Exchanges m place how is old new
-        → HasSizes sizes.old is → HasSizes sizes.new items.now.items }
-{
-    if new.queued <= old.queued {
-        return;
-    }
-    sizes.follow(place, payload_at(items, place), true);
-}
-
-/// The item at the place changed, by which one part of the totals came for another: it may be outstanding now.
-#[inline(always)]
-fn follow_quiet(quiet: &mut Quiet, place: usize, old: Totals, new: Totals)
-    ensures { (m : Bool) (how : Change) (is : List Item) → Exchanges m place how is old new
-        → IsQuiet quiet.old is → IsQuiet quiet.new (change_at place (apply_change how) is) }
-{
-    if new.flights <= old.flights {
-        return;
-    }
-    quiet.stir(place);
+    least_at(items, place, least)
 }
 
 impl Indexes {
@@ -104,11 +57,10 @@ impl Indexes {
         Indexes {
             totals: Totals::nothing(),
             last_blocks: LastBlocks::new(alloc),
-            waiting: Waiting::new(alloc),
-            sizes: Sizes::new(alloc),
+            least: usize::MAX,
+            runs: Runs::new(alloc),
             messages: Messages::new(alloc),
             expiries: Expiries::new(alloc),
-            quiet: Quiet::new(alloc),
             passed: Passed::new(alloc),
         }
     }
@@ -125,14 +77,15 @@ impl Indexes {
         let part = Totals::of(item, is_interleaved);
         self.totals = self.totals.with_part(part);
         self.last_blocks.take(item.is_acked());
-        let size = item.payload_size();
-        let waits = item.should_be_retransmitted();
-        self.waiting.follow(place, size, false, waits);
-        self.sizes.begin(place);
-        self.sizes.follow(place, size, waits);
+        self.least = lesser(
+            self.least,
+            item.should_be_retransmitted(),
+            item.payload_size(),
+        );
+        self.runs.begin(place);
+        self.runs.see(items, place);
         self.messages.add(item.message_id(), place);
         self.expiries.renew(place, u128::MAX, part.earliest);
-        self.quiet.stir(place);
     }
 
     /// The first item has left, before the others.
@@ -145,11 +98,9 @@ impl Indexes {
         let part = Totals::of(item, is_interleaved);
         self.totals = self.totals.without_part(part);
         self.last_blocks.pass();
-        self.waiting.pass(item.should_be_retransmitted());
-        self.sizes.pass();
+        self.runs.pass();
         self.messages.leave(item.message_id());
         self.expiries.leave(part.earliest);
-        self.quiet.pass();
         self.passed.leave();
     }
 
@@ -170,16 +121,8 @@ impl Indexes {
         let (old, new) = parts;
         self.totals = self.totals.exchanged(old, new);
         self.last_blocks.see(how);
-        follow_waiting(
-            &mut self.waiting,
-            items,
-            place,
-            old,
-            new,
-            self.totals.queued,
-        );
-        follow_sizes(&mut self.sizes, items, place, old, new);
+        self.least = follow_least(self.least, items, place, self.totals.queued);
+        self.runs.see(items, place);
         self.expiries.renew(place, old.earliest, new.earliest);
-        follow_quiet(&mut self.quiet, place, old, new);
     }
 }

@@ -14,6 +14,7 @@ ghost use Rattle.sctp_tx_outstanding.specs.LastBlocks.{Rest, Knows};
 ghost use Rattle.sctp_tx_outstanding.specs.Sack.{all_leaving_events, open_size};
 ghost use Rattle.sctp_tx_outstanding.specs.Messages.{Finds, NoneIsOf};
 ghost use Rattle.sctp_tx_outstanding.specs.Quiet.{NoneFlies};
+ghost use Rattle.sctp_tx_outstanding.specs.Runs.{AreGivenUp};
 ghost use Rattle.sctp_tx_outstanding.specs.Waiting.{NoneWaits};
 ghost use Rattle.sctp_tx_outstanding.specs.Sizes.{NoneFits};
 ghost use Rattle.sctp_state.specs.Events.{emit_events, Grown};
@@ -334,13 +335,20 @@ impl Kept {
         self.items.get(place)
     }
 
-    /// A place from this one on up to which no item is in flight or missing, and at which one may be.
-    pub(crate) fn next_flight(&mut self, place: usize) -> usize
-        ensures same { self.new ≡ self.old }
+    /// A place from this one on up to which no item is in flight or missing, and at which one may be, or where a run ends.
+    pub(crate) fn next_flight(&self, place: usize) -> usize
         ensures onward { place ≤ result }
-        ensures none { NoneFlies place result self.old.items }
+        ensures none { NoneFlies place result self.now.items }
     {
-        self.indexes.quiet.next_flight(&self.items, place)
+        self.indexes.runs.next_flight(place)
+    }
+
+    /// A place from this one on up to which all items are given up, and at which one may be that isn't, or where a run ends.
+    pub(crate) fn pass_given_up(&self, place: usize) -> usize
+        ensures onward { place ≤ result }
+        ensures given_up { AreGivenUp place result self.now.items }
+    {
+        self.indexes.runs.pass_given_up(place)
     }
 
     /// The bytes of the chunks in flight or missing, with their headers and padding.
@@ -378,19 +386,20 @@ impl Kept {
         self.indexes.totals.fast > 0
     }
 
-    /// The place from this one on up to which no item waits to be sent again.
-    pub(crate) fn next_waiting(&self, place: usize) -> usize
+    /// A place from this one on up to which no item waits to be sent again, by the fast packet or by any, and at which one
+    /// may, or where a run ends.
+    pub(crate) fn next_waiting(&self, fast: bool, place: usize) -> usize
         ensures onward { place ≤ result }
-        ensures none { NoneWaits place result self.now.items }
+        ensures none { NoneWaits fast place result self.now.items }
     {
-        self.indexes.waiting.next(place)
+        self.indexes.runs.next_waiting(fast, place)
     }
 
     /// No item that waits to be sent again has a chunk of fewer bytes.
     pub(crate) fn least_waiting(&self) -> usize
         ensures { All (λ i. should_be_retransmitted i ≡ true → result ≤ chunk_size self.now.is_interleaved i) self.now.items }
     {
-        padded_size(self.indexes.waiting.least.min(1 << 32), self.is_interleaved)
+        padded_size(self.indexes.least.min(1 << 32), self.is_interleaved)
     }
 
     /// Looks how small the items that wait to be sent again are, where none may have a chunk of at most so many bytes.
@@ -398,9 +407,9 @@ impl Kept {
         ensures { self.new ≡ self.old }
     {
         self.indexes
-            .sizes
+            .runs
             .renew_small(&self.items, allowed, self.is_interleaved);
-        self.indexes.waiting.least = self.indexes.sizes.least(self.items.len());
+        self.indexes.least = self.indexes.runs.least(self.items.len());
     }
 
     /// A place from this one on, to which a walk came from another, up to which no item that waits has a chunk of so few bytes.
@@ -410,9 +419,9 @@ impl Kept {
         ensures none { NoneFits self.old.is_interleaved allowed place result self.old.items }
     {
         let is_interleaved = self.is_interleaved;
-        let sizes = &mut self.indexes.sizes;
-        sizes.enter(&self.items, from, place, allowed, is_interleaved);
-        sizes.pass_large(&self.items, place, allowed, is_interleaved)
+        let runs = &mut self.indexes.runs;
+        runs.enter(&self.items, from, place, allowed, is_interleaved);
+        runs.pass_large(&self.items, place, allowed, is_interleaved)
     }
 
     /// Takes out what is known of the last SACK's blocks.

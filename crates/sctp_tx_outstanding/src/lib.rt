@@ -10,16 +10,15 @@ pub mod kept;
 mod last_blocks;
 pub mod laws;
 mod messages;
+mod numbers;
 pub mod outstanding_data;
 mod passed;
-mod quiet;
 mod runs;
 pub mod sack;
 mod sizes;
 pub mod skips;
 mod stretches;
 pub mod totals;
-mod waiting;
 
 pub use item::{Item, ItemState};
 pub use outstanding_data::{Discarded, OutstandingData};

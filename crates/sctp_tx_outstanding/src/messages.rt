@@ -2,9 +2,9 @@
 
 ghost use Rattle.std.specs.Prelude.{◌≡◌, ℕ, ◌+◌, ◌<◌, ◌≤◌, false, IfSome};
 ghost use Rattle.sctp_tx_outstanding.specs.Messages.{pair_key};
-ghost use Rattle.sctp_tx_outstanding.specs.Waiting.{is_listed};
+ghost use Rattle.sctp_tx_outstanding.specs.Numbers.{is_listed};
 
-use crate::waiting::{least_from, put};
+use crate::numbers::{least_from, put};
 use sctp_serial::OutgoingMessageId;
 use std::alloc::Global;
 use std::collections::BTreeSet;

@@ -1,13 +1,28 @@
-//! Runs of 64 items, of which the first item has the place `offset` in its own.
+//! What is known of the items by runs of 64, so that these needn't be looked at one by one.
 
-ghost use Rattle.std.specs.Prelude.{◌≡◌, ℕ, ◌<◌, ◌≤◌, ◌^◌};
-ghost use Rattle.sctp_tx_outstanding.specs.Runs.{run_of};
+ghost use Rattle.std.specs.Prelude.{◌≡◌, ◌≢◌, ℕ, ◌+◌, ◌<◌, ◌≤◌, ◌^◌, true, false};
+ghost use Rattle.std.specs.Int.{bit_at};
+ghost use Rattle.sctp_tx_outstanding.specs.Item.{Item};
+ghost use Rattle.sctp_tx_outstanding.specs.Runs.{run_of, bit_of, bits_of, known_of, nothing_known, IsKnown};
+
+use crate::item::Item;
+use crate::sizes::lesser;
+use std::alloc::Global;
+use std::collections::VecDeque;
 
 /// The run of the item at the place.
 pub(crate) fn run_of(offset: u8, place: usize) -> usize
     ensures { result ≡ run_of offset place }
 {
     place / 64 + (offset as usize + place % 64) / 64
+}
+
+/// The bit of the item at the place in its run.
+fn bit_of(offset: u8, place: usize) -> u32
+    ensures bit { result ≡ bit_of offset place }
+    ensures small { result < 64 }
+{
+    ((offset as usize + place % 64) % 64) as u32
 }
 
 /// The place of the run's first item, at most `usize::MAX`.
@@ -26,4 +41,239 @@ pub(crate) fn end_of(offset: u8, place: usize) -> usize
     ensures behind { (k : ℕ) → result ≤ k → run_of offset place < run_of offset k }
 {
     place + (64 - (offset as usize + place % 64) % 64)
+}
+
+/// What an item may be.
+#[derive(Clone, Copy)]
+pub enum Bits {
+    /// In flight or missing.
+    Flying,
+    /// To be sent again.
+    Waiting,
+    /// To be sent again by the packet that ignores the congestion window.
+    Fast,
+}
+
+/// What is known of the items of a run.
+#[derive(Clone, Copy)]
+pub struct Run {
+    /// The bits of items that may be in flight or missing.
+    pub flying: u64,
+    /// The bits of items that may wait to be sent again.
+    pub waiting: u64,
+    /// The bits of those that may wait for the packet that ignores the congestion window.
+    pub fast: u64,
+    /// The bits of items of which it is known that they were given up.
+    pub given_up: u64,
+    /// No item that waits has a smaller payload.
+    pub least: usize,
+}
+
+/// The bits, of which one is set or cleared.
+#[inline(always)]
+fn with_bit(bits: u64, bit: u32, is_set: bool) -> u64
+    requires small { bit < 64 }
+    ensures set { is_set ≡ true → bit_at result bit ≡ 1 }
+    ensures clear { is_set ≡ false → bit_at result bit ≡ 0 }
+    ensures others { (b : ℕ) → b < 64 → b ≢ bit → bit_at result b ≡ bit_at bits b }
+{
+    if is_set {
+        bits | 1 << bit
+    } else {
+        bits & !(1 << bit)
+    }
+}
+
+/// How many bits from this one on are clear, one after the other.
+#[inline(always)]
+fn clear_from(bits: u64, bit: u32) -> u32
+    requires small { bit < 64 }
+    ensures within { bit + result ≤ 64 }
+    ensures clear { (b : ℕ) → bit ≤ b → b < bit + result → bit_at bits b ≡ 0 }
+{
+    (bits >> bit).trailing_zeros().min(64 - bit)
+}
+
+impl Run {
+    /// Nothing.
+    fn nothing() -> Run
+        ensures { result ≡ nothing_known }
+    {
+        Run {
+            flying: u64::MAX,
+            waiting: u64::MAX,
+            fast: u64::MAX,
+            given_up: 0,
+            least: 0,
+        }
+    }
+
+    /// What a run without items begins with.
+    fn empty() -> Run {
+        Run {
+            flying: 0,
+            waiting: 0,
+            fast: 0,
+            given_up: 0,
+            least: usize::MAX,
+        }
+    }
+
+    /// The bits of items that may be so.
+    #[inline(always)]
+    fn bits(self, of: Bits) -> u64
+        ensures { result ≡ bits_of of self }
+    {
+        match of {
+            Bits::Flying => self.flying,
+            Bits::Waiting => self.waiting,
+            Bits::Fast => self.fast,
+        }
+    }
+
+    /// What is known where this item has the bit.
+    #[inline(always)]
+    fn with_item(self, bit: u32, item: &Item) -> Run
+        requires small { bit < 64 }
+        ensures here { IsKnown result bit item.now }
+        ensures others { (b : ℕ) (i : Item) → b < 64 → b ≢ bit → IsKnown self b i → IsKnown result b i }
+    {
+        let waits = item.should_be_retransmitted();
+        Run {
+            flying: with_bit(self.flying, bit, item.is_outstanding()),
+            waiting: with_bit(self.waiting, bit, waits),
+            fast: with_bit(self.fast, bit, item.is_fast()),
+            given_up: with_bit(self.given_up, bit, item.is_abandoned()),
+            least: lesser(self.least, waits, item.payload_size()),
+        }
+    }
+}
+
+/// What is known of the items by runs.
+#[derive(Drop)]
+pub struct Runs {
+    /// From the first item's run on. Of those behind nothing is known.
+    pub known: VecDeque<Run>,
+    /// The first item's place in its run.
+    pub offset: u8,
+}
+
+impl Runs {
+    ghost use Rattle.std.specs.Prelude.{◌∷◌, [], List, length};
+    ghost use Rattle.sctp_tx_outstanding.specs.Quiet.{NoneFlies};
+    ghost use Rattle.sctp_tx_outstanding.specs.Waiting.{NoneWaits};
+    ghost use Rattle.sctp_tx_outstanding.specs.Runs.{HasRuns, SameBut, AreGivenUp};
+
+    /// No items. Takes no memory.
+    pub fn new(alloc: Global) -> Runs
+        ensures { HasRuns result [] }
+    {
+        Runs {
+            known: VecDeque::new(alloc),
+            offset: 0,
+        }
+    }
+
+    /// What is known of the run.
+    #[inline(always)]
+    pub fn known(&self, run: usize) -> Run
+        ensures { result ≡ known_of self.now.known.items run }
+    {
+        match self.known.get(run) {
+            Some(known) => *known,
+            None => Run::nothing(),
+        }
+    }
+
+    /// An item comes at the place behind all others: where it begins the next run to be listed, this is, if there is memory.
+    pub fn begin(&mut self, place: usize)
+        ensures { (is : List Item) → length is ≡ place → HasRuns self.old is → HasRuns self.new is }
+    {
+        let run = run_of(self.offset, place);
+        if run == self.known.len() && begin_of(self.offset, run) == place {
+            let _ = self.known.push_back(Run::empty());
+        }
+    }
+
+    /// The item at the place has come, or has changed.
+    pub fn see(&mut self, items: &VecDeque<Item>, place: usize)
+        ensures { (is : List Item) → SameBut place is items.now.items → HasRuns self.old is → HasRuns self.new items.now.items }
+    {
+        let Some(item) = items.get(place) else {
+            return;
+        };
+        let run = run_of(self.offset, place);
+        let bit = bit_of(self.offset, place);
+        let Some(known) = self.known.get_mut(run) else {
+            return;
+        };
+        *known = known.with_item(bit, item);
+    }
+
+    /// The first item leaves.
+    pub fn pass(&mut self)
+        ensures { (i : Item) (is : List Item) → HasRuns self.old (i ∷ is) → HasRuns self.new is }
+    {
+        if self.offset < 63 {
+            self.offset += 1;
+            return;
+        }
+        self.offset = 0;
+        self.known.pop_front();
+    }
+
+    /// The first run from this one on of which an item may be so.
+    #[inline(always)]
+    fn next_run(&self, of: Bits, run: usize) -> usize
+        ensures { (n : ℕ) → run ≤ n → n < result → bits_of of (known_of self.now.known.items n) ≡ 0 }
+    {
+        let mut next = run;
+        while next < self.known.len() && self.known(next).bits(of) == 0 {
+            next += 1;
+        }
+        next
+    }
+
+    /// The place of the next item from this one on that may be so, or the end of a run up to which none is.
+    #[inline(always)]
+    fn next(&self, of: Bits, place: usize) -> usize
+        ensures onward { place ≤ result }
+        ensures none { (k : ℕ) → place ≤ k → k < result → bit_at (bits_of of (known_of self.now.known.items (run_of self.now.offset k))) (bit_of self.now.offset k) ≡ 0 }
+    {
+        let run = self.next_run(of, run_of(self.offset, place));
+        let from = begin_of(self.offset, run).max(place);
+        let known = self.known(run_of(self.offset, from));
+        let count = clear_from(known.bits(of), bit_of(self.offset, from));
+        from.saturating_add(count as usize)
+    }
+
+    /// A place from this one on up to which no item is in flight or missing, and at which one may be, or where a run ends.
+    pub fn next_flight(&self, place: usize) -> usize
+        ensures onward { place ≤ result }
+        ensures none { (is : List Item) → HasRuns self.now is → NoneFlies place result is }
+    {
+        self.next(Bits::Flying, place)
+    }
+
+    /// A place from this one on up to which no item waits to be sent again, by the fast packet or by any, and at which one
+    /// may, or where a run ends.
+    pub fn next_waiting(&self, fast: bool, place: usize) -> usize
+        ensures onward { place ≤ result }
+        ensures none { (is : List Item) → HasRuns self.now is → NoneWaits fast place result is }
+    {
+        if fast {
+            return self.next(Bits::Fast, place);
+        }
+        self.next(Bits::Waiting, place)
+    }
+
+    /// A place from this one on up to which all items were given up, and at which one may not be, or where a run ends.
+    pub fn pass_given_up(&self, place: usize) -> usize
+        ensures onward { place ≤ result }
+        ensures given_up { (is : List Item) → HasRuns self.now is → AreGivenUp place result is }
+    {
+        let known = self.known(run_of(self.offset, place));
+        let count = clear_from(!known.given_up, bit_of(self.offset, place));
+        place.saturating_add(count as usize)
+    }
 }

@@ -76,19 +76,18 @@ pub(crate) fn pass_covered(
 
 /// The same over items that aren't outstanding, covered or not, up to one that may be or to `count`.
 pub(crate) fn pass_idle(
-    kept: &mut Kept,
+    kept: &Kept,
     blocks: &[GapAckBlock],
     is_in_runs: bool,
     from: usize,
     place: usize,
     count: usize,
 ) -> (usize, usize)
-    requires rest { Rest blocks.now 1 kept.old.items }
+    requires rest { Rest blocks.now 1 kept.now.items }
     requires cursor { IsWalk is_in_runs blocks.now (place + 1) from }
-    ensures same { kept.new ≡ kept.old }
     ensures cursor { IsWalk is_in_runs blocks.now (result.1 + 1) result.0 }
     ensures onward { place ≤ result.1 }
-    ensures none { NoneFlies place result.1 kept.old.items }
+    ensures none { NoneFlies place result.1 kept.now.items }
 {
     let mut block = from;
     let mut next = place;
@@ -134,7 +133,7 @@ fn settle_at(kept: &mut Kept, place: usize, is_covered: bool, covered: Covered) 
     }
 }
 
-/// Settles the items from one place up to another, of which blocks cover each or none.
+/// Settles the items from one place up to another, of which blocks cover each or none. Those given up stay as they are.
 fn settle_range(
     kept: &mut Kept,
     from: usize,
@@ -148,8 +147,15 @@ fn settle_range(
     ensures settled { (blocks : List GapAckBlock) → AllAre is_covered blocks 1 from to → Advances blocks kept.old.is_interleaved from to covered result kept.old.items kept.new.items }
 {
     let mut found = covered;
-    for place in from..to {
-        found = settle_at(kept, place, is_covered, found);
+    let mut place = from;
+    while place < to {
+        let next = kept.pass_given_up(place).min(to);
+        if next > place {
+            place = next;
+        } else {
+            found = settle_at(kept, place, is_covered, found);
+            place += 1;
+        }
     }
     found
 }

@@ -160,7 +160,7 @@ impl OutstandingData {
             if self.is_full(fast, filling) {
                 return Ok(());
             }
-            let next = self.kept.next_waiting(place);
+            let next = self.kept.next_waiting(fast, place);
             if count <= next {
                 return Ok(());
             }

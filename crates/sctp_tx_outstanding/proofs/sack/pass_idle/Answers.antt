@@ -1,5 +1,4 @@
-use Rattle.std.proofs.Common.{◌+◌, ◌∙◌, ap, arith}
-use Rattle.sctp_tx_outstanding.specs.OutstandingData.{Kept}
+use Rattle.std.proofs.Common.{◌+◌, refl, arith}
 use Rattle.sctp_tx_outstanding.proofs.ReceivedLemmas.{walk_past}
 use Rattle.sctp_tx_outstanding.proofs.UncoveredLemmas.{quiet_on}
 use Rattle.sctp_tx_outstanding.proofs.sack.pass_idle.Goals as goal
@@ -12,9 +11,8 @@ loop-next-preserved c =
     let before = c.loop-next.invariant in
     let le = c.next_flight-flight.ensures.onward in
     record {
-      same = c.next_flight-flight.ensures.same ∙ before.same;
       cursor = walk_past c.args.is_in_runs bs (uncovered + 1) (flight + 1) c.pass_covered-later.result.0 (omega (arith, le)) c.pass_covered-later.ensures.cursor;
       onward = omega (arith, le, before.onward, c.pass_covered-later.ensures.onward);
-      none = quiet_on bs c.args.place c.loop-next.next uncovered flight c.args.kept.now.items c.loop-next.kept.items (ap (λ (k : Kept). k.items) before.same) c.requires.rest before.none
+      none = quiet_on bs c.args.place c.loop-next.next uncovered flight c.args.kept.now.items c.args.kept.now.items refl c.requires.rest before.none
           c.pass_covered-later.ensures.covered c.next_flight-flight.ensures.none;
     }

@@ -1,14 +1,13 @@
-use Rattle.std.proofs.Common.{◌≡◌, ◌≤◌, ◌+◌, ◌-◌}
+use Rattle.std.proofs.Common.{◌≤◌, ◌+◌, ◌-◌}
 use Rattle.sctp_tx_outstanding.specs.Passes.{IsWalk}
 use Rattle.sctp_tx_outstanding.specs.Quiet.{NoneFlies}
 use Rattle.sctp_tx_outstanding.proofs.sack.pass_idle.Given as goal
 
 abbrev pub invariant-loop-next : goal.invariant-loop-next
 invariant-loop-next l = record {
-  same : l.kept ≡ l.initial.kept;
   cursor : IsWalk l.is_in_runs l.blocks (l.next + 1) l.block;
   onward : l.place ≤ l.next;
-  none : NoneFlies l.place l.next l.initial.kept.items;
+  none : NoneFlies l.place l.next l.kept.items;
 }
 
 abbrev pub decreases-loop-next : goal.decreases-loop-next

@@ -5,8 +5,27 @@ use Rattle.sctp_tx_outstanding.specs.OutstandingData.{Kept, change_at}
 use Rattle.sctp_tx_outstanding.specs.Sack.{ack_or_uncover, bytes_of}
 use Rattle.sctp_tx_outstanding.specs.Passes.{Advances}
 use Rattle.sctp_tx_outstanding.proofs.TotalsLemmas.{length_change}
-use Rattle.sctp_tx_outstanding.proofs.AdvanceLemmas.{step_by, further}
+use Rattle.sctp_tx_outstanding.proofs.AdvanceLemmas.{step_by, further, passes, rest_given_up}
 use Rattle.sctp_tx_outstanding.proofs.sack.settle_range.Goals as goal
+
+pub loop-place-preserved-then-next-place : goal.loop-place-preserved-then-next-place
+loop-place-preserved-then-next-place c =
+    let k = c.loop-place.place in
+    let next = c.min-next.result in
+    let before = c.loop-place.invariant in
+    let found = c.loop-place.found in
+    let m = c.args.kept.now.is_interleaved in
+    let is = c.loop-place.kept.items in
+    let onward : k ≤ next = omega (arith, c.if-next-place.true) in
+    record {
+      mode = before.mode;
+      onward = omega (arith, before.onward, onward);
+      within = omega (arith, c.min-next.ensures);
+      length = before.length;
+      settled = λ bs alike.
+          further bs m c.args.from k next c.args.covered found found c.args.kept.now.items is is onward (before.settled bs alike)
+          (passes bs m k next found is onward (before.settled bs alike).fits (rest_given_up bs k (next - k) (k + 1) is (λ j above below. c.pass_given_up.ensures.given_up j above (omega (arith, below, onward, c.min-next.ensures)))));
+    }
 
 pub loop-place-preserved : goal.loop-place-preserved
 loop-place-preserved c =
@@ -25,6 +44,8 @@ loop-place-preserved c =
     let within : k < length is = omega (arith, less, c.requires.within, before.length) in
     record {
       mode = ap (λ (x : Kept). x.is_interleaved) settled.items ∙ before.mode;
+      onward = omega (arith, before.onward);
+      within = omega (arith, less);
       length = ap (λ (xs : List Item). length xs) there ∙ length_change k (ack_or_uncover c.args.is_covered) is ∙ before.length;
       settled = λ bs alike.
           further bs m c.args.from k (k + 1) c.args.covered found c.settle_at-found.result c.args.kept.now.items is js (omega arith) (before.settled bs alike)

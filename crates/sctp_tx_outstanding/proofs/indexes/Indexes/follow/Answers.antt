@@ -6,12 +6,13 @@ use Rattle.sctp_tx_outstanding.specs.LastBlocks.{Knows}
 use Rattle.sctp_tx_outstanding.specs.Messages.{Finds}
 use Rattle.sctp_tx_outstanding.specs.Expiries.{Expects}
 use Rattle.sctp_tx_outstanding.specs.Passed.{IsPassed}
-use Rattle.sctp_tx_outstanding.specs.Quiet.{IsQuiet}
+use Rattle.sctp_tx_outstanding.specs.Runs.{SameBut}
 use Rattle.sctp_tx_outstanding.specs.Totals.{replace_part, AreTotals}
 use Rattle.sctp_tx_outstanding.proofs.TotalsLemmas.{totals_changed, totals_as, length_change, has_part}
 use Rattle.sctp_tx_outstanding.proofs.MessagesLemmas.{finds_changed}
 use Rattle.sctp_tx_outstanding.proofs.ExpiriesLemmas.{moves_changed}
 use Rattle.sctp_tx_outstanding.proofs.PassedLemmas.{passed_changed}
+use Rattle.sctp_tx_outstanding.proofs.RunsLemmas.{same_changed}
 use Rattle.sctp_tx_outstanding.proofs.indexes.Indexes.follow.Goals as goal
 
 pub returns : goal.returns
@@ -25,14 +26,14 @@ returns c = λ m is changed parts before.
     let few : length is < 2 ^ 64 = omega (arith, ap (λ (xs : List Item). length xs) changed, length_change k (apply_change how) is) in
     let totals : AreTotals m all c.exchanged-self.result =
     totals_as m js all (replace_part old new c.args.self.now.totals) c.exchanged-self.result (totals_changed m k how is old new c.args.self.now.totals before.totals few parts) changed (c.exchanged-self.ensures (has_part m k how is old new c.args.self.now.totals before.totals parts)) in
+    let same : SameBut k is all = subst (λ (xs : List Item). SameBut k is xs) (sym changed) (same_changed (apply_change how) k is) in
     record {
       totals = totals;
       last_blocks = subst (λ (xs : List Item). Knows c.see.new.self xs) (sym changed) (c.see.ensures k is before.last_blocks);
-      waiting = c.follow_waiting.ensures m how is changed parts totals.queued before.waiting;
-      sizes = c.follow_sizes.ensures m how is changed parts before.sizes;
+      least = c.follow_least-self.ensures is same totals.queued before.least;
+      runs = c.see-2.ensures is same before.runs;
       messages = subst (λ (xs : List Item). Finds c.args.self.now.messages xs) (sym changed) (finds_changed c.args.self.now.messages how k is before.messages);
       expiries = subst (λ (xs : List Item). Expects c.renew.new.self xs) (sym changed) (c.renew.ensures is js (moves_changed m how k is old new parts) before.expiries);
       passed = subst (λ (xs : List Item). IsPassed m xs c.args.self.now.passed) (sym changed)
           (passed_changed how m k is c.args.self.now.passed.count c.args.self.now.passed.left c.args.self.now.passed.touched.items before.passed);
-      quiet = subst (λ (xs : List Item). IsQuiet c.follow_quiet.new.quiet xs) (sym changed) (c.follow_quiet.ensures m how is parts before.quiet);
     }

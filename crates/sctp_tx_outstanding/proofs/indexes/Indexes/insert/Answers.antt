@@ -5,11 +5,11 @@ use Rattle.sctp_tx_outstanding.specs.Item.{Item, never}
 use Rattle.sctp_tx_outstanding.specs.Indexes.{AreIndexes}
 use Rattle.sctp_tx_outstanding.specs.Totals.{replace_part, nothing, parts}
 use Rattle.sctp_tx_outstanding.proofs.TotalsLemmas.{totals_pushed, totals_as}
-use Rattle.sctp_tx_outstanding.proofs.WaitingLemmas.{turns_pushed, stays_pushed}
-use Rattle.sctp_tx_outstanding.proofs.SizesLemmas.{resizes_pushed}
+use Rattle.sctp_tx_outstanding.specs.Runs.{SameBut, HasRuns}
+use Rattle.sctp_tx_outstanding.proofs.SizesLemmas.{followed, pushed_large}
 use Rattle.sctp_tx_outstanding.proofs.ExpiriesLemmas.{moves_pushed}
 use Rattle.sctp_tx_outstanding.proofs.PassedLemmas.{passed_before}
-use Rattle.sctp_tx_outstanding.proofs.QuietLemmas.{still_pushed}
+use Rattle.sctp_tx_outstanding.proofs.RunsLemmas.{same_pushed}
 use Rattle.sctp_tx_outstanding.proofs.indexes.Indexes.insert.Goals as goal
 
 pub returns-in_default : goal.returns-in_default
@@ -35,21 +35,18 @@ returns c =
     sym (take_all (place + 1) items (omega (arith, last))) ∙ (take_more items place i within ∙ ap (λ j. is ++ j ∷ []) (sym c.in-Some.ensures.lookup)) in
     let count : length is ≡ place = length-take-le place items (omega (arith, within)) in
     let few : length (is ++ i ∷ []) < 2 ^ 64 = omega (arith, len, ap (λ (js : List Item). length js) all) in
-    let size = c.payload_size-size.ensures in
-    let waits = c.should_be_retransmitted-waits.ensures in
+    let same : SameBut place is (is ++ i ∷ []) = same_pushed is i place count in
     let earliest = ap (λ (t : Totals). t.earliest) c.of-part.ensures in
     let exchanged : c.with_part-self.result ≡ replace_part nothing (parts m i) old.totals =
     c.with_part-self.ensures ∙ ap (λ (t : Totals). replace_part nothing t old.totals) c.of-part.ensures in
-    subst (λ (js : List Item). AreIndexes m js (record { totals = c.with_part-self.result; last_blocks = c.take.new.self; waiting = c.follow.new.self; sizes = c.follow-2.new.self; messages = c.add.new.self; expiries = c.renew.new.self; quiet = c.stir.new.self; passed = old.passed })) (sym all)
+    subst (λ (js : List Item). AreIndexes m js (record { totals = c.with_part-self.result; last_blocks = c.take.new.self; least = c.lesser-self.result; runs = c.see.new.self; messages = c.add.new.self; expiries = c.renew.new.self; passed = old.passed })) (sym all)
     (record {
       totals = totals_as m (is ++ i ∷ []) (is ++ i ∷ []) (replace_part nothing (parts m i) old.totals) c.with_part-self.result
-          (totals_pushed m is i old.totals before.totals few (omega (arith, size.size, size.small))) refl exchanged;
+          (totals_pushed m is i old.totals before.totals few (omega (arith, c.payload_size.ensures.size, c.payload_size.ensures.small))) refl exchanged;
       last_blocks = c.take.ensures is i (sym c.is_acked.ensures) before.last_blocks;
-      waiting = c.follow.ensures is (is ++ i ∷ []) (turns_pushed old.waiting.first place is i c.should_be_retransmitted-waits.result count waits)
-          (stays_pushed c.payload_size-size.result c.should_be_retransmitted-waits.result is i waits size.size) before.waiting;
-      sizes = c.follow-2.ensures is (is ++ i ∷ []) (resizes_pushed c.payload_size-size.result c.should_be_retransmitted-waits.result is i place count waits size.size) (c.begin.ensures is count before.sizes);
+      least = followed c.lesser-self.result old.least place is (is ++ i ∷ []) same c.lesser-self.ensures.less (pushed_large c.lesser-self.result place is i count (λ w. omega (arith, c.lesser-self.ensures.size (c.should_be_retransmitted.ensures ∙ w), c.payload_size.ensures.size))) before.least;
+      runs = subst (λ (js : List Item). HasRuns c.see.new.self js) all (c.see.ensures is (subst (λ (js : List Item). SameBut place is js) (sym all) same) (c.begin.ensures is count before.runs));
       messages = c.add.ensures is i count (sym c.message_id.ensures) before.messages;
       expiries = c.renew.ensures is (is ++ i ∷ []) (moves_pushed place never c.of-part.result.earliest is i count refl earliest) before.expiries;
       passed = passed_before m is (i ∷ []) old.passed.count old.passed.left old.passed.touched.items before.passed;
-      quiet = c.stir.ensures is (is ++ i ∷ []) (still_pushed is i place count) before.quiet;
     })

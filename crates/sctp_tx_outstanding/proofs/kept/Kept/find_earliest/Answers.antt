@@ -15,10 +15,9 @@ invariant_of-self c =
         small = totals.small;
       };
       last_blocks = before.last_blocks;
-      waiting = before.waiting;
-      sizes = before.sizes;
+      least = before.least;
+      runs = before.runs;
       messages = before.messages;
       expiries = c.expect_all.ensures;
-      quiet = before.quiet;
       passed = before.passed;
     }

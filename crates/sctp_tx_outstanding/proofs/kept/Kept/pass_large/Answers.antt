@@ -9,15 +9,14 @@ invariant_of-self c =
     record {
       totals = old.totals;
       last_blocks = old.last_blocks;
-      waiting = old.waiting;
-      sizes = c.enter.ensures old.sizes;
+      least = old.least;
+      runs = c.enter.ensures old.runs;
       messages = old.messages;
       expiries = old.expiries;
-      quiet = old.quiet;
       passed = old.passed;
     }
 
 pub returns-clause-none : goal.returns-clause-none
 returns-clause-none c =
     subst (λ (k : Kept). NoneFits k.is_interleaved c.args.allowed c.args.place c.pass_large.result k.items) c.self.view_is
-    (c.pass_large.ensures.none (c.enter.ensures c.self.invariant.sizes))
+    (c.pass_large.ensures.none (c.enter.ensures c.self.invariant.runs))

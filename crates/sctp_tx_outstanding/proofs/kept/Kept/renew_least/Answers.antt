@@ -8,10 +8,9 @@ invariant_of-self c =
     record {
       totals = old.totals;
       last_blocks = old.last_blocks;
-      waiting = (old.waiting.0, c.least-self-inside.ensures c.self.inside.items.items (sym count) (c.renew_small.ensures old.sizes));
-      sizes = c.renew_small.ensures old.sizes;
+      least = c.least-self-inside.ensures c.self.inside.items.items (sym count) (c.renew_small.ensures old.runs);
+      runs = c.renew_small.ensures old.runs;
       messages = old.messages;
       expiries = old.expiries;
-      quiet = old.quiet;
       passed = old.passed;
     }

@@ -1,5 +1,5 @@
 use Rattle.std.proofs.Common.{◌≡◌, ◌+◌, ◌==◌, ◌<◌, ◌^◌, true, cond, ap, ◌∙◌, rules, arith}
-use Rattle.sctp_tx_outstanding.specs.Waiting.{is_listed}
+use Rattle.sctp_tx_outstanding.specs.Numbers.{is_listed}
 use Rattle.sctp_tx_outstanding.proofs.MessagesLemmas.{taken}
 use Rattle.sctp_tx_outstanding.proofs.messages.Messages.add.Goals as goal
 

@@ -1,6 +1,6 @@
 use Rattle.std.proofs.Common.{◌+◌, ◌==◌, ◌<◌, ◌^◌, false, cond, ap, ◌∙◌, arith, refl}
-use Rattle.sctp_tx_outstanding.specs.Waiting.{is_listed}
-use Rattle.sctp_tx_outstanding.proofs.WaitingLemmas.{listed_put}
+use Rattle.sctp_tx_outstanding.specs.Numbers.{is_listed}
+use Rattle.sctp_tx_outstanding.proofs.NumbersLemmas.{listed_put}
 use Rattle.sctp_tx_outstanding.proofs.MessagesLemmas.{left}
 use Rattle.sctp_tx_outstanding.proofs.messages.Messages.leave.Goals as goal
 

@@ -13,7 +13,7 @@ loop-place-preserved c =
     let x = resent_of c.args.self.now c.args.filling.now in
     let now = resent_of c.loop-place.self c.loop-place.filling in
     let next = c.next_waiting-next.result in
-    let none : NoneWaits c.loop-place.place next c.loop-place.self.items.kept = subst (λ (d : Outstanding). NoneWaits c.loop-place.place next d.items.kept) c.self-in-loop-place.view_is c.next_waiting-next.ensures.none in
+    let none : NoneWaits fast c.loop-place.place next c.loop-place.self.items.kept = subst (λ (d : Outstanding). NoneWaits fast c.loop-place.place next d.items.kept) c.self-in-loop-place.view_is c.next_waiting-next.ensures.none in
     let here : now ≡ resent_below fast next x = idle_at fast x now c.loop-place.place next c.loop-place.invariant.resent c.next_waiting-next.ensures.onward none in
     let same : resent_of c.pass_large-end.new.self c.loop-place.filling ≡ now = ap (λ (d : Outstanding). resent_of d c.loop-place.filling) c.pass_large-end.ensures.same in
     let one : suc next ≡ next + 1 = omega arith in
@@ -29,7 +29,7 @@ loop-place-preserved-then-next-end c =
     let now = resent_of c.loop-place.self c.loop-place.filling in
     let next = c.next_waiting-next.result in
     let end = c.min-place.result in
-    let none : NoneWaits c.loop-place.place next c.loop-place.self.items.kept = subst (λ (d : Outstanding). NoneWaits c.loop-place.place next d.items.kept) c.self-in-loop-place.view_is c.next_waiting-next.ensures.none in
+    let none : NoneWaits fast c.loop-place.place next c.loop-place.self.items.kept = subst (λ (d : Outstanding). NoneWaits fast c.loop-place.place next d.items.kept) c.self-in-loop-place.view_is c.next_waiting-next.ensures.none in
     let here : now ≡ resent_below fast next x = idle_at fast x now c.loop-place.place next c.loop-place.invariant.resent c.next_waiting-next.ensures.onward none in
     let same : resent_of c.pass_large-end.new.self c.loop-place.filling ≡ now = ap (λ (d : Outstanding). resent_of d c.loop-place.filling) c.pass_large-end.ensures.same in
     let onward : next ≤ end = omega (arith, c.min-place.ensures, c.if-count-next.false, c.if-next-end.true) in
@@ -44,10 +44,10 @@ returns-then-count-next-clause-ok c =
     let x = resent_of c.args.self.now c.args.filling.now in
     let now = resent_of c.loop-place.self c.loop-place.filling in
     let next = c.next_waiting-next.result in
-    let none : NoneWaits c.loop-place.place next c.loop-place.self.items.kept = subst (λ (d : Outstanding). NoneWaits c.loop-place.place next d.items.kept) c.self-in-loop-place.view_is c.next_waiting-next.ensures.none in
+    let none : NoneWaits fast c.loop-place.place next c.loop-place.self.items.kept = subst (λ (d : Outstanding). NoneWaits fast c.loop-place.place next d.items.kept) c.self-in-loop-place.view_is c.next_waiting-next.ensures.none in
     let all : c.len-count.result ≡ length c.args.self.now.items.kept = search rules in
     idle_at fast x now c.loop-place.place c.len-count.result c.loop-place.invariant.resent c.loop-place.invariant.within
-    (none_less c.loop-place.place next c.len-count.result c.loop-place.self.items.kept c.if-count-next.true none)
+    (none_less fast c.loop-place.place next c.len-count.result c.loop-place.self.items.kept c.if-count-next.true none)
     ∙ ap (λ n. resent_below fast n x) all
 
 pub returns-then-not-has_waiting-clause-ok : goal.returns-then-not-has_waiting-clause-ok
