@@ -6,9 +6,7 @@ use Rattle.std.proofs.Math.Seq.{drop-nil}
 use Rattle.sctp_chunk.specs.declared.sack.GapAckBlock.{GapAckBlock}
 use Rattle.sctp_chunk.specs.Covered.{is_covered}
 use Rattle.sctp_tx_outstanding.specs.declared.sack.Covered.{Covered}
-use Rattle.sctp_tx_outstanding.specs.declared.item.ItemState.{ItemState}
-use Rattle.sctp_tx_outstanding.specs.declared.item.ItemState.TheVariants.{InFlight, Missing, Queued, QueuedFast, Acked, GivenUp}
-use Rattle.sctp_tx_outstanding.specs.Item.{Item, is_given_up, is_abandoned}
+use Rattle.sctp_tx_outstanding.specs.Item.{Item, is_abandoned}
 use Rattle.sctp_tx_outstanding.specs.Runs.{IsGivenUpOf}
 use Rattle.sctp_tx_outstanding.specs.OutstandingData.{change_at}
 use Rattle.sctp_tx_outstanding.specs.Sack.{ack_or_uncover, newly_of, bytes_of}
@@ -16,6 +14,7 @@ use Rattle.sctp_tx_outstanding.specs.Passes.{ack_or_uncover_from, acked_from, be
 use Rattle.sctp_tx_outstanding.specs.LastBlocks.{Rest, RestBelow}
 use Rattle.sctp_tx_outstanding.proofs.TotalsLemmas.{length_change}
 use Rattle.sctp_tx_outstanding.proofs.ReceivedLemmas.{given_up_rests, given_up_stays, settle_front, acked_front, below_front, below_agree}
+use Rattle.sctp_tx_outstanding.proofs.RunsLemmas.{given_up_is}
 use Rattle.sctp_tx_outstanding.proofs.SackLemmas.{settle_step, acked_step, below_step, summed}
 
 -- ---- behind so many items
@@ -47,14 +46,6 @@ rest_behind olds (suc k) off o [] e h = tt
 rest_behind olds (suc k) off o (i ∷ is) e h = rest_behind olds k (suc off) o is (omega (arith, e)) h.1
 
 -- ---- items that were given up
-
-given_up_is : (s : ItemState) → is_given_up s ≡ true → s ≡ GivenUp
-given_up_is InFlight h = cc
-given_up_is Missing h = cc
-given_up_is Queued h = cc
-given_up_is QueuedFast h = cc
-given_up_is Acked h = cc
-given_up_is GivenUp h = refl
 
 rests_given_up : (covered : Bool) (i : Item) → is_abandoned i ≡ true → ack_or_uncover covered i ≡ i
 rests_given_up true i h = given_up_rests i (given_up_is i.state h)

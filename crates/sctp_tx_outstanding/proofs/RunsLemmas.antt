@@ -3,15 +3,24 @@ use Rattle.std.proofs.lemmas.Bool.{cases_lt}
 use Rattle.std.proofs.lemmas.Option.{slice_get_past}
 use Rattle.std.proofs.lemmas.Nat.{shr-shr}
 use Rattle.std.proofs.lemmas.Nat.Bits.{bit_at-zero, bit_at-lt, bit_at_not, bit_at_ones, bit_at-trailing_zeros}
-use Rattle.std.proofs.Common.{w64, ◌≡◌, ◌⊎◌, inl, inr, ℕ, zero, suc, ◌+◌, ◌-◌, ◌/◌, ◌%◌, ◌^◌, ◌<◌, ◌≤◌, true, false, List, [], ◌∷◌, ◌++◌, drop, length, slice_set, slice_index_or, refl, ap, sym, subst, ◌∙◌, arith}
+use Rattle.std.proofs.Common.{w64, ◌≡◌, ◌⊎◌, inl, inr, ℕ, zero, suc, ◌+◌, ◌-◌, ◌/◌, ◌%◌, ◌^◌, ◌<◌, ◌≤◌, Bool, true, false, cond, List, [], ◌∷◌, ◌++◌, drop, length, slice_set, slice_index_or, refl, ap, sym, subst, ◌∙◌, arith}
 use Rattle.std.specs.Prelude.{Option, Some, None, ◌≢◌, unwrap_or, slice_get}
 use Rattle.std.specs.Int.{bit_at, bit_not, trailing_zeros}
-use Rattle.sctp_tx_outstanding.specs.Item.{Item}
-use Rattle.sctp_tx_outstanding.specs.OutstandingData.{change_at}
+use Rattle.sctp_tx_outstanding.specs.Item.{Item, is_outstanding, should_be_retransmitted, is_fast, is_abandoned, is_in_flight, is_given_up, is_lost, acked, uncovered, nack_state, resent, demote_fast}
+use Rattle.sctp_tx_outstanding.specs.declared.item.ItemState.{ItemState}
+use Rattle.sctp_tx_outstanding.specs.declared.item.ItemState.TheVariants.{InFlight, Missing, Queued, QueuedFast, Acked, GivenUp}
+use Rattle.sctp_tx_outstanding.specs.declared.totals.Totals.{Totals}
+use Rattle.sctp_tx_outstanding.specs.declared.kept.Change.{Change}
+use Rattle.sctp_tx_outstanding.specs.declared.kept.Change.TheVariants as changes
+use Rattle.sctp_tx_outstanding.specs.Change.{apply_change}
+use Rattle.sctp_tx_outstanding.specs.Totals.{parts, Exchanges}
+use Rattle.sctp_tx_outstanding.specs.Sizes.{IsLargeAt}
+use Rattle.sctp_tx_outstanding.specs.OutstandingData.{change_at, when}
 use Rattle.sctp_tx_outstanding.specs.declared.runs.Run.{Run}
 use Rattle.sctp_tx_outstanding.specs.Runs.{run_of, bit_of, nothing_known, known_of, IsKnown, IsKnownOf, AreKnown, SameBut, IsGivenUpOf}
 use Rattle.sctp_tx_outstanding.specs.Quiet.{flies_of, flies_at}
-use Rattle.sctp_tx_outstanding.specs.Waiting.{waits_of, waits_at}
+use Rattle.sctp_tx_outstanding.specs.Waiting.{waits_of, waits_at, IsAtLeast}
+use Rattle.sctp_tx_outstanding.proofs.WaitingLemmas.{same_fragment}
 
 -- ---- bits
 
@@ -77,16 +86,16 @@ module _ (runs : List Run) (o : ℕ) (is : List Item) (h : AreKnown runs o is) (
   was_given_up = given_up_from (known_of runs (run_of o k)) (bit_of o k) (slice_get is k) (h k)
 
 -- as many items from a place on were given up as bits of the others are clear
-pub given_up_on : (runs : List Run) (o : ℕ) (is : List Item) → AreKnown runs o is → (place k : ℕ) (r : Run) (count : ℕ) → r ≡ known_of runs (run_of o place) → place ≤ k → k < place + count → bit_of o place + count ≤ 64
-    → ((b : ℕ) → bit_of o place ≤ b → b < bit_of o place + count → bit_at (bit_not w64 r.given_up) b ≡ 0) → r.given_up < 2 ^ 64 → IsGivenUpOf (slice_get is k)
-given_up_on runs o is h place k r count at above below within clear small =
+pub given_up_on : (runs : List Run) (o : ℕ) (is : List Item) → AreKnown runs o is → (place k bits count : ℕ) → bits ≡ (known_of runs (run_of o place)).given_up → place ≤ k → k < place + count → bit_of o place + count ≤ 64
+    → ((b : ℕ) → bit_of o place ≤ b → b < bit_of o place + count → bit_at (bit_not w64 bits) b ≡ 0) → bits < 2 ^ 64 → IsGivenUpOf (slice_get is k)
+given_up_on runs o is h place k bits count at above below within clear small =
     let run : run_of o k ≡ run_of o place = omega (arith, above, below, within) in
     let bit : bit_of o k ≡ bit_of o place + (k - place) = omega (arith, above, below, within) in
     let few : bit_of o k < 64 = omega arith in
-    let none : bit_at (bit_not w64 r.given_up) (bit_of o k) ≡ 0 = clear (bit_of o k) (omega (arith, bit)) (omega (arith, bit, above, below)) in
-    let set : bit_at r.given_up (bit_of o k) ≡ 1 = omega (arith, none, bit_at_not w64 r.given_up (bit_of o k) small few, bit_at-lt r.given_up (bit_of o k)) in
-    let same : r ≡ known_of runs (run_of o k) = at ∙ ap (λ n. known_of runs n) (sym run) in
-    was_given_up runs o is h k (subst (λ (x : Run). bit_at x.given_up (bit_of o k) ≡ 1) same set)
+    let none : bit_at (bit_not w64 bits) (bit_of o k) ≡ 0 = clear (bit_of o k) (omega (arith, bit)) (omega (arith, bit, above, below)) in
+    let set : bit_at bits (bit_of o k) ≡ 1 = omega (arith, none, bit_at_not w64 bits (bit_of o k) small few, bit_at-lt bits (bit_of o k)) in
+    let same : bits ≡ (known_of runs (run_of o k)).given_up = at ∙ ap (λ n. (known_of runs n).given_up) (sym run) in
+    was_given_up runs o is h k (subst (λ x. bit_at x (bit_of o k) ≡ 1) same set)
 
 pub of_each : (old new : Run) (bit : ℕ) → ((b : ℕ) (i : Item) → b < 64 → b ≢ bit → IsKnown old b i → IsKnown new b i) → (b : ℕ) (o : Option Item) → b < 64 → b ≢ bit → IsKnownOf old b o → IsKnownOf new b o
 of_each old new bit h b None less other known = tt
@@ -230,3 +239,67 @@ same_pushed [] i p e (suc k) other = refl
 same_pushed (x ∷ is) i zero e k other = absurd (omega (arith, e))
 same_pushed (x ∷ is) i (suc p) e zero other = refl
 same_pushed (x ∷ is) i (suc p) e (suc k) other = same_pushed is i p (omega (arith, e)) k (λ d. other (ap (λ n. suc n) d))
+
+-- ---- an item changes that is listed as before
+
+-- given up is for good
+for_good : (x : Change) (i : Item) → i.state ≡ GivenUp → is_abandoned (apply_change x i) ≡ true
+for_good changes.Ack i e = ap (λ s. is_given_up (acked s)) e
+for_good changes.Uncover i e = ap (λ s. is_given_up (uncovered s)) e
+for_good (changes.Nack at_once fast) i e = ap (λ s. is_given_up (cond (is_in_flight s) (nack_state (is_lost at_once i) fast) s)) e
+for_good changes.Retransmit i e = ap (λ s. is_given_up (resent s)) e
+for_good changes.MissFast i e = ap (λ s. is_given_up (demote_fast s)) e
+for_good changes.Abandon i e = refl
+
+pub given_up_is : (s : ItemState) → is_given_up s ≡ true → s ≡ GivenUp
+given_up_is InFlight h = cc
+given_up_is Missing h = cc
+given_up_is Queued h = cc
+given_up_is QueuedFast h = cc
+given_up_is Acked h = cc
+given_up_is GivenUp h = refl
+
+as_before : (p q : Bool) → when p 1 ≡ when q 1 → p ≡ q
+as_before true true e = refl
+as_before true false e = absurd (omega (arith, e))
+as_before false true e = absurd (omega (arith, e))
+as_before false false e = refl
+
+module _ (m : Bool) (x : Change) (old new : Totals) (flights : old.flights ≡ new.flights) (queued : old.queued ≡ new.queued) (fast : old.fast ≡ new.fast) where
+  module _ (i : Item) (a : old ≡ parts m i) (b : new ≡ parts m (apply_change x i)) where
+    same_flies : is_outstanding i ≡ is_outstanding (apply_change x i)
+    same_flies = as_before (is_outstanding i) (is_outstanding (apply_change x i)) (omega (arith, flights, ap (λ (t : Totals). t.flights) a, ap (λ (t : Totals). t.flights) b))
+
+    same_waits : should_be_retransmitted i ≡ should_be_retransmitted (apply_change x i)
+    same_waits = as_before (should_be_retransmitted i) (should_be_retransmitted (apply_change x i)) (omega (arith, queued, ap (λ (t : Totals). t.queued) a, ap (λ (t : Totals). t.queued) b))
+
+    same_fast : is_fast i ≡ is_fast (apply_change x i)
+    same_fast = as_before (is_fast i) (is_fast (apply_change x i)) (omega (arith, fast, ap (λ (t : Totals). t.fast) a, ap (λ (t : Totals). t.fast) b))
+
+    still_least : (least : ℕ) → IsAtLeast least i → IsAtLeast least (apply_change x i)
+    still_least least h = λ w.
+        let same : length (apply_change x i).fragment.payload ≡ length i.fragment.payload = ap (λ f. length f.payload) (same_fragment x i) in
+        omega (arith, same, h (same_waits ∙ w))
+
+    still_known : (r : Run) (bit : ℕ) → IsKnown r bit i → IsKnown r bit (apply_change x i)
+    still_known r bit h = record {
+      flies = λ e. sym same_flies ∙ h.flies e;
+      waits = λ e. sym same_waits ∙ h.waits e;
+      fast = λ e. sym same_fast ∙ h.fast e;
+      given_up = λ e. for_good x i (given_up_is i.state (h.given_up e));
+      least = still_least r.least h.least;
+    }
+
+  pub known_still : (p : ℕ) (is : List Item) → Exchanges m p x is old new → (r : Run) (bit k : ℕ) → IsKnownOf r bit (slice_get is k) → IsKnownOf r bit (slice_get (change_at p (apply_change x) is) k)
+  known_still p [] e r bit k h = h
+  known_still zero (i ∷ is) e r bit zero h = still_known i e.0 e.1 r bit h
+  known_still zero (i ∷ is) e r bit (suc k) h = h
+  known_still (suc p) (i ∷ is) e r bit zero h = h
+  known_still (suc p) (i ∷ is) e r bit (suc k) h = known_still p is e r bit k h
+
+  pub least_still : (p : ℕ) (is : List Item) → Exchanges m p x is old new → (least k : ℕ) → IsLargeAt least k is → IsLargeAt least k (change_at p (apply_change x) is)
+  least_still p [] e least k h = h
+  least_still zero (i ∷ is) e least zero h = still_least i e.0 e.1 least h
+  least_still zero (i ∷ is) e least (suc k) h = h
+  least_still (suc p) (i ∷ is) e least zero h = h
+  least_still (suc p) (i ∷ is) e least (suc k) h = least_still p is e least k h

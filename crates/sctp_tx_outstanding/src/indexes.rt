@@ -1,13 +1,13 @@
 //! The indexes of the kept items.
 
-ghost use Rattle.std.specs.Prelude.{◌≡◌, ◌-◌, ◌∷◌, [], Bool, List, length, take};
+ghost use Rattle.std.specs.Prelude.{◌≡◌, ◌-◌, ◌∷◌, [], Bool, true, List, length, take};
 ghost use Rattle.sctp_tx_outstanding.specs.Item.{Item};
 ghost use Rattle.sctp_tx_outstanding.specs.Change.{apply_change};
 ghost use Rattle.std.specs.List.{sum_by};
 ghost use Rattle.sctp_tx_outstanding.specs.OutstandingData.{change_at, queued_part};
 ghost use Rattle.sctp_tx_outstanding.specs.declared.totals.Totals.{Totals};
 ghost use Rattle.sctp_tx_outstanding.specs.declared.kept.Change.{Change};
-ghost use Rattle.sctp_tx_outstanding.specs.Totals.{Exchanges};
+ghost use Rattle.sctp_tx_outstanding.specs.Totals.{Exchanges, HasPart, replace_part};
 ghost use Rattle.sctp_tx_outstanding.specs.Runs.{SameBut};
 ghost use Rattle.sctp_tx_outstanding.specs.Sizes.{AreAtLeast};
 ghost use Rattle.sctp_tx_outstanding.specs.Indexes.{AreIndexes};
@@ -47,6 +47,23 @@ fn follow_least(least: usize, items: &VecDeque<Item>, place: usize, queued: usiz
         return usize::MAX;
     }
     least_at(items, place, least)
+}
+
+/// Whether the indexes but that of blocks are of an item as they were, which adds one part to the totals and then another.
+#[inline(always)]
+fn stays_listed(how: Change, totals: Totals, old: Totals, new: Totals) -> bool
+    ensures flights { result ≡ true → old.flights ≡ new.flights }
+    ensures queued { result ≡ true → old.queued ≡ new.queued }
+    ensures fast { result ≡ true → old.fast ≡ new.fast }
+    ensures totals { result ≡ true → HasPart old new totals → totals ≡ replace_part old new totals }
+{
+    if matches!(how, Change::Abandon) || old.flights != new.flights {
+        return false;
+    }
+    if old.queued != new.queued || old.fast != new.fast {
+        return false;
+    }
+    new.earliest == u128::MAX
 }
 
 impl Indexes {
@@ -119,10 +136,14 @@ impl Indexes {
         // (read for its bound)
         let _count = items.len();
         let (old, new) = parts;
-        self.totals = self.totals.exchanged(old, new);
+        let totals = self.totals;
         self.last_blocks.see(how);
+        self.expiries.renew(place, old.earliest, new.earliest);
+        if stays_listed(how, totals, old, new) {
+            return;
+        }
+        self.totals = totals.exchanged(old, new);
         self.least = follow_least(self.least, items, place, self.totals.queued);
         self.runs.see(items, place);
-        self.expiries.renew(place, old.earliest, new.earliest);
     }
 }

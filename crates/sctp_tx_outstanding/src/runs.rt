@@ -185,6 +185,28 @@ impl Runs {
         }
     }
 
+    /// The bits of the run's items that may be so.
+    #[inline(always)]
+    fn bits(&self, of: Bits, run: usize) -> u64
+        ensures { result ≡ bits_of of (known_of self.now.known.items run) }
+    {
+        match self.known.get(run) {
+            Some(known) => known.bits(of),
+            None => u64::MAX,
+        }
+    }
+
+    /// The bits of the run's items of which it is known that they were given up.
+    #[inline(always)]
+    fn given_up(&self, run: usize) -> u64
+        ensures { result ≡ (known_of self.now.known.items run).given_up }
+    {
+        match self.known.get(run) {
+            Some(known) => known.given_up,
+            None => 0,
+        }
+    }
+
     /// An item comes at the place behind all others: where it begins the next run to be listed, this is, if there is memory.
     pub fn begin(&mut self, place: usize)
         ensures { (is : List Item) → length is ≡ place → HasRuns self.old is → HasRuns self.new is }
@@ -228,23 +250,26 @@ impl Runs {
         ensures { (n : ℕ) → run ≤ n → n < result → bits_of of (known_of self.now.known.items n) ≡ 0 }
     {
         let mut next = run;
-        while next < self.known.len() && self.known(next).bits(of) == 0 {
+        while next < self.known.len() && self.bits(of, next) == 0 {
             next += 1;
         }
         next
     }
 
-    /// The place of the next item from this one on that may be so, or the end of a run up to which none is.
+    /// The place of the next item from this one on that may be so in its run, or that of the next run of which one may.
     #[inline(always)]
     fn next(&self, of: Bits, place: usize) -> usize
         ensures onward { place ≤ result }
         ensures none { (k : ℕ) → place ≤ k → k < result → bit_at (bits_of of (known_of self.now.known.items (run_of self.now.offset k))) (bit_of self.now.offset k) ≡ 0 }
     {
-        let run = self.next_run(of, run_of(self.offset, place));
-        let from = begin_of(self.offset, run).max(place);
-        let known = self.known(run_of(self.offset, from));
-        let count = clear_from(known.bits(of), bit_of(self.offset, from));
-        from.saturating_add(count as usize)
+        let run = run_of(self.offset, place);
+        let bit = bit_of(self.offset, place);
+        let count = clear_from(self.bits(of, run), bit);
+        let next = place.saturating_add(count as usize);
+        if bit + count < 64 {
+            return next;
+        }
+        begin_of(self.offset, self.next_run(of, run + 1)).max(next)
     }
 
     /// A place from this one on up to which no item is in flight or missing, and at which one may be, or where a run ends.
@@ -272,8 +297,8 @@ impl Runs {
         ensures onward { place ≤ result }
         ensures given_up { (is : List Item) → HasRuns self.now is → AreGivenUp place result is }
     {
-        let known = self.known(run_of(self.offset, place));
-        let count = clear_from(!known.given_up, bit_of(self.offset, place));
+        let known = self.given_up(run_of(self.offset, place));
+        let count = clear_from(!known, bit_of(self.offset, place));
         place.saturating_add(count as usize)
     }
 }
