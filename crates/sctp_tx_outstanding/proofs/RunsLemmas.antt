@@ -27,12 +27,21 @@ use Rattle.sctp_tx_outstanding.proofs.WaitingLemmas.{same_fragment}
 pub shifted : (n k i : ℕ) → bit_at (n / 2 ^ k) i ≡ bit_at n (k + i)
 shifted n k i = ap (λ x. x % 2) (shr-shr n k i)
 
+pub no_bit : (n b : ℕ) → n ≤ 0 → bit_at n b ≡ 0
+no_bit n b none =
+    let e : n ≡ 0 = omega (arith, none) in
+    ap (λ m. bit_at m b) e ∙ bit_at-zero b
+
+pub some_bit : (n b : ℕ) → bit_at n b ≡ 1 → 0 < n
+some_bit n b set = elim (cases_lt 0 n) [
+  | inl some ↦ some
+  | inr none ↦ absurd (omega (arith, set, no_bit n b none))
+]
+
 clear_below : (m i : ℕ) → m < 2 ^ 64 → i < trailing_zeros w64 m → bit_at m i ≡ 0
 clear_below m i few less = elim (cases_lt 0 m) [
   | inl some ↦ (bit_at-trailing_zeros w64 m some few).2 i less
-  | inr none ↦
-      let e : m ≡ 0 = omega (arith, none) in
-      ap (λ n. bit_at n i) e ∙ bit_at-zero i
+  | inr none ↦ no_bit m i none
 ]
 
 -- as many bits as the zeros at the end of the others, from one bit on, are clear

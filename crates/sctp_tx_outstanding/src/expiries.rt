@@ -6,7 +6,7 @@ ghost use Rattle.sctp_tx_outstanding.specs.Numbers.{is_listed};
 ghost use Rattle.sctp_tx_outstanding.specs.Expiries.{ListsUpTo, Sets};
 
 use crate::messages::number_at;
-use crate::numbers::{least_from, put};
+use crate::numbers::{add, least_from};
 use sctp_serial::SocketTime;
 use std::alloc::Global;
 use std::collections::BTreeSet;
@@ -90,7 +90,7 @@ fn list_below(
         }
         left -= 1;
         let place = ((next % (1 << 32)) as u64).saturating_sub(u64::from(first));
-        if !put(places, place, true) {
+        if !add(places, place) {
             return false;
         }
         from = next + 1;

@@ -24,8 +24,8 @@ use crate::totals::Totals;
 use std::alloc::Global;
 use std::collections::VecDeque;
 
-/// What is known of the kept items, so that they needn't be looked at: sums over them, and the places of those that wait,
-/// expire, are of a message, or aren't as the last SACK's blocks say.
+/// What is known of the kept items, so that they needn't be looked at: sums over them, bits by runs of 64, and the places of
+/// those that expire, are of a message, or aren't as the last SACK's blocks say.
 #[derive(Drop)]
 pub struct Indexes {
     pub totals: Totals,
@@ -49,7 +49,7 @@ fn follow_least(least: usize, items: &VecDeque<Item>, place: usize, queued: usiz
     least_at(items, place, least)
 }
 
-/// Whether the indexes but that of blocks are of an item as they were, which adds one part to the totals and then another.
+/// Whether an item's change, by which one part of the totals comes for another, leaves the totals, the runs and the least size as they are.
 #[inline(always)]
 fn stays_listed(how: Change, totals: Totals, old: Totals, new: Totals) -> bool
     ensures flights { result ≡ true → old.flights ≡ new.flights }

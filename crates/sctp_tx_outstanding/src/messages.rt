@@ -4,7 +4,7 @@ ghost use Rattle.std.specs.Prelude.{◌≡◌, ℕ, ◌+◌, ◌<◌, ◌≤◌,
 ghost use Rattle.sctp_tx_outstanding.specs.Messages.{pair_key};
 ghost use Rattle.sctp_tx_outstanding.specs.Numbers.{is_listed};
 
-use crate::numbers::{least_from, put};
+use crate::numbers::{add, least_from};
 use sctp_serial::OutgoingMessageId;
 use std::alloc::Global;
 use std::collections::BTreeSet;
@@ -104,7 +104,7 @@ impl Messages {
             return;
         };
         let key = key_of(message_id, number);
-        self.is_known = put(&mut self.keys, key, true);
+        self.is_known = add(&mut self.keys, key);
     }
 
     /// The first item leaves, which is of this message.

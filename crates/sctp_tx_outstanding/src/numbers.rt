@@ -5,15 +5,11 @@ ghost use Rattle.sctp_tx_outstanding.specs.Numbers.{is_listed};
 
 use std::collections::BTreeSet;
 
-/// Lists the number or takes it out. Says whether there was memory.
-pub(crate) fn put(numbers: &mut BTreeSet<u64>, number: u64, waits: bool) -> bool
-    ensures { result ≡ true → (n : ℕ) → is_listed numbers.new.keys n ≡ (if n == number then waits else is_listed numbers.old.keys n) }
+/// Lists the number. Says whether there was memory.
+pub(crate) fn add(numbers: &mut BTreeSet<u64>, number: u64) -> bool
+    ensures { result ≡ true → (n : ℕ) → is_listed numbers.new.keys n ≡ (if n == number then true else is_listed numbers.old.keys n) }
 {
-    if waits {
-        return numbers.insert(number).is_ok();
-    }
-    numbers.remove(&number);
-    true
+    numbers.insert(number).is_ok()
 }
 
 /// The least number from this one on.

@@ -7,6 +7,7 @@ ghost use Rattle.sctp_tx_outstanding.specs.Runs.{run_of, bit_of, bits_of, known_
 
 use crate::item::Item;
 use crate::sizes::lesser;
+use sctp_state::take_first;
 use std::alloc::Global;
 use std::collections::VecDeque;
 
@@ -94,8 +95,27 @@ fn clear_from(bits: u64, bit: u32) -> u32
     (bits >> bit).trailing_zeros().min(64 - bit)
 }
 
+/// A bound of the payloads of a run's items that wait, where these have the bits, or `usize::MAX` where none does.
+#[inline(always)]
+fn bound_of(waiting: u64, least: usize) -> usize
+    ensures { 0 < waiting → result ≡ least }
+{
+    if waiting == 0 { usize::MAX } else { least }
+}
+
+/// So many runs are listed, if there is memory for them. Of the new ones nothing is known.
+fn list_runs(known: &mut VecDeque<Run>, count: usize)
+    ensures { (n : ℕ) → known_of known.new.items n ≡ known_of known.old.items n }
+{
+    for _ in known.len()..count {
+        if known.push_back(Run::nothing()).is_err() {
+            return;
+        }
+    }
+}
+
 impl Run {
-    /// Nothing.
+    /// Nothing is known.
     fn nothing() -> Run
         ensures { result ≡ nothing_known }
     {
@@ -139,12 +159,14 @@ impl Run {
         ensures others { (b : ℕ) (i : Item) → b < 64 → b ≢ bit → IsKnown self b i → IsKnown result b i }
     {
         let waits = item.should_be_retransmitted();
+        let waiting = with_bit(self.waiting, bit, waits);
+        let least = lesser(self.least, waits, item.payload_size());
         Run {
             flying: with_bit(self.flying, bit, item.is_outstanding()),
-            waiting: with_bit(self.waiting, bit, waits),
+            waiting,
             fast: with_bit(self.fast, bit, item.is_fast()),
             given_up: with_bit(self.given_up, bit, item.is_abandoned()),
-            least: lesser(self.least, waits, item.payload_size()),
+            least: bound_of(waiting, least),
         }
     }
 }
@@ -207,11 +229,12 @@ impl Runs {
         }
     }
 
-    /// An item comes at the place behind all others: where it begins the next run to be listed, this is, if there is memory.
+    /// An item comes at the place behind all others: where it begins the next run, this is listed, if there is memory.
     pub fn begin(&mut self, place: usize)
         ensures { (is : List Item) → length is ≡ place → HasRuns self.old is → HasRuns self.new is }
     {
         let run = run_of(self.offset, place);
+        list_runs(&mut self.known, run);
         if run == self.known.len() && begin_of(self.offset, run) == place {
             let _ = self.known.push_back(Run::empty());
         }
@@ -241,7 +264,7 @@ impl Runs {
             return;
         }
         self.offset = 0;
-        self.known.pop_front();
+        take_first(&mut self.known);
     }
 
     /// The first run from this one on of which an item may be so.

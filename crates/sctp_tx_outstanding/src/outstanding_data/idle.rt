@@ -11,22 +11,21 @@ use sctp_chunk::GapAckBlock;
 
 impl OutstandingData {
     /// The first block that may cover items behind those from the place on that aren't outstanding, and the place behind
-    /// these. It goes no further than `count`, or the end of a run.
+    /// these. It goes on while it is before `count`.
     pub(crate) fn pass_idle(
-        &mut self,
+        &self,
         blocks: &[GapAckBlock],
         is_in_runs: bool,
         from: usize,
         place: usize,
         count: usize,
     ) -> (usize, usize)
-        requires rest { Rest blocks.now 1 self.old.items.kept }
+        requires rest { Rest blocks.now 1 self.now.items.kept }
         requires cursor { IsWalk is_in_runs blocks.now (place + 1) from }
-        ensures same { self.new ≡ self.old }
         ensures cursor { IsWalk is_in_runs blocks.now (result.1 + 1) result.0 }
         ensures onward { place ≤ result.1 }
-        ensures none { NoneFlies place result.1 self.old.items.kept }
+        ensures none { NoneFlies place result.1 self.now.items.kept }
     {
-        pass_idle(&mut self.kept, blocks, is_in_runs, from, place, count)
+        pass_idle(&self.kept, blocks, is_in_runs, from, place, count)
     }
 }

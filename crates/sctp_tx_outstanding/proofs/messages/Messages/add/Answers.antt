@@ -9,5 +9,5 @@ returns c = λ is i e of known yes.
     let number = c.in-Some.number in
     let at : number ≡ old.first + c.args.count = search rules in
     let small : number < 2 ^ 32 = omega arith in
-    taken old.keys.keys c.put-self.new.numbers.keys old.first number is i c.args.count c.args.message_id.0 e at small of
-    (λ key. c.put-self.ensures yes key ∙ ap (λ k. cond (key == k) true (is_listed old.keys.keys key)) c.key_of-key.ensures) (known c.if-not-self.false)
+    taken old.keys.keys c.add-self.new.numbers.keys old.first number is i c.args.count c.args.message_id.0 e at small of
+    (λ key. c.add-self.ensures yes key ∙ ap (λ k. cond (key == k) true (is_listed old.keys.keys key)) c.key_of-key.ensures) (known c.if-not-self.false)

@@ -33,9 +33,9 @@ loop-place-preserved c =
     record {
       within = omega (arith, c.if-count-next.false);
       cursor = walk_past c.are_runs-is_in_runs.result bs (n + 1) (n + 1 + 1) c.pass_idle-block.result.0 (omega arith) c.pass_idle-block.ensures.cursor;
-      items = nack_next_items false fast n s emitted c.pass_idle-block.new.self c.loop-place.events c.args.self.now (c.pass_idle-block.ensures.same ∙ items) events c.nack_item.new.self c.in_ok-is_lost.ensures.items;
-      emitted = nack_next_emitted false fast n s emitted c.pass_idle-block.new.self c.loop-place.events c.args.self.now (c.pass_idle-block.ensures.same ∙ items) events c.nack_item.new.events c.in_ok-is_lost.ensures.emitted;
-      lossy = nack_next_lossy false fast n s emitted c.pass_idle-block.new.self c.loop-place.events c.args.self.now (c.pass_idle-block.ensures.same ∙ items) events c.loop-place.is_lossy c.in_ok-is_lost.is_lost _ lossy c.in_ok-is_lost.ensures.lossy refl;
+      items = nack_next_items false fast n s emitted c.loop-place.self c.loop-place.events c.args.self.now items events c.nack_item.new.self c.in_ok-is_lost.ensures.items;
+      emitted = nack_next_emitted false fast n s emitted c.loop-place.self c.loop-place.events c.args.self.now items events c.nack_item.new.events c.in_ok-is_lost.ensures.emitted;
+      lossy = nack_next_lossy false fast n s emitted c.loop-place.self c.loop-place.events c.args.self.now items events c.loop-place.is_lossy c.in_ok-is_lost.is_lost _ lossy c.in_ok-is_lost.ensures.lossy refl;
       rest = passed_rest fast bs s emitted k n le rest none;
     }
 
@@ -44,7 +44,7 @@ returns-then-count-next-clause-items c =
     let k = c.loop-place.place in
     let none = quiet_less k c.args.count c.pass_idle-block.result.1 _ c.if-count-next.true (subst (λ (d : Outstanding). NoneFlies k c.pass_idle-block.result.1 d.items.kept) c.loop-place.invariant.items c.pass_idle-block.ensures.none) in
     passed_items c.args.fast c.args.blocks.now c.args.self.now.items c.args.events.now k c.args.count c.loop-place.invariant.within c.loop-place.invariant.rest none
-    c.args.self.now c.pass_idle-block.new.self (c.pass_idle-block.ensures.same ∙ c.loop-place.invariant.items)
+    c.args.self.now c.loop-place.self c.loop-place.invariant.items
 
 pub returns-then-count-next-clause-emitted : goal.returns-then-count-next-clause-emitted
 returns-then-count-next-clause-emitted c =

@@ -11,5 +11,5 @@ returns-then-self-lt63 c = λ i is h. record {
 pub returns : goal.returns
 returns c = λ i is h. record {
   small = omega arith;
-  known = passed_run c.args.self.now.known.items c.pop_front.new.self.items c.args.self.now.offset i is (omega (arith, c.if-self-lt63.false, h.small)) c.pop_front.ensures.rest h.known;
+  known = passed_run c.args.self.now.known.items c.take_first.new.queue.items c.args.self.now.offset i is (omega (arith, c.if-self-lt63.false, h.small)) c.take_first.ensures.rest h.known;
 }
