@@ -17,7 +17,7 @@ use Rattle.spec_endpoint.specs.Association.{Tcb, Phase, CookieEchoed, Establishe
 use Rattle.spec_endpoint.specs.Packets.{PacketDraft, round_down_to_4, fits, add, packet_to, new_packet, has_chunks, emit_if, emit, emit_chunk}
 use Rattle.spec_endpoint.specs.Sending.{Filling, take_due_ack, ack_if, has_data_to_send, with_ack, forward_added_if, forward_if, with_expired_abandoned, forward_if_time, with_forward, most_streams, request_of, request_if, filled_as, BurstStep, burst_step_if, next_packet, continue_burst, burst, AfterSending, is_before_cookie_ack, open_with, send_with, send_buffered, cookie_if, send_cookie, fast_packet, fast_if, send_lost}
 use Rattle.spec_endpoint.specs.Shutdown.{close_with, PhaseStep, pending_next, received_next, maybe_send_shutdown_or_ack, shutdown_in_phase, shutdown_in, shut_by_peer, on_shutdown, on_shutdown_ack_open, on_shutdown_ack_in, on_shutdown_complete, abort, close_in, is_quiet}
-use Rattle.spec_endpoint.specs.Data.{fragment_if, accepts_tsn, handle_forward_tsn_if, accepts_point, on_no_data, on_data_in, on_data_if, on_data, on_forward, has_room, told_of_drop}
+use Rattle.spec_endpoint.specs.Data.{fragment_if, accepts_fragment, handle_forward_tsn_if, accepts_point, on_no_data, on_data_in, on_data_if, on_data, on_forward, has_room, told_of_drop}
 use Rattle.spec_endpoint.specs.Sack.{clean_blocks, sample_rtt, clear_errors_if, send_after_sack, after_sack, on_sack_in, is_late, sampled_unless}
 use Rattle.proof_awake.specs.Invariant.{BlockHolds, is_established, waits, WindowsHaveRoom}
 use Rattle.proof_awake.specs.Line.{StateHasNoLine}
@@ -261,7 +261,7 @@ module _ {P : Type 0} (avoids : Bool) where
   data_in_lined (CookieWait tag first t1) tsn immediate f c l = l
   data_in_lined (Open phase t) tsn immediate f c l =
       let room : Bool = has_room c.options tsn t in
-      taken_lined (accepts_tsn c.options tsn t) phase tsn immediate f (told_of_drop c.options.avoid_stalls room t) c (told_lined c.options.avoid_stalls room phase t c l)
+      taken_lined (accepts_fragment c.options tsn f t) phase tsn immediate f (told_of_drop c.options.avoid_stalls room t) c (told_lined c.options.avoid_stalls room phase t c l)
 
   no_data_lined : (tsn : ℕ) (s : State) (c : Context P) → Lined s c → Lined s (on_no_data tsn s c)
   no_data_lined tsn Closed c l = l

@@ -17,7 +17,7 @@ use Rattle.spec_endpoint.specs.Association.{Tcb, Phase, CookieEchoed, Establishe
 use Rattle.spec_endpoint.specs.Packets.{add, packet_to, emit_chunk}
 use Rattle.spec_endpoint.specs.Sending.{AfterSending, is_before_cookie_ack, send_lost, send_in, force_ack}
 use Rattle.spec_endpoint.specs.Shutdown.{close_with, PhaseStep, pending_next, received_next, maybe_send_shutdown_or_ack, shutdown_in_phase, shutdown_in, shut_by_peer, on_shutdown, on_shutdown_ack_open, on_shutdown_ack_in, on_shutdown_complete, abort, close_in, is_quiet_if, is_quiet}
-use Rattle.spec_endpoint.specs.Data.{fragment_if, accepts_tsn, handle_forward_tsn_if, accepts_point, on_no_data, on_data_in, on_data_if, on_data, on_forward, has_room, told_of_drop}
+use Rattle.spec_endpoint.specs.Data.{fragment_if, accepts_fragment, handle_forward_tsn_if, accepts_point, on_no_data, on_data_in, on_data_if, on_data, on_forward, has_room, told_of_drop}
 use Rattle.spec_endpoint.specs.Sack.{clean_blocks, sample_rtt, clear_errors_if, send_after_sack, after_sack, on_sack_in, is_late, sampled_unless}
 use Rattle.sctp_rx.specs.declared.data_tracker.AckState.TheVariants.{Immediate}
 use Rattle.sctp_rx.specs.DataTracker.{acking}
@@ -202,7 +202,7 @@ module _ {P : Type 0} (avoids : Bool) where
   data_in_holds (Open phase t) tsn immediate f c h =
       let room : Bool = has_room c.options tsn t in
       let u : Tcb = told_of_drop c.options.avoid_stalls room t in
-      (h.0, (h.1.0, takes_if (waits avoids phase) (accepts_tsn c.options tsn t) tsn immediate f u (told_holds (waits avoids phase) c.options.avoid_stalls room t h.1.1)))
+      (h.0, (h.1.0, takes_if (waits avoids phase) (accepts_fragment c.options tsn f t) tsn immediate f u (told_holds (waits avoids phase) c.options.avoid_stalls room t h.1.1)))
 
   data_if_holds : (b : Bool) (tsn : ℕ) (immediate : Bool) (f : FragmentTree) (s : EndpointState P) → EndHolds s → EndHolds (on_data_if b tsn immediate f s)
   data_if_holds true tsn immediate f s h = no_data_holds tsn s.state s.context h

@@ -26,7 +26,7 @@ use Rattle.spec_endpoint.specs.ResetRequests.{Request, Requests, is_final, is_la
 use Rattle.spec_endpoint.specs.Sending.{Filling, take_due_ack, ack_if, has_data_to_send, with_ack, forward_added_if, forward_if, with_expired_abandoned, forward_if_time, with_forward, most_streams, request_of, request_if, filled_as, BurstStep, burst_step_if, next_packet, continue_burst, burst, is_before_cookie_ack, send_with, fast_if, send_lost}
 use Rattle.spec_endpoint.specs.Shutdown.{on_shutdown, on_shutdown_ack_in, on_shutdown_complete, abort_for_violation, on_abort, on_error}
 use Rattle.spec_endpoint.specs.Shutdown as closing
-use Rattle.spec_endpoint.specs.Data.{on_data_in, on_data_if, on_data, accepts_tsn, fragment_if, accepts_point, handle_forward_tsn_if, handle_forward_tsn_in, has_room, told_of_drop}
+use Rattle.spec_endpoint.specs.Data.{on_data_in, on_data_if, on_data, accepts_fragment, fragment_if, accepts_point, handle_forward_tsn_if, handle_forward_tsn_in, has_room, told_of_drop}
 use Rattle.spec_endpoint.specs.Sack.{clean_blocks, sample_rtt, after_sack, on_sack_in, is_late, sampled_unless}
 use Rattle.spec_endpoint.specs.Sack as acks
 use Rattle.spec_endpoint.specs.Opening.{on_cookie_ack, enter_connected, tcb_by, queue_for, cookie_ack, anew, maintain_existing, maintain_existing_in, restarts, restarts_in, restart, CookieResolution, EstablishNew, RestartDetected, SimultaneousInit, MaintainExisting, Discard, InvalidTag, resolve_cookie, on_resolution, on_read_cookie, on_cookie_echo, long_word}
@@ -162,7 +162,7 @@ module _ {P : Type 0} where
   data_in_fits (Open phase t) tsn immediate f c h =
       let b : Bool = c.options.avoid_stalls in
       let room : Bool = has_room c.options tsn t in
-      taken_fits (accepts_tsn c.options tsn t) tsn immediate f (told_of_drop b room t) (told_fits b room t h)
+      taken_fits (accepts_fragment c.options tsn f t) tsn immediate f (told_of_drop b room t) (told_fits b room t h)
 
   data_if_fits : (b : Bool) (tsn : ℕ) (immediate : Bool) (f : FragmentTree) (s : EndpointState P) → NumbersFitIn s.state → NumbersFitIn (on_data_if b tsn immediate f s).state
   data_if_fits true tsn immediate f s h = h

@@ -11,7 +11,7 @@ use Rattle.sctp_rx.specs.ReassemblyQueue as reassembly
 use Rattle.sctp_tx_outstanding.specs.OutstandingData.{Outstanding}
 use Rattle.sctp_tx_outstanding.specs.OutstandingData as items
 use Rattle.spec_endpoint.specs.Association.{Tcb, Phase, State, Closed, CookieWait, Open, Context, EndpointState, Packing}
-use Rattle.spec_endpoint.specs.Data.{is_full, accepts_tsn, added_unless, take_fragment, fragment_if, on_data_in, on_data_if, on_data, skipped_if, accepts_point, handle_forward_tsn, handle_forward_tsn_if, handle_forward_tsn_in, on_forward, has_reserve, has_room, told_of_drop, take_data}
+use Rattle.spec_endpoint.specs.Data.{is_full, accepts_tsn, accepts_fragment, added_unless, take_fragment, fragment_if, on_data_in, on_data_if, on_data, skipped_if, accepts_point, handle_forward_tsn, handle_forward_tsn_if, handle_forward_tsn_in, on_forward, has_reserve, has_room, told_of_drop, take_data}
 use Rattle.sctp_state.specs.Options.{Options}
 use Rattle.proof_draws.specs.NamedChunks.{Names, move_by}
 use Rattle.proof_draws.specs.Names.{named_phase, named_tracker, named_reassembly, named_outstanding, named_tcb, named_state, named_endpoint_state, plain}
@@ -133,6 +133,14 @@ module _ (n : Names) where
   takes_named : (o : Options) (tsn : ℕ) (t : Tcb) → accepts_tsn o (move_by n.peer tsn) (named_tcb n t) ≡ accepts_tsn o tsn t
   takes_named o tsn t = ap (λ (k : ℕ). takes_at o k t) (received_number t.tracker tsn)
 
+  waiting_named : (tsn id : ℕ) (r : Reassembly) → reassembly.admits_fragment (move_by n.peer tsn) id (named_reassembly n r) ≡ reassembly.admits_fragment tsn id r
+  waiting_named tsn id r = ap (λ (k : ℕ). reassembly.may_wait k id r.deferred) (queue_number r tsn)
+
+  fragment_named : (o : Options) (tsn : ℕ) (f : FragmentTree) (t : Tcb) → accepts_fragment o (move_by n.peer tsn) f (named_tcb n t) ≡ accepts_fragment o tsn f t
+  fragment_named o tsn f t =
+      ap (λ (b : Bool). b && reassembly.admits_fragment (move_by n.peer tsn) f.stream_id (named_reassembly n t.reassembly)) (takes_named o tsn t)
+      ∙ ap (λ (b : Bool). accepts_tsn o tsn t && b) (waiting_named tsn f.stream_id t.reassembly)
+
   told_named : (b room : Bool) (t : Tcb) → told_of_drop b room (named_tcb n t) ≡ named_tcb n (told_of_drop b room t)
   told_named true true t = refl
   told_named true false t = refl
@@ -142,9 +150,9 @@ module _ (n : Names) where
       → take_data o (move_by n.peer tsn) is_immediate f (named_tcb n t) ≡ named_tcb n (take_data o tsn is_immediate f t)
   take_data_named o tsn is_immediate f t =
       let m : ℕ = move_by n.peer tsn in
-      let takes : Bool = accepts_tsn o tsn t in
+      let takes : Bool = accepts_fragment o tsn f t in
       let room : Bool = has_room o tsn t in
-      ap (λ (b : Bool). fragment_if b m is_immediate f (told_of_drop o.avoid_stalls (has_room o m (named_tcb n t)) (named_tcb n t))) (takes_named o tsn t)
+      ap (λ (b : Bool). fragment_if b m is_immediate f (told_of_drop o.avoid_stalls (has_room o m (named_tcb n t)) (named_tcb n t))) (fragment_named o tsn f t)
       ∙ (ap (λ (b : Bool). fragment_if takes m is_immediate f (told_of_drop o.avoid_stalls b (named_tcb n t))) (room_named o tsn t)
       ∙ (ap (λ (u : Tcb). fragment_if takes m is_immediate f u) (told_named o.avoid_stalls room t)
       ∙ taken_if_named takes tsn is_immediate f (told_of_drop o.avoid_stalls room t)))

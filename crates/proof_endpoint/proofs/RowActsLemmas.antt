@@ -12,13 +12,13 @@ use Rattle.sctp_state.specs.Events.{Event, OnClosed, OnAborted}
 use Rattle.sctp_state.specs.RetransmissionTimeout.{observe_rto}
 use Rattle.sctp_tx_outstanding.specs.Sack.{is_valid}
 use Rattle.sctp_rx.specs.DataTracker as tracker
-use Rattle.sctp_rx.specs.ReassemblyQueue.{admits_point}
+use Rattle.sctp_rx.specs.ReassemblyQueue.{admits_fragment, admits_point}
 use Rattle.sctp_tx.specs.RetransmissionQueue.{SackAnswer, Invalid, Valid, sender_if, emitted_if, answer_if}
 use Rattle.spec_endpoint.specs.Association.{Tcb, Phase, CookieEchoed, Established, ShutdownPending, ShutdownSent, ShutdownReceived, ShutdownAckSent, State, Closed, CookieWait, Open, Context, EndpointState, where_open}
 use Rattle.spec_endpoint.specs.Packets.{PacketDraft, packet_to, emit_chunk}
 use Rattle.spec_endpoint.specs.Sending.{AfterSending, is_before_cookie_ack, send_lost}
 use Rattle.spec_endpoint.specs.Shutdown.{t2_shutdown, close_with, send_shutdown, send_shutdown_ack, PhaseStep, is_quiet, pending_next, received_next, maybe_send_shutdown_or_ack, shutdown_in_phase, shutdown_in, shutdown, shut_by_peer, on_shutdown, complete_shutdown, out_of_the_blue, on_shutdown_ack_open, on_shutdown_ack_in, on_shutdown_ack, on_shutdown_complete, abort, close_in, close, too_many, abort_for_violation, causes_text, on_abort, on_error}
-use Rattle.spec_endpoint.specs.Data.{no_data, on_no_data, not_connected, has_room, accepts_tsn, told_of_drop, take_fragment, fragment_if, on_data_in, on_data_if, on_data, accepts_point, handle_forward_tsn, handle_forward_tsn_if, handle_forward_tsn_in, on_forward}
+use Rattle.spec_endpoint.specs.Data.{no_data, on_no_data, not_connected, has_room, accepts_tsn, accepts_fragment, told_of_drop, take_fragment, fragment_if, on_data_in, on_data_if, on_data, accepts_point, handle_forward_tsn, handle_forward_tsn_if, handle_forward_tsn_in, on_forward}
 use Rattle.spec_endpoint.specs.Sack.{clean_blocks, is_late, sampled_unless, sample_rtt, clear_errors_if, send_after, after_sack, no_block, on_sack_in, on_sack}
 use Rattle.spec_endpoint.specs.Input.{misuse, violation}
 use Rattle.spec_endpoint.specs.Laws.{Call, Shutdown, ending, is_closed}
@@ -204,9 +204,10 @@ module _ {P : Type 0} {call : Call} {R : EndWithPacket P → EndWithPacket P →
       → R (in_open phase t m) (in_open phase (take_fragment tsn is_immediate f t) m)
 
   does_taken_if : (chunk : ChunkTree) (tsn : ℕ) (is_immediate : Bool) (f : FragmentTree) → MayTake chunk tsn is_immediate f → (b : Bool) (phase : Phase) (t : Tcb)
-      (c : Context P) → misuse t.capabilities chunk ≡ None → (length f.payload == 0) ≡ false → accepts_tsn c.options tsn t ≡ b
+      (c : Context P) → misuse t.capabilities chunk ≡ None → (length f.payload == 0) ≡ false → accepts_fragment c.options tsn f t ≡ b
       → R (idle (Open phase t) c w) (idle (Open phase (fragment_if b tsn is_immediate f t)) c w)
-  does_taken_if chunk tsn is_immediate f may true phase t c right some is = may phase t (idle (Open phase t) c w) right some is
+  does_taken_if chunk tsn is_immediate f may true phase t c right some is =
+      may phase t (idle (Open phase t) c w) right some (and_parts (accepts_tsn c.options tsn t) (admits_fragment tsn f.stream_id t.reassembly) is).0
   does_taken_if chunk tsn is_immediate f may false phase t c right some is = k.same (idle (Open phase t) c w)
 
   does_told_of_drop : (b : Bool) (phase : Phase) (t : Tcb) (c : Context P) → R (idle (Open phase t) c w) (idle (Open phase (told_of_drop b false t)) c w)
@@ -218,18 +219,21 @@ module _ {P : Type 0} {call : Call} {R : EndWithPacket P → EndWithPacket P →
   told_of_none false t = refl
 
   -- by whether there is room
+  abbrev takes_by : (has_room : Bool) → (tsn : ℕ) → FragmentTree → Tcb → Bool
+  takes_by room tsn f t = (room && tracker.is_valid t.tracker.tracker (tracker.number_of t.tracker tsn)) && admits_fragment tsn f.stream_id t.reassembly
+
   abbrev data_by : (has_room : Bool) → Options → (tsn : ℕ) → (is_immediate : Bool) → FragmentTree → Tcb → Tcb
   data_by room o tsn is_immediate f t =
-      fragment_if (room && tracker.is_valid t.tracker.tracker (tracker.number_of t.tracker tsn)) tsn is_immediate f (told_of_drop o.avoid_stalls room t)
+      fragment_if (takes_by room tsn f t) tsn is_immediate f (told_of_drop o.avoid_stalls room t)
 
   does_take_data : (chunk : ChunkTree) (tsn : ℕ) (is_immediate : Bool) (f : FragmentTree) → MayTake chunk tsn is_immediate f → (room : Bool) (phase : Phase) (t : Tcb)
       (c : Context P) → misuse t.capabilities chunk ≡ None → (length f.payload == 0) ≡ false → has_room c.options tsn t ≡ room
       → R (idle (Open phase t) c w) (idle (Open phase (data_by room c.options tsn is_immediate f t)) c w)
   does_take_data chunk tsn is_immediate f may false phase t c right some is = does_told_of_drop c.options.avoid_stalls phase t c
   does_take_data chunk tsn is_immediate f may true phase t c right some is =
-      let valid : Bool = tracker.is_valid t.tracker.tracker (tracker.number_of t.tracker tsn) in
-      subst (λ (u : Tcb). R (idle (Open phase t) c w) (idle (Open phase (fragment_if valid tsn is_immediate f u)) c w)) (sym (told_of_none c.options.avoid_stalls t))
-      (does_taken_if chunk tsn is_immediate f may valid phase t c right some (ap (λ (r : Bool). r && valid) is))
+      let takes : Bool = takes_by true tsn f t in
+      subst (λ (u : Tcb). R (idle (Open phase t) c w) (idle (Open phase (fragment_if takes tsn is_immediate f u)) c w)) (sym (told_of_none c.options.avoid_stalls t))
+      (does_taken_if chunk tsn is_immediate f may takes phase t c right some (ap (λ (r : Bool). takes_by r tsn f t) is))
 
   does_data_in : (chunk : ChunkTree) (tsn : ℕ) (is_immediate : Bool) (f : FragmentTree) → MayTake chunk tsn is_immediate f → (s : State) (c : Context P)
       → violation s chunk ≡ None → (length f.payload == 0) ≡ false → R (idle s c w) (placed (on_data_in s tsn is_immediate f c) w)

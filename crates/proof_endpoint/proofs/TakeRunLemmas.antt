@@ -14,12 +14,12 @@ use Rattle.sctp_state.specs.Options.{SendOptions, defaults}
 use Rattle.sctp_rx.specs.DataTracker.{Tracker, DataTracker, number_of, observe, is_valid, has_seen}
 use Rattle.sctp_rx.specs.Delivery.{fresh_ordered, fresh_unordered}
 use Rattle.sctp_rx.specs.ReassemblyStreams.{Streams}
-use Rattle.sctp_rx.specs.ReassemblyQueue.{Reassembly}
+use Rattle.sctp_rx.specs.ReassemblyQueue.{Reassembly, admits_fragment}
 use Rattle.sctp_rx.specs.ReassemblyQueue as reassembly
 use Rattle.spec_endpoint.specs.Association.{Tcb, Established, Open, Context, EndpointState, Endpoint, open_as, where_open, Packing}
 use Rattle.spec_endpoint.specs.Packets.{add, new_packet}
 use Rattle.spec_endpoint.specs.Sending.{window, take_due_ack, without_duplicates, open_with, send_with}
-use Rattle.spec_endpoint.specs.Data.{is_full, accepts_tsn, added_unless, take_fragment, fragment_if, on_data_if, on_data}
+use Rattle.spec_endpoint.specs.Data.{is_full, accepts_fragment, added_unless, take_fragment, fragment_if, on_data_if, on_data}
 use Rattle.spec_endpoint.specs.Input as input
 use Rattle.spec_endpoint.specs.Input.{count_packet_at, on_packet_end}
 use Rattle.proof_endpoint.specs.FirstRun.{first_of, tag_of, fragment, data_packet, sack_packet, packet_event, give, drained, taking, IsSmall}
@@ -85,8 +85,8 @@ module _ {P : Type 0} (pack : Packing P) (a b : rng.Stream) (m : Message) (o : S
   numbers : number_of tcb_b.tracker first ≡ 4294967296
   numbers = near_first first (first_small a)
 
-  is_taken : accepts_tsn defaults first tcb_b ≡ true
-  is_taken = ap (λ (n : ℕ). not (is_full tcb_b.reassembly) && is_valid tcb_b.tracker.tracker n) numbers
+  is_taken : accepts_fragment defaults first (fragment m o) tcb_b ≡ true
+  is_taken = ap (λ (n : ℕ). (not (is_full tcb_b.reassembly) && is_valid tcb_b.tracker.tracker n) && admits_fragment first (fragment m o).stream_id tcb_b.reassembly) numbers
 
   abbrev arrived : ℕ → Tcb
   arrived n = record tcb_b {

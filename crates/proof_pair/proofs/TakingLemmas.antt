@@ -1,12 +1,13 @@
 -- Data and forward points: refused ones change nothing, new ones are added, and points reach reassembly.
 use Rattle.std.proofs.Common.{◌≡◌, ℕ, ◌==◌, ◌||◌, ◌&&◌, not, Bool, true, false, cond, Option, None, List, length, refl, ap, ◌∙◌}
+use Rattle.std.proofs.lemmas.Bool.{and_parts}
 use Rattle.sctp_state.specs.Options.{Options}
 use Rattle.sctp_chunk.specs.declared.forward_tsn.SkippedStream.{SkippedStream}
 use Rattle.sctp_packet.specs.Chunk.{FragmentTree}
 use Rattle.sctp_rx.specs.DataTracker.{number_of, is_valid, has_seen, moves_on}
-use Rattle.sctp_rx.specs.ReassemblyQueue.{Reassembly, add, forward}
+use Rattle.sctp_rx.specs.ReassemblyQueue.{Reassembly, add, forward, admits_fragment}
 use Rattle.spec_endpoint.specs.Association.{Tcb, Phase, Open, Context, EndpointState, Endpoint}
-use Rattle.spec_endpoint.specs.Data.{has_room, accepts_tsn, told_of_drop, added_unless, take_fragment, fragment_if, on_data_if, on_data, skipped_if, handle_forward_tsn, handle_forward_tsn_if, handle_forward_tsn_in}
+use Rattle.spec_endpoint.specs.Data.{has_room, accepts_tsn, accepts_fragment, told_of_drop, added_unless, take_fragment, fragment_if, on_data_if, on_data, skipped_if, handle_forward_tsn, handle_forward_tsn_if, handle_forward_tsn_in}
 use Rattle.spec_endpoint.specs.Input.{misuse, received_if, receive}
 use Rattle.proof_pair.specs.Taking.{opened, fragment_chunk, point_chunk, IsLeft, IsTaken, IsPassed, RefusedDataChangesNothing, NewDataIsAdded, RefusedPointsChangeNothing, PointsReachReassembly}
 
@@ -19,11 +20,6 @@ none_taken false e = refl
 some_taken : (accepts : Bool) → not accepts ≡ false → accepts ≡ true
 some_taken true e = refl
 some_taken false e = cc
-
--- what is taken has room
-has_some_room : (room v : Bool) → (room && v) ≡ true → room ≡ true
-has_some_room true v e = refl
-has_some_room false v e = cc
 
 not_told : (b room : Bool) (t : Tcb) → room ≡ true → told_of_drop b room t ≡ t
 not_told true true t e = refl
@@ -69,16 +65,17 @@ module _ {P : Type 0} (tsn : ℕ) (is_immediate : Bool) (f : FragmentTree) (phas
   left_is true = record { reassembly = refl; seen = refl; all = λ off. refl }
   left_is false = left_by o o.avoid_stalls (has_room o tsn t) t refl
 
-  refused_by : (a : Bool) → (a || not (accepts_tsn o tsn t)) ≡ true → (on_data_if a tsn is_immediate f endpoint_state).state ≡ Open phase (left a)
+  refused_by : (a : Bool) → (a || not (accepts_fragment o tsn f t)) ≡ true → (on_data_if a tsn is_immediate f endpoint_state).state ≡ Open phase (left a)
   refused_by true e = refl
-  refused_by false e = ap (λ (b : Bool). Open phase (fragment_if b tsn is_immediate f told)) (none_taken (accepts_tsn o tsn t) e)
+  refused_by false e = ap (λ (b : Bool). Open phase (fragment_if b tsn is_immediate f told)) (none_taken (accepts_fragment o tsn f t) e)
 
-  taken_by : (a : Bool) → (a || not (accepts_tsn o tsn t)) ≡ false
+  taken_by : (a : Bool) → (a || not (accepts_fragment o tsn f t)) ≡ false
       → (on_data_if a tsn is_immediate f endpoint_state).state ≡ Open phase (take_fragment tsn is_immediate f t)
   taken_by true e = cc
   taken_by false e =
-      let accepted : accepts_tsn o tsn t ≡ true = some_taken (accepts_tsn o tsn t) e in
-      let room : has_room o tsn t ≡ true = has_some_room (has_room o tsn t) (is_valid t.tracker.tracker (number_of t.tracker tsn)) accepted in
+      let accepted : accepts_fragment o tsn f t ≡ true = some_taken (accepts_fragment o tsn f t) e in
+      let in_room : accepts_tsn o tsn t ≡ true = (and_parts (accepts_tsn o tsn t) (admits_fragment tsn f.stream_id t.reassembly) accepted).0 in
+      let room : has_room o tsn t ≡ true = (and_parts (has_room o tsn t) (is_valid t.tracker.tracker (number_of t.tracker tsn)) in_room).0 in
       ap (λ (b : Bool). Open phase (fragment_if b tsn is_immediate f told)) accepted
       ∙ ap (λ (u : Tcb). Open phase (take_fragment tsn is_immediate f u)) (not_told o.avoid_stalls (has_room o tsn t) t room)
 

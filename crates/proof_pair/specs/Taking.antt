@@ -7,7 +7,7 @@ use Rattle.sctp_state.specs.Options.{Options}
 use Rattle.sctp_rx.specs.DataTracker.{number_of, has_seen, moves_on}
 use Rattle.sctp_rx.specs.ReassemblyQueue.{add, forward}
 use Rattle.spec_endpoint.specs.Association.{Tcb, Phase, Open, Endpoint}
-use Rattle.spec_endpoint.specs.Data.{accepts_tsn, observe_tsn, advance_cumulative_tsn, accepts_point}
+use Rattle.spec_endpoint.specs.Data.{accepts_fragment, observe_tsn, advance_cumulative_tsn, accepts_point}
 use Rattle.spec_endpoint.specs.Input.{misuse, receive}
 
 -- an end in this phase, with this control block
@@ -23,9 +23,9 @@ abbrev pub point_chunk : (is_interleaved : Bool) → (tsn : ℕ) → List Skippe
 point_chunk true tsn skipped = i_forward_tsn_chunk tsn skipped
 point_chunk false tsn skipped = forward_tsn_chunk tsn skipped
 
--- it is empty, there is no room for it, or its TSN is out of range
+-- it is empty, there is no room for it, its TSN is out of range, or too many wait for a reset as it would
 abbrev pub is_refused : Options → (tsn : ℕ) → FragmentTree → Tcb → Bool
-is_refused o tsn f t = (length f.payload == 0) || not (accepts_tsn o tsn t)
+is_refused o tsn f t = (length f.payload == 0) || not (accepts_fragment o tsn f t)
 
 -- its TSN wasn't seen before
 abbrev pub is_new : (tsn : ℕ) → Tcb → Bool

@@ -42,14 +42,6 @@ module _ {E : Type 0} where
       let up : length (x ∷ (xs ++ ys)) - 1 ≡ suc (length (xs ++ ys) - 1) = omega (arith, n, h) in
       ap (λ (k : ℕ). get_or (x ∷ (xs ++ ys)) k d) up ∙ back_of xs ys d h
 
-  pub back_in : (first middle last : List E) (d : E) → 0 < length last → d ≡ get_or last (length last - 1) d → d ≡ get_or (first ++ (middle ++ last)) (length (first ++ (middle ++ last)) - 1) d
-  back_in first middle last d some read =
-      let n = length-append middle last in
-      read ∙ sym (back_of first (middle ++ last) d (omega (arith, n, some)) ∙ back_of middle last d some)
-
-  pub back_first : (first : List E) (ls : List (List E)) (last : List E) (d : E) → ls ≡ [] → last ≡ [] → d ≡ get_or first (length first - 1) d → d ≡ get_or (first ++ (flat ls ++ last)) (length (first ++ (flat ls ++ last)) - 1) d
-  back_first first ls last d a b read = rw a (rw b (rw (append-nil first) read))
-
   pub alone : (first : List E) (ls : List (List E)) (last : List E) → ls ≡ [] → length first + length last ≡ length (first ++ (flat ls ++ last))
   alone first ls last a = rw a (sym (length-append first last))
 

@@ -1,6 +1,6 @@
 //! Tests of the layers below the association that are no rows of a script: numbers that wrap, through their bound, buffers that are used
-//! again, messages of many fragments, SACKs over thousands of items, items of mixed sizes that are sent again, and sender and receiver in
-//! want of memory. Apart, so that each crate is proved once.
+//! again, messages of many fragments, as many fragments as may wait for a reset, SACKs over thousands of items, items of mixed sizes that
+//! are sent again, and sender and receiver in want of memory. Apart, so that each crate is proved once.
 #![tactic(auto)]
 
 #[cfg(test)]
@@ -21,3 +21,5 @@ mod sender;
 mod serial;
 #[cfg(test)]
 mod spare_buffers;
+#[cfg(test)]
+mod waiting;

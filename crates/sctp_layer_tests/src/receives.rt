@@ -26,6 +26,8 @@ pub trait Receives {
 
     fn defers(&mut self, tsn: Tsn, streams: &[StreamId]) -> Result<(), AllocError>;
 
+    fn admits(&self, tsn: Tsn, stream_key: StreamKey) -> bool;
+
     fn resets(&mut self, streams: &[StreamId]) -> Result<(), AllocError>;
 
     fn writes(&self, state: &mut SocketHandoverState) -> Result<(), AllocError>;
@@ -99,6 +101,10 @@ impl Receives for ReassemblyQueue {
 
     fn defers(&mut self, tsn: Tsn, streams: &[StreamId]) -> Result<(), AllocError> {
         self.enter_deferred_reset(tsn, streams)
+    }
+
+    fn admits(&self, tsn: Tsn, stream_key: StreamKey) -> bool {
+        self.admits_fragment(tsn, stream_key)
     }
 
     fn resets(&mut self, streams: &[StreamId]) -> Result<(), AllocError> {

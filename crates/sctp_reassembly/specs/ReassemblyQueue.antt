@@ -71,6 +71,10 @@ waiting_entries (Forwarded tsn es) = suc (length es)
 abbrev pub most_waiting_entries : ℕ
 most_waiting_entries = 65536
 
+-- and no more fragments than so many
+abbrev pub most_waiting_fragments : ℕ
+most_waiting_fragments = 4096
+
 pub record IsDeferred (bytes fragments entries : ℕ) (ws : List Waiting) : Type 0 where
   pub counted : bytes ≡ sum_by waiting_bytes ws
   pub fragments_counted : fragments ≡ sum_by waiting_fragments ws
@@ -178,6 +182,13 @@ fits_behind n es (Some d) = not (nat_lt d.last n) || nat_le (sum_by waiting_entr
 
 abbrev pub admits_point : ℕ → List SkippedStream → Reassembly → Bool
 admits_point tsn es r = fits_behind (number_of r tsn) es r.deferred
+
+-- A fragment that would wait is admitted while fewer wait than may. This rule is our own too.
+abbrev pub may_wait : (number stream_id : ℕ) → Option Deferred → Bool
+may_wait n id d = not (is_kept_back n id d) || nat_lt (deferred_fragments d) most_waiting_fragments
+
+abbrev pub admits_fragment : (tsn stream_id : ℕ) → Reassembly → Bool
+admits_fragment tsn id r = may_wait (number_of r tsn) id r.deferred
 
 -- a fragment with this TSN
 abbrev pub add : ℕ → FragmentTree → Reassembly → Reassembly

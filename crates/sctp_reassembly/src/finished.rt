@@ -107,7 +107,7 @@ fn all_keys<K: ReassemblyKey>(
     Ok(keys)
 }
 
-/// The same, where a list has them.
+/// The same, in a box.
 fn kept_keys<K: ReassemblyKey>(
     alloc: Global,
     first: &Option<Interval<K>>,
@@ -165,7 +165,7 @@ fn first_from<K: ReassemblyKey>(keys: &BTreeSet<K>, key: K) -> Option<K>
 }
 
 /// The same, where some of those before it go.
-fn take_first_from<K: ReassemblyKey>(keys: &mut BTreeSet<K>, key: K) -> Option<K>
+fn search_from<K: ReassemblyKey>(keys: &mut BTreeSet<K>, key: K) -> Option<K>
     requires keys { All K.is_key keys.old.keys }
     ensures keys { All K.is_key keys.new.keys }
     ensures kept { (n : ℕ) → rank_at K.number K.index key ≤ n → is_held (rank_at K.number K.index) n keys.old.keys ≡ true → is_held (rank_at K.number K.index) n keys.new.keys ≡ true }
@@ -239,6 +239,6 @@ impl<K: ReassemblyKey> Finished<K> {
         let Some(keys) = &mut self.keys else {
             return Some(least);
         };
-        take_first_from(keys, least)
+        search_from(keys, least)
     }
 }

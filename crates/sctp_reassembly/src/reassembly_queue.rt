@@ -19,7 +19,7 @@ use crate::reassembly_streams::ReassemblyStreams;
 use crate::sorted_skips::entries_in;
 use deferred::{Deferred, none_waits};
 use sctp_chunk::{Data, DataView, SkippedStream};
-use sctp_serial::{Message, SerialNumber, StreamId, Tsn};
+use sctp_serial::{Message, SerialNumber, StreamId, StreamKey, Tsn};
 use sctp_state::{HandoverReadiness, SocketHandoverState};
 use std::alloc::{AllocError, Global};
 use std::collections::VecDeque;
@@ -57,7 +57,8 @@ impl Model for ReassemblyQueue {
 }
 
 impl ReassemblyQueue {
-    ghost use Rattle.sctp_reassembly.specs.ReassemblyQueue.{reassembly, queued_bytes, held_fragments, watermark, number_of, came, add_now, forward_now, is_kept_back, point_waits, keep_back, wait_with, resetting, waiting_bytes, waiting_fragments, waiting_number, saturating_sum, IsCounted, AreSmall, admits_point, add, forward, defer, apply, apply_each, reset};
+    ghost use Rattle.sctp_reassembly.specs.ReassemblyQueue.{reassembly, queued_bytes, held_fragments, watermark, number_of, came, add_now, forward_now, is_kept_back, point_waits, keep_back, wait_with, resetting, waiting_bytes, waiting_fragments, waiting_number, saturating_sum, IsCounted, AreSmall, admits_fragment, admits_point, add, forward, defer, apply, apply_each, reset};
+    ghost use Rattle.sctp_chunk.specs.Written.{key_stream};
     ghost use Rattle.sctp_reassembly.specs.ReassemblyStreams.{entries_in};
     ghost use Rattle.sctp_reassembly.specs.InterruptedQueue.{add_now_in_part, forward_now_in_part, add_in_part, forward_in_part, apply_in_part, apply_each_in_part, reset_in_part};
     ghost use Rattle.sctp_reassembly.specs.Waiting.{waiting_of};
@@ -259,6 +260,20 @@ impl ReassemblyQueue {
         match &self.deferred {
             Some(deferred) => deferred.is_behind(number) && deferred.concerns(id),
             None => false,
+        }
+    }
+
+    /// Whether a fragment is to be taken: while a reset is deferred, of those that would wait for it only so many that no more than
+    /// 4,096 do. This rule is our own.
+    pub fn admits_fragment(&self, tsn: Tsn, stream_key: StreamKey) -> bool
+        ensures { result ≡ admits_fragment tsn.0 (key_stream stream_key) self.now }
+    {
+        let number = self.number_of(tsn);
+        match &self.deferred {
+            Some(deferred) => {
+                !self.fragment_waits(number, stream_key.id()) || deferred.has_room_for_fragment()
+            }
+            None => true,
         }
     }
 

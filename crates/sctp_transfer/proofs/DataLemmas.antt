@@ -3,7 +3,7 @@ use Rattle.std.proofs.Common.{◌≡◌, ℕ, Bool, true, false, ◌&&◌, not, 
 use Rattle.sctp_wire.proofs.WordLemmas.{clash}
 use Rattle.sctp_chunk.specs.Chunk.{FragmentTree}
 use Rattle.sctp_rx.specs.DataTracker.{DataTracker, number_of, is_valid, has_seen}
-use Rattle.sctp_rx.specs.ReassemblyQueue.{Reassembly, add}
+use Rattle.sctp_rx.specs.ReassemblyQueue.{Reassembly, add, admits_fragment}
 use Rattle.spec_endpoint.specs.Association.{Tcb}
 use Rattle.sctp_state.specs.Options.{Options}
 use Rattle.spec_endpoint.specs.Data.{observe_tsn, added_unless, fragment_if, has_room, told_of_drop, take_data}
@@ -47,25 +47,50 @@ pub not_taken : (tsn : ℕ) (is_immediate : Bool) (f : FragmentTree) (t : Tcb) (
 not_taken tsn is_immediate f t d other observed kept =
     other_by _ _ tsn is_immediate f t d other observed kept ∙ left_if (is_valid t.tracker.tracker (number_of t.tracker tsn)) tsn is_immediate f t
 
--- ---- by whether there is room
+-- ---- by whether there is room, and whether it may wait
 
-kept_by : (avoids room valid : Bool) (tsn : ℕ) (is_immediate : Bool) (f : FragmentTree) (t : Tcb) → room ≡ true
-    → fragment_if valid tsn is_immediate f t ≡ fragment_if (room && valid) tsn is_immediate f (told_of_drop avoids room t)
-kept_by true true valid tsn is_immediate f t e = refl
-kept_by false true valid tsn is_immediate f t e = refl
-kept_by avoids false valid tsn is_immediate f t e = absurd (clash (sym e))
+kept_by : (avoids room valid admitted : Bool) (tsn : ℕ) (is_immediate : Bool) (f : FragmentTree) (t : Tcb) → room ≡ true → admitted ≡ true
+    → fragment_if valid tsn is_immediate f t ≡ fragment_if ((room && valid) && admitted) tsn is_immediate f (told_of_drop avoids room t)
+kept_by true true true true tsn is_immediate f t e d = refl
+kept_by true true false true tsn is_immediate f t e d = refl
+kept_by false true true true tsn is_immediate f t e d = refl
+kept_by false true false true tsn is_immediate f t e d = refl
+kept_by avoids false valid admitted tsn is_immediate f t e d = absurd (clash (sym e))
+kept_by avoids true valid false tsn is_immediate f t e d = absurd (clash (sym d))
 
-dropped_by : (avoids room valid : Bool) (tsn : ℕ) (is_immediate : Bool) (f : FragmentTree) (t : Tcb) → room ≡ false
-    → told_of_drop avoids false t ≡ fragment_if (room && valid) tsn is_immediate f (told_of_drop avoids room t)
-dropped_by avoids true valid tsn is_immediate f t e = absurd (clash e)
-dropped_by avoids false valid tsn is_immediate f t e = refl
+dropped_by : (avoids room valid admitted : Bool) (tsn : ℕ) (is_immediate : Bool) (f : FragmentTree) (t : Tcb) → room ≡ false
+    → told_of_drop avoids false t ≡ fragment_if ((room && valid) && admitted) tsn is_immediate f (told_of_drop avoids room t)
+dropped_by avoids true valid admitted tsn is_immediate f t e = absurd (clash e)
+dropped_by avoids false valid admitted tsn is_immediate f t e = refl
 
--- one that has room is taken as ever
-pub kept_so : (o : Options) (tsn : ℕ) (is_immediate : Bool) (f : FragmentTree) (t u : Tcb) → has_room o tsn t ≡ true
-    → u ≡ fragment_if (is_valid t.tracker.tracker (number_of t.tracker tsn)) tsn is_immediate f t → u ≡ take_data o tsn is_immediate f t
-kept_so o tsn is_immediate f t u room e = e ∙ kept_by o.avoid_stalls (has_room o tsn t) (is_valid t.tracker.tracker (number_of t.tracker tsn)) tsn is_immediate f t room
+lost_by : (avoids room valid admitted : Bool) (tsn : ℕ) (is_immediate : Bool) (f : FragmentTree) (t : Tcb) → room ≡ true → admitted ≡ false
+    → t ≡ fragment_if ((room && valid) && admitted) tsn is_immediate f (told_of_drop avoids room t)
+lost_by true true true false tsn is_immediate f t e d = refl
+lost_by true true false false tsn is_immediate f t e d = refl
+lost_by false true true false tsn is_immediate f t e d = refl
+lost_by false true false false tsn is_immediate f t e d = refl
+lost_by avoids false valid admitted tsn is_immediate f t e d = absurd (clash (sym e))
+lost_by avoids true valid true tsn is_immediate f t e d = absurd (clash d)
 
--- another one may be told of
-pub dropped_so : (o : Options) (tsn : ℕ) (is_immediate : Bool) (f : FragmentTree) (t u : Tcb) → has_room o tsn t ≡ false
-    → u ≡ told_of_drop o.avoid_stalls false t → u ≡ take_data o tsn is_immediate f t
-dropped_so o tsn is_immediate f t u room e = e ∙ dropped_by o.avoid_stalls (has_room o tsn t) (is_valid t.tracker.tracker (number_of t.tracker tsn)) tsn is_immediate f t room
+module _ (o : Options) (tsn : ℕ) (is_immediate : Bool) (f : FragmentTree) (t : Tcb) where
+  abbrev has : Bool
+  has = has_room o tsn t
+
+  abbrev valid : Bool
+  valid = is_valid t.tracker.tracker (number_of t.tracker tsn)
+
+  abbrev admitted : Bool
+  admitted = admits_fragment tsn f.stream_id t.reassembly
+
+  -- one that has room, and may wait if it does, is taken as ever
+  pub kept_so : (u : Tcb) → has_room o tsn t ≡ true → admits_fragment tsn f.stream_id t.reassembly ≡ true
+      → u ≡ fragment_if (is_valid t.tracker.tracker (number_of t.tracker tsn)) tsn is_immediate f t → u ≡ take_data o tsn is_immediate f t
+  kept_so u room may e = e ∙ kept_by o.avoid_stalls has valid admitted tsn is_immediate f t room may
+
+  -- of one without room the peer may be told
+  pub dropped_so : (u : Tcb) → has_room o tsn t ≡ false → u ≡ told_of_drop o.avoid_stalls false t → u ≡ take_data o tsn is_immediate f t
+  dropped_so u room e = e ∙ dropped_by o.avoid_stalls has valid admitted tsn is_immediate f t room
+
+  -- one that may not wait is as lost
+  pub lost_so : has_room o tsn t ≡ true → admits_fragment tsn f.stream_id t.reassembly ≡ false → t ≡ take_data o tsn is_immediate f t
+  lost_so room may = lost_by o.avoid_stalls has valid admitted tsn is_immediate f t room may

@@ -122,9 +122,9 @@ fn tell_of_drop(tcb: &mut TransmissionControlBlock, options: &Options)
     }
 }
 
-/// A fragment is kept where there is room. What isn't observed isn't acknowledged, so that the peer sends it again (RFC 9260 section
-/// 6.2).
-#[tactic(auto, using(sctp_reassembly::proofs::ExtendsLemmas::extends_none, crate::proofs::DataLemmas::kept_so, crate::proofs::DataLemmas::dropped_so))]
+/// A fragment is kept where there is room, and where it may wait if it does. What isn't observed isn't acknowledged, so that the peer
+/// sends it again (RFC 9260 section 6.2).
+#[tactic(auto, using(sctp_reassembly::proofs::ExtendsLemmas::extends_none, crate::proofs::DataLemmas::kept_so, crate::proofs::DataLemmas::dropped_so, crate::proofs::DataLemmas::lost_so))]
 fn take_data(
     tcb: &mut TransmissionControlBlock,
     options: &Options,
@@ -139,6 +139,12 @@ fn take_data(
 {
     if !has_room(tcb, options, fragment.tsn) {
         tell_of_drop(tcb, options);
+        return Ok(());
+    }
+    if !tcb
+        .reassembly_queue
+        .admits_fragment(fragment.tsn, fragment.stream_key)
+    {
         return Ok(());
     }
     keep_data(tcb, now, fragment)

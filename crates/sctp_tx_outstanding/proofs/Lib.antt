@@ -15,7 +15,7 @@ pub mod MessagesLemmas
 pub mod PassedLemmas
 pub mod NumbersLemmas
 pub mod PointLemmas
-pub mod QuietLemmas
+pub mod FlightsLemmas
 pub mod RecordLemmas
 pub mod RoomLemmas
 pub mod RunsLemmas

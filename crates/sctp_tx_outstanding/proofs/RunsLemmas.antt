@@ -18,9 +18,9 @@ use Rattle.sctp_tx_outstanding.specs.Sizes.{IsLargeAt}
 use Rattle.sctp_tx_outstanding.specs.OutstandingData.{change_at, when}
 use Rattle.sctp_tx_outstanding.specs.declared.runs.Run.{Run}
 use Rattle.sctp_tx_outstanding.specs.Runs.{run_of, bit_of, nothing_known, known_of, IsKnown, IsKnownOf, AreKnown, SameBut, IsGivenUpOf}
-use Rattle.sctp_tx_outstanding.specs.Quiet.{flies_of, flies_at}
+use Rattle.sctp_tx_outstanding.specs.Flights.{flies_of, flies_at}
 use Rattle.sctp_tx_outstanding.specs.Waiting.{waits_of, waits_at, IsAtLeast}
-use Rattle.sctp_tx_outstanding.proofs.WaitingLemmas.{same_fragment}
+use Rattle.sctp_tx_outstanding.proofs.WaitingLemmas.{same_fragment, false_from_none}
 
 -- ---- bits
 
@@ -274,10 +274,12 @@ as_before true false e = absurd (omega (arith, e))
 as_before false true e = absurd (omega (arith, e))
 as_before false false e = refl
 
-module _ (m : Bool) (x : Change) (old new : Totals) (flights : old.flights ≡ new.flights) (queued : old.queued ≡ new.queued) (fast : old.fast ≡ new.fast) where
+module _ (m : Bool) (x : Change) (old new : Totals) (queued : old.queued ≡ new.queued) (fast : old.fast ≡ new.fast) where
   module _ (i : Item) (a : old ≡ parts m i) (b : new ≡ parts m (apply_change x i)) where
-    same_flies : is_outstanding i ≡ is_outstanding (apply_change x i)
-    same_flies = as_before (is_outstanding i) (is_outstanding (apply_change x i)) (omega (arith, flights, ap (λ (t : Totals). t.flights) a, ap (λ (t : Totals). t.flights) b))
+    lands : new.flights ≤ old.flights → is_outstanding i ≡ false → is_outstanding (apply_change x i) ≡ false
+    lands flights h =
+        let none : when (is_outstanding i) 1 ≡ 0 = ap (λ c. when c 1) h in
+        false_from_none (is_outstanding (apply_change x i)) (omega (arith, flights, none, ap (λ (t : Totals). t.flights) a, ap (λ (t : Totals). t.flights) b))
 
     same_waits : should_be_retransmitted i ≡ should_be_retransmitted (apply_change x i)
     same_waits = as_before (should_be_retransmitted i) (should_be_retransmitted (apply_change x i)) (omega (arith, queued, ap (λ (t : Totals). t.queued) a, ap (λ (t : Totals). t.queued) b))
@@ -290,21 +292,22 @@ module _ (m : Bool) (x : Change) (old new : Totals) (flights : old.flights ≡ n
         let same : length (apply_change x i).fragment.payload ≡ length i.fragment.payload = ap (λ f. length f.payload) (same_fragment x i) in
         omega (arith, same, h (same_waits ∙ w))
 
-    still_known : (r : Run) (bit : ℕ) → IsKnown r bit i → IsKnown r bit (apply_change x i)
-    still_known r bit h = record {
-      flies = λ e. sym same_flies ∙ h.flies e;
+    still_known : (r : Run) (bit : ℕ) → (bit_at r.flying bit ≡ 0 → new.flights ≤ old.flights) → IsKnown r bit i → IsKnown r bit (apply_change x i)
+    still_known r bit flights h = record {
+      flies = λ e. lands (flights e) (h.flies e);
       waits = λ e. sym same_waits ∙ h.waits e;
       fast = λ e. sym same_fast ∙ h.fast e;
       given_up = λ e. for_good x i (given_up_is i.state (h.given_up e));
       least = still_least r.least h.least;
     }
 
-  pub known_still : (p : ℕ) (is : List Item) → Exchanges m p x is old new → (r : Run) (bit k : ℕ) → IsKnownOf r bit (slice_get is k) → IsKnownOf r bit (slice_get (change_at p (apply_change x) is) k)
-  known_still p [] e r bit k h = h
-  known_still zero (i ∷ is) e r bit zero h = still_known i e.0 e.1 r bit h
-  known_still zero (i ∷ is) e r bit (suc k) h = h
-  known_still (suc p) (i ∷ is) e r bit zero h = h
-  known_still (suc p) (i ∷ is) e r bit (suc k) h = known_still p is e r bit k h
+  pub known_still : (p : ℕ) (is : List Item) → Exchanges m p x is old new → (r : Run) (bit k : ℕ) → (k ≡ p → bit_at r.flying bit ≡ 0 → new.flights ≤ old.flights)
+      → IsKnownOf r bit (slice_get is k) → IsKnownOf r bit (slice_get (change_at p (apply_change x) is) k)
+  known_still p [] e r bit k flights h = h
+  known_still zero (i ∷ is) e r bit zero flights h = still_known i e.0 e.1 r bit (flights refl) h
+  known_still zero (i ∷ is) e r bit (suc k) flights h = h
+  known_still (suc p) (i ∷ is) e r bit zero flights h = h
+  known_still (suc p) (i ∷ is) e r bit (suc k) flights h = known_still p is e r bit k (λ d. flights (ap (λ n. suc n) d)) h
 
   pub least_still : (p : ℕ) (is : List Item) → Exchanges m p x is old new → (least k : ℕ) → IsLargeAt least k is → IsLargeAt least k (change_at p (apply_change x) is)
   least_still p [] e least k h = h

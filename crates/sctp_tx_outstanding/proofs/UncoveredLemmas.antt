@@ -14,8 +14,8 @@ use Rattle.sctp_tx_outstanding.specs.Losses.{Step, first_step, placeholder, plac
 use Rattle.sctp_tx_outstanding.specs.Passes.{AllAre}
 use Rattle.sctp_tx_outstanding.specs.LastBlocks.{Rests, Rest}
 use Rattle.sctp_tx_outstanding.proofs.ReceivedLemmas.{still, state_of_lem, rest_changed, rest_laid}
-use Rattle.sctp_tx_outstanding.specs.Quiet.{flies_at, NoneFlies}
-use Rattle.sctp_tx_outstanding.proofs.QuietLemmas.{passed}
+use Rattle.sctp_tx_outstanding.specs.Flights.{flies_at, NoneFlies}
+use Rattle.sctp_tx_outstanding.proofs.FlightsLemmas.{passed}
 
 -- ---- what blocks cover isn't outstanding
 

@@ -17,7 +17,7 @@ pub mod Numbers
 pub mod Passed
 pub mod Passes
 pub mod Point
-pub mod Quiet
+pub mod Flights
 pub mod Records
 pub mod Resending
 pub mod Runs

@@ -1,6 +1,7 @@
 //! The indexes of the kept items.
 
-ghost use Rattle.std.specs.Prelude.{◌≡◌, ◌-◌, ◌∷◌, [], Bool, true, List, length, take};
+ghost use Rattle.std.specs.Prelude.{◌≡◌, ◌-◌, ◌≤◌, ◌∷◌, [], Bool, true, List, length, take};
+ghost use Rattle.std.specs.Int.{bit_at};
 ghost use Rattle.sctp_tx_outstanding.specs.Item.{Item};
 ghost use Rattle.sctp_tx_outstanding.specs.Change.{apply_change};
 ghost use Rattle.std.specs.List.{sum_by};
@@ -8,7 +9,7 @@ ghost use Rattle.sctp_tx_outstanding.specs.OutstandingData.{change_at, queued_pa
 ghost use Rattle.sctp_tx_outstanding.specs.declared.totals.Totals.{Totals};
 ghost use Rattle.sctp_tx_outstanding.specs.declared.kept.Change.{Change};
 ghost use Rattle.sctp_tx_outstanding.specs.Totals.{Exchanges, HasPart, replace_part};
-ghost use Rattle.sctp_tx_outstanding.specs.Runs.{SameBut};
+ghost use Rattle.sctp_tx_outstanding.specs.Runs.{SameBut, run_of, bit_of, known_of};
 ghost use Rattle.sctp_tx_outstanding.specs.Sizes.{AreAtLeast};
 ghost use Rattle.sctp_tx_outstanding.specs.Indexes.{AreIndexes};
 
@@ -64,6 +65,20 @@ fn stays_listed(how: Change, totals: Totals, old: Totals, new: Totals) -> bool
         return false;
     }
     new.earliest == u128::MAX
+}
+
+/// Whether what is known of an item by its run, and the least size, stand after its change. One that is acknowledged keeps its bit of
+/// those in flight: missing reports pass what blocks cover, and if it is taken back, it has the bit.
+#[inline(always)]
+fn stays_in_runs(runs: &Runs, place: usize, how: Change, old: Totals, new: Totals) -> bool
+    ensures flights { result ≡ true → bit_at (known_of runs.now.known.items (run_of runs.now.offset place)).flying (bit_of runs.now.offset place) ≡ 0 → new.flights ≤ old.flights }
+    ensures queued { result ≡ true → old.queued ≡ new.queued }
+    ensures fast { result ≡ true → old.fast ≡ new.fast }
+{
+    if matches!(how, Change::Abandon) || old.queued != new.queued || old.fast != new.fast {
+        return false;
+    }
+    new.flights <= old.flights || runs.may_fly(place)
 }
 
 impl Indexes {
@@ -143,6 +158,9 @@ impl Indexes {
             return;
         }
         self.totals = totals.exchanged(old, new);
+        if stays_in_runs(&self.runs, place, how, old, new) {
+            return;
+        }
         self.least = follow_least(self.least, items, place, self.totals.queued);
         self.runs.see(items, place);
     }

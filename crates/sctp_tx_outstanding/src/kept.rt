@@ -13,7 +13,7 @@ ghost use Rattle.sctp_tx_outstanding.specs.Views.{last_tree, point_of};
 ghost use Rattle.sctp_tx_outstanding.specs.LastBlocks.{Rest, Knows};
 ghost use Rattle.sctp_tx_outstanding.specs.Sack.{all_leaving_events, open_size};
 ghost use Rattle.sctp_tx_outstanding.specs.Messages.{Finds, NoneIsOf};
-ghost use Rattle.sctp_tx_outstanding.specs.Quiet.{NoneFlies};
+ghost use Rattle.sctp_tx_outstanding.specs.Flights.{NoneFlies};
 ghost use Rattle.sctp_tx_outstanding.specs.Runs.{AreGivenUp};
 ghost use Rattle.sctp_tx_outstanding.specs.Waiting.{NoneWaits};
 ghost use Rattle.sctp_tx_outstanding.specs.Sizes.{NoneFits};
@@ -349,6 +349,13 @@ impl Kept {
         ensures given_up { AreGivenUp place result self.now.items }
     {
         self.indexes.runs.pass_given_up(place)
+    }
+
+    /// A place from this one on up to which of no item it is known that it was given up.
+    pub(crate) fn next_given_up(&self, place: usize) -> usize
+        ensures onward { place ≤ result }
+    {
+        self.indexes.runs.next_given_up(place)
     }
 
     /// The bytes of the chunks in flight or missing, with their headers and padding.

@@ -13,14 +13,13 @@ ghost use Rattle.sctp_tx_outstanding.specs.Views.{discard_of, point_of};
 ghost use Rattle.sctp_tx_outstanding.specs.Losses.{loss_of};
 ghost use Rattle.sctp_tx_outstanding.specs.OutstandingData.{append_item, begin_reset, is_last, begun_at};
 ghost use Rattle.sctp_tx_outstanding.specs.LastBlocks.{Rest};
-ghost use Rattle.sctp_tx_outstanding.specs.Quiet.{flies_at};
+ghost use Rattle.sctp_tx_outstanding.specs.Flights.{flies_at};
 ghost use Rattle.sctp_tx_outstanding.specs.Expiries.{FindsDue};
 ghost use Rattle.sctp_tx_outstanding.specs.Interrupted.{Same, SomeNacked, SomeExpired, SackPartlyTaken};
 ghost use Rattle.sctp_tx_outstanding.specs.Forward.{is_forward_due, stops, forward_point};
 ghost use Rattle.sctp_tx_outstanding.specs.Sack.{sample, is_in_range, is_valid, staying, leaving, departing_bytes, all_leaving_events, receive_sack, acked_bytes, highest_end};
 
 mod handover;
-mod idle;
 mod resending;
 
 use crate::breakpoints::Breakpoints;
@@ -28,7 +27,7 @@ use crate::expiries::Due;
 use crate::item::Item;
 use crate::kept::{Change, Kept, abandon_all, placeholder};
 use crate::passed::ForwardPoint;
-use crate::sack::{AckInfo, highest_end, settle_all, take_out};
+use crate::sack::{AckInfo, highest_end, pass_idle, settle_all, take_out};
 use crate::skips::{mid_skips, pass, ssn_skips};
 use sctp_chunk::{
     Data, ForwardTsnChunk, GapAckBlock, IForwardTsnChunk, SackChunk, SpareBuffers, are_runs,
@@ -397,7 +396,7 @@ impl OutstandingData {
         let mut from = 0;
         let mut place = 0;
         while place < count {
-            let (block, next) = self.pass_idle(blocks, is_in_runs, from, place, count);
+            let (block, next) = pass_idle(&self.kept, blocks, is_in_runs, from, place, count);
             if count <= next {
                 return Ok(is_lossy);
             }

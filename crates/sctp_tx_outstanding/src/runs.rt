@@ -182,7 +182,7 @@ pub struct Runs {
 
 impl Runs {
     ghost use Rattle.std.specs.Prelude.{◌∷◌, [], List, length};
-    ghost use Rattle.sctp_tx_outstanding.specs.Quiet.{NoneFlies};
+    ghost use Rattle.sctp_tx_outstanding.specs.Flights.{NoneFlies};
     ghost use Rattle.sctp_tx_outstanding.specs.Waiting.{NoneWaits};
     ghost use Rattle.sctp_tx_outstanding.specs.Runs.{HasRuns, SameBut, AreGivenUp};
 
@@ -255,6 +255,15 @@ impl Runs {
         *known = known.with_item(bit, item);
     }
 
+    /// Whether the item at the place has the bit of those that may be in flight or missing.
+    #[inline(always)]
+    pub fn may_fly(&self, place: usize) -> bool
+        ensures { result ≡ true → bit_at (known_of self.now.known.items (run_of self.now.offset place)).flying (bit_of self.now.offset place) ≡ 1 }
+    {
+        let flying = self.bits(Bits::Flying, run_of(self.offset, place));
+        with_bit(flying, bit_of(self.offset, place), true) == flying
+    }
+
     /// The first item leaves.
     pub fn pass(&mut self)
         ensures { (i : Item) (is : List Item) → HasRuns self.old (i ∷ is) → HasRuns self.new is }
@@ -322,6 +331,15 @@ impl Runs {
     {
         let known = self.given_up(run_of(self.offset, place));
         let count = clear_from(!known, bit_of(self.offset, place));
+        place.saturating_add(count as usize)
+    }
+
+    /// A place from this one on up to which of no item of its run it is known that it was given up.
+    pub fn next_given_up(&self, place: usize) -> usize
+        ensures onward { place ≤ result }
+    {
+        let known = self.given_up(run_of(self.offset, place));
+        let count = clear_from(known, bit_of(self.offset, place));
         place.saturating_add(count as usize)
     }
 }

@@ -6,7 +6,7 @@ ghost use Rattle.sctp_tx_outstanding.specs.OutstandingData.{change_at};
 ghost use Rattle.sctp_tx_outstanding.specs.Sack.{departing_part, ack_or_uncover_all, newly_acked, below_highest, ack_or_uncover, bytes_of, newly_of, highest_end};
 ghost use Rattle.sctp_tx_outstanding.specs.LastBlocks.{Rest};
 ghost use Rattle.sctp_tx_outstanding.specs.Passes.{IsWalk, AllAre, Advances};
-ghost use Rattle.sctp_tx_outstanding.specs.Quiet.{NoneFlies};
+ghost use Rattle.sctp_tx_outstanding.specs.Flights.{NoneFlies};
 
 use crate::item::Item;
 use crate::kept::{Change, Kept};
@@ -133,7 +133,30 @@ fn settle_at(kept: &mut Kept, place: usize, is_covered: bool, covered: Covered) 
     }
 }
 
-/// Settles the items from one place up to another, of which blocks cover each or none. Those given up stay as they are.
+/// Settles the items from one place up to another, of which blocks cover each or none.
+fn settle_each(
+    kept: &mut Kept,
+    from: usize,
+    to: usize,
+    is_covered: bool,
+    covered: Covered,
+) -> Covered
+    requires onward { from ≤ to }
+    requires within { to ≤ length kept.old.items }
+    ensures mode { kept.new.is_interleaved ≡ kept.old.is_interleaved }
+    ensures length { length kept.new.items ≡ length kept.old.items }
+    ensures settled { (blocks : List GapAckBlock) → AllAre is_covered blocks 1 from to → Advances blocks kept.old.is_interleaved from to covered result kept.old.items kept.new.items }
+{
+    let mut found = covered;
+    let mut place = from;
+    while place < to {
+        found = settle_at(kept, place, is_covered, found);
+        place += 1;
+    }
+    found
+}
+
+/// The same, but those that are known to be given up are passed over, since they stay as they are.
 fn settle_range(
     kept: &mut Kept,
     from: usize,
@@ -150,12 +173,9 @@ fn settle_range(
     let mut place = from;
     while place < to {
         let next = kept.pass_given_up(place).min(to);
-        if next > place {
-            place = next;
-        } else {
-            found = settle_at(kept, place, is_covered, found);
-            place += 1;
-        }
+        let end = kept.next_given_up(next).max(place + 1).min(to);
+        found = settle_each(kept, next, end, is_covered, found);
+        place = end;
     }
     found
 }

@@ -10,16 +10,16 @@ use Rattle.std.proofs.lemmas.Map.{keys-set_value}
 use Rattle.sctp_serial.specs.declared.api.StreamId.{StreamId}
 use Rattle.sctp_serial.proofs.NumberLemmas.{at_itself, at_equal, equal_at}
 use Rattle.sctp_stream_scheduler.specs.StreamScheduler.{Times, Scheduler, finish_time, is_active, finish_now, leave, enter, accept, accepted_at, set_bytes_remaining}
-use Rattle.sctp_tx_queue.specs.SendQueue.{Queue, Queued, Stream, Streams, stream, put_stream, sendable, set_sendable}
+use Rattle.sctp_tx_queue.specs.SendQueue.{Queue, Queued, Stream, Streams, stream, put_stream, sendable, set_sendable, has_nothing, front_left}
 use Rattle.sctp_state.specs.Events.{Emitted}
 use Rattle.sctp_tx_queue.specs.Interrupted.{Same}
 use Rattle.sctp_tx_queue.specs.Produced.{Produced, in_line, begun_by, pause_if_pending}
 use Rattle.sctp_tx_queue.specs.Settings.{begun_without, front_discarded, without_front, streams_discarded, discard_from, discard}
-use Rattle.sctp_tx_queue.specs.Restarted.{restart, restarted_one, each_restarted, is_restarted, is_in_line, is_begun, is_kept, is_settled_as, is_settled, is_among, may_differ, ResetKeeps, AreSettled, Joins, after_reset, unbegun, reset, SomeRestarted}
+use Rattle.sctp_tx_queue.specs.Restarted.{whole_front, is_front_unbegun, restart, restarted_one, each_restarted, is_restarted, is_in_line, is_begun, is_kept, is_settled_as, is_settled, is_among, may_differ, ResetKeeps, AreSettled, Joins, after_reset, unbegun, reset, SomeRestarted}
 use Rattle.sctp_tx_queue.proofs.CommonLemmas.{there_among}
 use Rattle.sctp_tx_queue.proofs.RestartLemmas.{restart_same, line_same}
 use Rattle.sctp_tx_queue.proofs.StaysBegunLemmas.{written_elsewhere, inserted_elsewhere}
-use Rattle.sctp_tx_queue.proofs.StreamsLemmas.{put_nowhere, put_same, stream_there}
+use Rattle.sctp_tx_queue.proofs.StreamsLemmas.{put_nowhere, put_same, stream_there, changed_there, changed_nowhere}
 
 -- ---- those that may have changed
 
@@ -202,6 +202,57 @@ kept_settled id q h =
     go : (o : Option Stream) → lookup (is_at (nat_cmp id)) q.streams.entries ≡ o → (is_restarted (stream id q.streams) && is_in_line id (sendable (stream id q.streams)) q.scheduler) ≡ true → is_settled_as id o q.scheduler ≡ true
     go None e s = refl
     go (Some v) e s = ap (λ (t : Stream). is_restarted t && is_in_line id (sendable t) q.scheduler) (sym (stream_there id v q.streams (sym e))) ∙ s
+
+-- ---- a stream on which no message waits
+
+idle_sendable : (s : Stream) → has_nothing s ≡ true → sendable (restart s) ≡ 0
+idle_sendable s h = go s.messages h
+  where
+    go : (ms : List Queued) → (length ms == 0) ≡ true → front_left (whole_front ms) ≡ 0
+    go [] h = refl
+    go (m ∷ rest) h = absurd (omega (arith, eqb-true (length (m ∷ rest)) 0 h))
+
+idle_restarted : (s : Stream) → has_nothing s ≡ true → is_restarted (restart s) ≡ true
+idle_restarted s h = go s.messages h
+  where
+    go : (ms : List Queued) → (length ms == 0) ≡ true → is_front_unbegun (whole_front ms) ≡ true
+    go [] h = refl
+    go (m ∷ rest) h = absurd (omega (arith, eqb-true (length (m ∷ rest)) 0 h))
+
+module _ (id : ℕ) (ss : Streams) (h : has_nothing (stream id ss) ≡ true) where
+  abbrev restarted_in : Streams
+  restarted_in = put_stream id (restart (stream id ss)) ss
+
+  pub idle_sendable_in : sendable (stream id restarted_in) ≡ 0
+  idle_sendable_in = go (lookup (is_at (nat_cmp id)) ss.entries) refl
+    where
+      go : (o : Option Stream) → lookup (is_at (nat_cmp id)) ss.entries ≡ o → sendable (stream id restarted_in) ≡ 0
+      go None e = ap sendable (changed_nowhere id (restart (stream id ss)) ss (sym e))
+      go (Some s) e = ap sendable (changed_there id s (restart (stream id ss)) ss (sym e)) ∙ idle_sendable (stream id ss) h
+
+  idle_restarted_in : is_restarted (stream id restarted_in) ≡ true
+  idle_restarted_in = go (lookup (is_at (nat_cmp id)) ss.entries) refl
+    where
+      go : (o : Option Stream) → lookup (is_at (nat_cmp id)) ss.entries ≡ o → is_restarted (stream id restarted_in) ≡ true
+      go None e = ap is_restarted (changed_nowhere id (restart (stream id ss)) ss (sym e))
+      go (Some s) e = ap is_restarted (changed_there id s (restart (stream id ss)) ss (sym e)) ∙ idle_restarted (stream id ss) h
+
+-- it is settled, if it isn't active then
+pub idle_settled : (id : ℕ) (q : Queue) → has_nothing (stream id q.streams) ≡ true → not (is_active id (restarted_one id q).scheduler) ≡ true → is_settled id (restarted_one id q) ≡ true
+idle_settled id q h inactive =
+    let r : Queue = restarted_one id q in
+    let t : Stream = stream id r.streams in
+    let line : is_in_line id (sendable t) r.scheduler ≡ true = ap (λ n. is_in_line id n r.scheduler) (idle_sendable_in id q.streams h) ∙ inactive in
+    kept_settled id r (whole (is_begun id r.begun) (is_restarted t && is_in_line id (sendable t) r.scheduler) (not_begun id q.begun)
+    (ap (λ b. b && is_in_line id (sendable t) r.scheduler) (idle_restarted_in id q.streams h) ∙ line))
+  where
+    not_begun : (id : ℕ) (o : Option ℕ) → is_begun id (begun_without id o) ≡ false
+    not_begun id None = refl
+    not_begun id (Some b) = go (b == id) refl
+      where
+        go : (t : Bool) → (b == id) ≡ t → is_begun id (cond t None (Some b)) ≡ false
+        go true e = refl
+        go false e = e
 
 -- a stream that is there and settled
 settled_same : (id : ℕ) (q : Queue) → is_some (lookup (is_at (nat_cmp id)) q.streams.entries) ≡ true → is_settled id q ≡ true → restarted_one id q ≡ q

@@ -1,6 +1,6 @@
 //! Messages that wait to be sent.
 
-ghost use Rattle.std.specs.Prelude.{◌≡◌, ℕ, ◌<◌, ◌^◌, ◌==◌, ◌||◌, true, [], length, not, is_some, None, Some, IsSome, IfOk, OnOk, OnErr, option_map, map, take};
+ghost use Rattle.std.specs.Prelude.{◌≡◌, ℕ, ◌<◌, ◌^◌, ◌==◌, ◌||◌, true, false, [], length, not, is_some, None, Some, IsSome, IfOk, OnOk, OnErr, option_map, map, take};
 ghost use Rattle.std.specs.List.{list_any};
 ghost use Rattle.std.specs.List.Sorted.{IsStrictlySortedBy};
 ghost use Rattle.std.specs.Map.{lookup, keys_of, values_of};
@@ -10,7 +10,7 @@ ghost use Rattle.sctp_state.specs.Options.{options_of};
 ghost use Rattle.sctp_state.specs.Events.{Grown, expired_events, emit_events};
 ghost use Rattle.sctp_stream_scheduler.specs.StreamScheduler.{set_bytes_remaining};
 ghost use Rattle.sctp_tx_queue.specs.declared.send_queue.stream.ResetStep.TheVariants.{Requested, Performed, Refused};
-ghost use Rattle.sctp_tx_queue.specs.SendQueue.{amount_of, total_of, stream, with_stream, queue, add, is_empty};
+ghost use Rattle.sctp_tx_queue.specs.SendQueue.{amount_of, total_of, stream, with_stream, queue, add, is_empty, has_nothing};
 ghost use Rattle.sctp_tx_queue.specs.Produced.{begun_by, turn, turn_from, produce, next_stream};
 ghost use Rattle.sctp_tx_queue.specs.Settings.{set_low_threshold, set_priority, set_mode, discard, begun_without};
 ghost use Rattle.sctp_tx_queue.specs.Resets.{prepare_reset, emit_unsent, is_ready, streams_to_request, request_resets, commit_resets, roll_back_resets, apply_reset_step, each_stepped};
@@ -552,11 +552,30 @@ impl SendQueue {
         ensures settled { IfOk result (λ are_settled. are_settled ≡ true → (so_far ≡ true) × (is_settled id.0 self.new ≡ true)) }
         ensures err { OnErr result (self.new ≡ self.old) }
     {
+        if self.restart_idle(id) {
+            return Ok(so_far && !self.scheduler.is_active(id));
+        }
         if self.is_kept(id) {
             return Ok(so_far);
         }
         self.restart_one(id)?;
         Ok(so_far && self.is_kept(id))
+    }
+
+    /// Restarts a stream on which no message waits, which needs no memory. The answer is whether it is one.
+    fn restart_idle(&mut self, id: StreamId) -> bool
+        ensures idle { result ≡ true → has_nothing (stream id.0 self.old.streams) ≡ true }
+        ensures done { result ≡ true → self.new ≡ restarted_one id.0 self.old }
+        ensures same { result ≡ false → self.new ≡ self.old }
+    {
+        if self.streams.has_messages(id) {
+            return false;
+        }
+        self.changed.add(id);
+        self.scheduler.leave(id);
+        self.streams.change(id, StreamChange::Restart);
+        self.begun = begun_without(id, self.begun);
+        true
     }
 
     /// Whether a restart of a stream changes nothing.

@@ -50,6 +50,10 @@ has_room o tsn t = not (is_full t.reassembly) || takes_next o tsn t
 abbrev pub accepts_tsn : Options → (tsn : ℕ) → Tcb → Bool
 accepts_tsn o tsn t = has_room o tsn t && is_valid t.tracker.tracker (number_of t.tracker tsn)
 
+-- one that is taken: its TSN is, and where it waits for a reset, it may
+abbrev pub accepts_fragment : Options → (tsn : ℕ) → FragmentTree → Tcb → Bool
+accepts_fragment o tsn f t = accepts_tsn o tsn t && reassembly.admits_fragment tsn f.stream_id t.reassembly
+
 -- what is dropped for want of room is answered at once, with what was taken so far
 abbrev pub told_unless : (has_room : Bool) → Tcb → Tcb
 told_unless true t = t
@@ -79,7 +83,7 @@ fragment_if false tsn is_immediate f t = t
 
 abbrev pub take_data : Options → (tsn : ℕ) → (is_immediate : Bool) → FragmentTree → Tcb → Tcb
 take_data o tsn is_immediate f t =
-    fragment_if (accepts_tsn o tsn t) tsn is_immediate f (told_of_drop o.avoid_stalls (has_room o tsn t) t)
+    fragment_if (accepts_fragment o tsn f t) tsn is_immediate f (told_of_drop o.avoid_stalls (has_room o tsn t) t)
 
 abbrev pub on_data_in : {P : Type 0} → State → (tsn : ℕ) → (is_immediate : Bool) → FragmentTree → Context P → EndpointState P
 on_data_in Closed tsn is_immediate f c = record { state = Closed; context = not_connected c }

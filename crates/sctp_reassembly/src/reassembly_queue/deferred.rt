@@ -27,6 +27,9 @@ pub(crate) struct Deferred {
 /// No more entries of forward points wait, with each point itself.
 const MOST_ENTRIES: usize = 65_536;
 
+/// No more fragments wait.
+const MOST_FRAGMENTS: usize = 4_096;
+
 impl Model for Deferred {
     ghost use Rattle.std.specs.Prelude.{map};
     ghost use Rattle.sctp_reassembly.specs.ReassemblyQueue.{Deferred, IsDeferred};
@@ -40,7 +43,7 @@ impl Model for Deferred {
 }
 
 impl Deferred {
-    ghost use Rattle.sctp_reassembly.specs.ReassemblyQueue.{waiting_bytes, waiting_fragments, waiting_number, waiting_entries, most_waiting_entries, AreSmall};
+    ghost use Rattle.sctp_reassembly.specs.ReassemblyQueue.{waiting_bytes, waiting_fragments, waiting_number, waiting_entries, most_waiting_entries, most_waiting_fragments, AreSmall};
 
     /// A reset for which nothing waits.
     pub fn new(alloc: Global, last: u64, ids: &[StreamId]) -> Result<Deferred, AllocError>
@@ -121,6 +124,13 @@ impl Deferred {
         ensures { result ≡ nat_le (sum_by waiting_entries self.now.waiting + suc count) most_waiting_entries }
     {
         self.entries < MOST_ENTRIES && count < MOST_ENTRIES - self.entries
+    }
+
+    /// Whether one fragment more may wait.
+    pub fn has_room_for_fragment(&self) -> bool
+        ensures { result ≡ nat_lt (sum_by waiting_fragments self.now.waiting) most_waiting_fragments }
+    {
+        self.fragments < MOST_FRAGMENTS
     }
 
     /// What waits, in order.

@@ -1,6 +1,6 @@
 //! The streams that were named, and what is left on all of them.
 
-ghost use Rattle.std.specs.Prelude.{◌≡◌, ◌+◌, ◌<◌, ◌≤◌, ◌^◌, ◌==◌, true, [], ◌∷◌, ◌++◌, if◌then◌else◌, None, Some, IsTrue, IsSome, IfOk, OnOk, OnErr, option_map, map, take, filter};
+ghost use Rattle.std.specs.Prelude.{◌≡◌, ◌+◌, ◌<◌, ◌≤◌, ◌^◌, ◌==◌, not, true, [], ◌∷◌, ◌++◌, if◌then◌else◌, None, Some, IsTrue, IsSome, IfOk, OnOk, OnErr, option_map, map, take, filter};
 ghost use Rattle.std.specs.Map.{lookup, keys_of, values_of};
 ghost use Rattle.std.specs.List.{list_all, list_any};
 ghost use Rattle.std.specs.List.Sorted.{IsStrictlySortedBy};
@@ -431,6 +431,16 @@ impl Streams {
         match self.streams.get(&id.0) {
             Some(stream) => stream.is_restarted(),
             None => true,
+        }
+    }
+
+    /// Whether messages wait on a stream.
+    pub(crate) fn has_messages(&self, id: StreamId) -> bool
+        ensures { result ≡ not (has_nothing (stream id.0 self.now)) }
+    {
+        match self.streams.get(&id.0) {
+            Some(stream) => stream.has_messages(),
+            None => false,
         }
     }
 

@@ -1,6 +1,6 @@
 use Rattle.std.proofs.Common.{◌≤◌, ◌+◌, ◌-◌}
 use Rattle.sctp_tx_outstanding.specs.Passes.{IsWalk}
-use Rattle.sctp_tx_outstanding.specs.Quiet.{NoneFlies}
+use Rattle.sctp_tx_outstanding.specs.Flights.{NoneFlies}
 use Rattle.sctp_tx_outstanding.proofs.sack.pass_idle.Given as goal
 
 abbrev pub invariant-loop-next : goal.invariant-loop-next

@@ -1,55 +1,36 @@
-use Rattle.std.proofs.Common.{◌≡◌, ◌+◌, ◌-◌, ◌^◌, ◌<◌, ◌≤◌, List, min, length, ap, subst, ◌∙◌, arith}
-use Rattle.std.specs.Prelude.{slice_get}
-use Rattle.sctp_tx_outstanding.specs.Item.{Item}
-use Rattle.sctp_tx_outstanding.specs.OutstandingData.{Kept, change_at}
-use Rattle.sctp_tx_outstanding.specs.Sack.{ack_or_uncover, bytes_of}
+use Rattle.std.proofs.Common.{◌≡◌, ◌+◌, ◌-◌, ◌≤◌, subst, ◌∙◌, arith}
 use Rattle.sctp_tx_outstanding.specs.Passes.{Advances}
-use Rattle.sctp_tx_outstanding.proofs.TotalsLemmas.{length_change}
-use Rattle.sctp_tx_outstanding.proofs.AdvanceLemmas.{step_by, further, passes, rest_given_up}
+use Rattle.sctp_tx_outstanding.proofs.AdvanceLemmas.{further, passes, rest_given_up}
 use Rattle.sctp_tx_outstanding.proofs.sack.settle_range.Goals as goal
-
-pub loop-place-preserved-then-next-place : goal.loop-place-preserved-then-next-place
-loop-place-preserved-then-next-place c =
-    let k = c.loop-place.place in
-    let next = c.min-next.result in
-    let before = c.loop-place.invariant in
-    let found = c.loop-place.found in
-    let m = c.args.kept.now.is_interleaved in
-    let is = c.loop-place.kept.items in
-    let onward : k ≤ next = omega (arith, c.if-next-place.true) in
-    record {
-      mode = before.mode;
-      onward = omega (arith, before.onward, onward);
-      within = omega (arith, c.min-next.ensures);
-      length = before.length;
-      settled = λ bs alike.
-          further bs m c.args.from k next c.args.covered found found c.args.kept.now.items is is onward (before.settled bs alike)
-          (passes bs m k next found is onward (before.settled bs alike).fits (rest_given_up bs k (next - k) (k + 1) is (λ j above below. c.pass_given_up.ensures.given_up j above (omega (arith, below, onward, c.min-next.ensures)))));
-    }
 
 pub loop-place-preserved : goal.loop-place-preserved
 loop-place-preserved c =
     let k = c.loop-place.place in
+    let next = c.min-next.result in
+    let end = c.min-end.result in
     let before = c.loop-place.invariant in
     let found = c.loop-place.found in
-    let settled = c.settle_at-found.ensures in
     let m = c.args.kept.now.is_interleaved in
+    let first = c.args.kept.now.items in
     let is = c.loop-place.kept.items in
-    let js = c.settle_at-found.new.kept.items in
-    let there : js ≡ change_at k (ack_or_uncover c.args.is_covered) is = ap (λ (x : Kept). x.items) settled.items in
-    let bytes : c.settle_at-found.result.bytes ≡ min (found.bytes + bytes_of c.args.is_covered m (slice_get is k)) (2 ^ 64 - 1) =
-    settled.bytes ∙ ap (λ b. min (found.bytes + bytes_of c.args.is_covered b (slice_get is k)) (2 ^ 64 - 1)) before.mode in
-    let from : c.args.from ≤ k = omega arith in
-    let less : k < c.args.to = omega arith in
-    let within : k < length is = omega (arith, less, c.requires.within, before.length) in
+    let each = c.settle_each-found in
+    let js = each.new.kept.items in
+    let onward : k ≤ next = omega arith in
+    let ends : next ≤ end = omega arith in
+    let within : end ≤ c.args.to = omega arith in
     record {
-      mode = ap (λ (x : Kept). x.is_interleaved) settled.items ∙ before.mode;
-      onward = omega (arith, before.onward);
-      within = omega (arith, less);
-      length = ap (λ (xs : List Item). length xs) there ∙ length_change k (ack_or_uncover c.args.is_covered) is ∙ before.length;
+      mode = each.ensures.mode ∙ before.mode;
+      onward = omega (arith, before.onward, onward, ends);
+      within = within;
+      length = each.ensures.length ∙ before.length;
       settled = λ bs alike.
-          further bs m c.args.from k (k + 1) c.args.covered found c.settle_at-found.result c.args.kept.now.items is js (omega arith) (before.settled bs alike)
-          (step_by bs c.args.is_covered m k found c.settle_at-found.result is js (alike k from less) within there bytes settled.below);
+          let done : Advances bs m c.args.from k c.args.covered found first is = before.settled bs alike in
+          let passed : Advances bs m k next found found is is =
+          passes bs m k next found is onward done.fits (rest_given_up bs k (next - k) (k + 1) is (λ j above below. c.pass_given_up.ensures.given_up j above (omega (arith, below, onward)))) in
+          let settled : Advances bs m next end found each.result is js =
+          subst (λ x. Advances bs x next end found each.result is js) before.mode
+          (each.ensures.settled bs (λ p above below. alike p (omega (arith, above, onward, before.onward)) (omega (arith, below, within)))) in
+          further bs m c.args.from next end c.args.covered found each.result first is js ends (further bs m c.args.from k next c.args.covered found found first is is onward done passed) settled;
     }
 
 pub returns-clause-settled : goal.returns-clause-settled

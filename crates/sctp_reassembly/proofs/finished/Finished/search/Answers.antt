@@ -9,14 +9,14 @@ returns-in_default-clause-some g c rs none = least_earlier c.args.number (rank_a
 pub returns-clause-some : goal.returns-clause-some
 returns-clause-some g c =
     let is : c.args.self.now ≡ Some c.deref_mut.result.now = search rules in
-    search_some g.K.ReassemblyKey.number g.K.ReassemblyKey.index c.args.number (rank_at g.K.ReassemblyKey.number g.K.ReassemblyKey.index c.least_of-least.result) c.least_of-least.ensures c.args.self.now c.deref_mut.result.now c.take_first_from.new.keys is c.take_first_from.ensures.kept c.take_first_from.result c.take_first_from.ensures.some
+    search_some g.K.ReassemblyKey.number g.K.ReassemblyKey.index c.args.number (rank_at g.K.ReassemblyKey.number g.K.ReassemblyKey.index c.least_of-least.result) c.least_of-least.ensures c.args.self.now c.deref_mut.result.now c.search_from.new.keys is c.search_from.ensures.kept c.search_from.result c.search_from.ensures.some
 
 pub returns-clause-none : goal.returns-clause-none
 returns-clause-none g c =
     let is : c.args.self.now ≡ Some c.deref_mut.result.now = search rules in
-    search_none g.K.ReassemblyKey.number g.K.ReassemblyKey.index c.args.number (rank_at g.K.ReassemblyKey.number g.K.ReassemblyKey.index c.least_of-least.result) c.least_of-least.ensures c.args.self.now c.deref_mut.result.now c.take_first_from.new.keys is c.take_first_from.ensures.kept c.take_first_from.result c.take_first_from.ensures.none
+    search_none g.K.ReassemblyKey.number g.K.ReassemblyKey.index c.args.number (rank_at g.K.ReassemblyKey.number g.K.ReassemblyKey.index c.least_of-least.result) c.least_of-least.ensures c.args.self.now c.deref_mut.result.now c.search_from.new.keys is c.search_from.ensures.kept c.search_from.result c.search_from.ensures.none
 
 pub returns-clause-kept : goal.returns-clause-kept
 returns-clause-kept g c =
     let is : c.args.self.now ≡ Some c.deref_mut.result.now = search rules in
-    search_kept g.K.ReassemblyKey.number g.K.ReassemblyKey.index c.args.number (rank_at g.K.ReassemblyKey.number g.K.ReassemblyKey.index c.least_of-least.result) c.least_of-least.ensures c.args.self.now c.deref_mut.result.now c.take_first_from.new.keys is c.take_first_from.ensures.kept
+    search_kept g.K.ReassemblyKey.number g.K.ReassemblyKey.index c.args.number (rank_at g.K.ReassemblyKey.number g.K.ReassemblyKey.index c.least_of-least.result) c.least_of-least.ensures c.args.self.now c.deref_mut.result.now c.search_from.new.keys is c.search_from.ensures.kept

@@ -1,6 +1,6 @@
 use Rattle.std.proofs.Common.{◌≡◌, refl, false}
-use Rattle.sctp_tx_outstanding.specs.Quiet.{flies_at}
-use Rattle.sctp_tx_outstanding.proofs.QuietLemmas.{still_items, still_emitted, still_lossy}
+use Rattle.sctp_tx_outstanding.specs.Flights.{flies_at}
+use Rattle.sctp_tx_outstanding.proofs.FlightsLemmas.{still_items, still_emitted, still_lossy}
 use Rattle.sctp_tx_outstanding.proofs.outstanding_data.OutstandingData.nack_item.Goals as goal
 
 pub returns-in_default-clause-items : goal.returns-in_default-clause-items

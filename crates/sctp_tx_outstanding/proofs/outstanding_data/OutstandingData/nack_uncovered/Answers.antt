@@ -1,6 +1,6 @@
 use Rattle.std.proofs.Common.{subst, ◌∙◌, ◌+◌, ◌≤◌, refl, arith, false}
 use Rattle.sctp_tx_outstanding.specs.OutstandingData.{Outstanding}
-use Rattle.sctp_tx_outstanding.specs.Quiet.{NoneFlies}
+use Rattle.sctp_tx_outstanding.specs.Flights.{NoneFlies}
 use Rattle.sctp_tx_outstanding.proofs.LossesLemmas.{nack_next_items, nack_next_emitted, nack_next_lossy}
 use Rattle.sctp_tx_outstanding.proofs.ReceivedLemmas.{walk_begin, walk_past}
 use Rattle.sctp_tx_outstanding.proofs.UncoveredLemmas.{quiet_less, quiet_nowhere, passed_items, passed_emitted, passed_lossy, passed_rest}
@@ -25,7 +25,7 @@ loop-place-preserved c =
     let k = c.loop-place.place in
     let n = c.pass_idle-block.result.1 in
     let le : k ≤ n = c.pass_idle-block.ensures.onward in
-    let none = subst (λ (d : Outstanding). NoneFlies k n d.items.kept) c.loop-place.invariant.items c.pass_idle-block.ensures.none in
+    let none = subst (λ (d : Outstanding). NoneFlies k n d.items.kept) (c.self.view_is ∙ c.loop-place.invariant.items) c.pass_idle-block.ensures.none in
     let rest = c.loop-place.invariant.rest in
     let items = passed_items fast bs s emitted k n le rest none c.args.self.now c.loop-place.self c.loop-place.invariant.items in
     let events = passed_emitted fast bs s emitted k n le rest none c.loop-place.events c.loop-place.invariant.emitted in
@@ -42,21 +42,21 @@ loop-place-preserved c =
 pub returns-then-count-next-clause-items : goal.returns-then-count-next-clause-items
 returns-then-count-next-clause-items c =
     let k = c.loop-place.place in
-    let none = quiet_less k c.args.count c.pass_idle-block.result.1 _ c.if-count-next.true (subst (λ (d : Outstanding). NoneFlies k c.pass_idle-block.result.1 d.items.kept) c.loop-place.invariant.items c.pass_idle-block.ensures.none) in
+    let none = quiet_less k c.args.count c.pass_idle-block.result.1 _ c.if-count-next.true (subst (λ (d : Outstanding). NoneFlies k c.pass_idle-block.result.1 d.items.kept) (c.self.view_is ∙ c.loop-place.invariant.items) c.pass_idle-block.ensures.none) in
     passed_items c.args.fast c.args.blocks.now c.args.self.now.items c.args.events.now k c.args.count c.loop-place.invariant.within c.loop-place.invariant.rest none
     c.args.self.now c.loop-place.self c.loop-place.invariant.items
 
 pub returns-then-count-next-clause-emitted : goal.returns-then-count-next-clause-emitted
 returns-then-count-next-clause-emitted c =
     let k = c.loop-place.place in
-    let none = quiet_less k c.args.count c.pass_idle-block.result.1 _ c.if-count-next.true (subst (λ (d : Outstanding). NoneFlies k c.pass_idle-block.result.1 d.items.kept) c.loop-place.invariant.items c.pass_idle-block.ensures.none) in
+    let none = quiet_less k c.args.count c.pass_idle-block.result.1 _ c.if-count-next.true (subst (λ (d : Outstanding). NoneFlies k c.pass_idle-block.result.1 d.items.kept) (c.self.view_is ∙ c.loop-place.invariant.items) c.pass_idle-block.ensures.none) in
     passed_emitted c.args.fast c.args.blocks.now c.args.self.now.items c.args.events.now k c.args.count c.loop-place.invariant.within c.loop-place.invariant.rest none
     c.loop-place.events c.loop-place.invariant.emitted
 
 pub returns-then-count-next-clause-lossy : goal.returns-then-count-next-clause-lossy
 returns-then-count-next-clause-lossy c =
     let k = c.loop-place.place in
-    let none = quiet_less k c.args.count c.pass_idle-block.result.1 _ c.if-count-next.true (subst (λ (d : Outstanding). NoneFlies k c.pass_idle-block.result.1 d.items.kept) c.loop-place.invariant.items c.pass_idle-block.ensures.none) in
+    let none = quiet_less k c.args.count c.pass_idle-block.result.1 _ c.if-count-next.true (subst (λ (d : Outstanding). NoneFlies k c.pass_idle-block.result.1 d.items.kept) (c.self.view_is ∙ c.loop-place.invariant.items) c.pass_idle-block.ensures.none) in
     passed_lossy c.args.fast c.args.blocks.now c.args.self.now.items c.args.events.now k c.args.count c.loop-place.invariant.within c.loop-place.invariant.rest none
     c.loop-place.is_lossy c.loop-place.invariant.lossy
 

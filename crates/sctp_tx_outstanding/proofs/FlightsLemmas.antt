@@ -6,7 +6,7 @@ use Rattle.sctp_state.specs.declared.api.GivenUpCause.TheVariants.{Retransmissio
 use Rattle.sctp_tx_outstanding.specs.Item.{Item, is_in_flight, nack, is_lost, is_used_up}
 use Rattle.sctp_tx_outstanding.specs.OutstandingData.{Items, Outstanding, change_at}
 use Rattle.sctp_tx_outstanding.specs.Losses.{Step, first_step, abandon_with_record, is_to_be_abandoned, loses, change_items, nack_item, nack_at, nack_below}
-use Rattle.sctp_tx_outstanding.specs.Quiet.{flies_of, flies_at, NoneFlies}
+use Rattle.sctp_tx_outstanding.specs.Flights.{flies_of, flies_at, NoneFlies}
 use Rattle.sctp_tx_outstanding.proofs.ReceivedLemmas.{nack_still}
 use Rattle.sctp_tx_outstanding.proofs.LossesLemmas.{or_false}
 
