@@ -23,7 +23,7 @@
  *     call with this socket has begun, so that they aren't handed to that call either;
  *   - malloc aligns as C demands. No call is made in a signal handler, or in a forked child of a process with threads.
  * A handle that holds no socket (PIGEON_NO_HANDLE, or one that was freed) answers PIGEON_NO_SOCKET at each call whose numbers are right: sizes
- * of structs, a stream above 65,535, unknown flags and too few places for answers are looked at first.
+ * of structs, a stream above 65,535, what is PIGEON_INVALID_ARGUMENT and too few places for answers are looked at first.
  * Packets and cookies aren't signed: on a network that strangers reach they go through DTLS. Without it whoever sees a packet can forge others.
  * The archive that scripts/c-library writes is for processors of the level x86-64-v2 or above, and doesn't ask for it.
  */
@@ -74,7 +74,7 @@ enum {
     PIGEON_INVALID_STREAM = 6,   /* the stream's number is above 65,535 */
     PIGEON_INVALID_ARGUMENT = 7, /* flags that there aren't, or a number beyond what it can be */
     PIGEON_NOTHING = 8,          /* no event waits, or no message is ready */
-    PIGEON_SHORT_BUFFER = 9,     /* the length needed is handed out, and what didn't fit stays */
+    PIGEON_SHORT_BUFFER = 9,     /* the length needed is handed out, and what didn't fit stays; of pigeon_send_many: too few places for answers */
     PIGEON_EMPTY_PAYLOAD = 10,
     PIGEON_MESSAGE_TOO_LARGE = 11,
     PIGEON_SHUTTING_DOWN = 12, /* a closed socket queues the message, and answers PIGEON_OK */
@@ -173,7 +173,7 @@ typedef struct pigeon_options {
     uint32_t max_held_fragments;
     uint64_t rtt_max;
     uint64_t rto_initial;         /* at least a millisecond */
-    uint64_t rto_max;             /* at least rto_min; timers back off beyond it, but with PIGEON_AVOID_STALLS those of data and of resets */
+    uint64_t rto_max;             /* at least rto_min; timers back off beyond it; with PIGEON_AVOID_STALLS those of data and of resets don't */
     uint64_t rto_min;             /* at least a millisecond */
     uint64_t t1_init_timeout;     /* at least a millisecond */
     uint64_t t1_cookie_timeout;   /* at least a millisecond */
@@ -520,7 +520,8 @@ static inline uint32_t pigeon_borrow_event(pigeon_socket *socket, pigeon_event *
  * channels don't see. Nor is pigeon_send or pigeon_reset_stream called for a stream that has a channel. A channel's number is its stream's:
  * pigeon_buffered_amount, pigeon_set_buffered_amount_low_threshold and pigeon_buffered_amount_low_threshold take it, and PIGEON_BUFFERED_AMOUNT_LOW
  * says it. Channels end with their association, each with its PIGEON_CHANNEL_CLOSED before PIGEON_ON_CLOSED, PIGEON_ON_ABORTED or
- * PIGEON_ON_CONNECTION_RESTARTED; a record that is handed over has none.
+ * PIGEON_ON_CONNECTION_RESTARTED; a record that is handed over has none. pigeon_advance_time too may end it: an owner who connects again takes events
+ * behind it before it opens or sends. A channel that is opened between is closed with the old association, and what was sent goes out in the next one.
  *
  * Of each packet messages are told before events. So what comes with a COOKIE ECHO is told before PIGEON_ON_CONNECTED; and where the peer restarts
  * it is told as of the old channels, then all of these are closed, also one that it opened. What the old ones had queued goes out all the same.
@@ -580,8 +581,8 @@ static inline uint32_t pigeon_channel_open(pigeon_socket *socket, const pigeon_c
 }
 
 /* A channel that both ends have agreed on beforehand, by any number that is free; it is open at once. Whether the association
- * has its stream isn't looked at: negotiated_maximum_outgoing_streams of the metrics says it. PIGEON_INVALID_SIZE, PIGEON_INVALID_ARGUMENT,
- * PIGEON_NOT_UTF8, PIGEON_STREAM_IN_USE, PIGEON_NO_ROOM: nothing changes. */
+ * has its stream isn't looked at: the lesser of negotiated_maximum_incoming_streams and negotiated_maximum_outgoing_streams of the
+ * metrics says it. PIGEON_INVALID_SIZE, PIGEON_INVALID_ARGUMENT, PIGEON_NOT_UTF8, PIGEON_STREAM_IN_USE, PIGEON_NO_ROOM: nothing changes. */
 uint32_t pigeon_channel_negotiate_sized(pigeon_socket *socket, uint32_t channel, const void *options, size_t size, const uint8_t *label,
                                         size_t label_length, const uint8_t *protocol, size_t protocol_length);
 static inline uint32_t pigeon_channel_negotiate(pigeon_socket *socket, uint32_t channel, const pigeon_channel_options *options, const char *label,
@@ -596,9 +597,9 @@ static inline uint32_t pigeon_channel_negotiate(pigeon_socket *socket, uint32_t 
  * waits), PIGEON_NOT_TAKEN (where the queue of all is full: go on at PIGEON_TOTAL_BUFFERED_AMOUNT_LOW), PIGEON_NO_ROOM: it isn't sent. */
 uint32_t pigeon_channel_send(pigeon_socket *socket, uint32_t channel, uint32_t kind, const uint8_t *payload, size_t length);
 
-/* Closes a channel: what was accepted is sent, then its stream is reset. PIGEON_CHANNEL_CLOSED tells when that is done. Where the reset is
- * refused (no association yet, a peer without RFC 6525, or one that denies it) its number stays in use until the association ends. Advance the time
- * first. PIGEON_NO_CHANNEL. */
+/* Closes a channel: what was accepted is sent, then its stream is reset. PIGEON_CHANNEL_CLOSED tells when that is done. Where the peer closes
+ * a channel, also one that is being closed here, what waits for it is dropped, as by Chromium. Where the reset is refused (no association yet, a
+ * peer without RFC 6525, or one that denies it) its number stays in use until the association ends. Advance the time first. PIGEON_NO_CHANNEL. */
 uint32_t pigeon_channel_close(pigeon_socket *socket, uint32_t channel);
 
 /* Why something that came was not taken. */

@@ -50,6 +50,14 @@ def size_of(message: Union[str, bytes]) -> int:
     return len(message) * (1 if is_bytewise else 4) + 64
 
 
+def tell(loop: asyncio.AbstractEventLoop, what: str, owner: Callable[..., None], *told) -> None:
+    """Calls what may run an owner's code. What that raises goes to the loop's exception handler."""
+    try:
+        owner(*told)
+    except Exception as fault:
+        loop.call_exception_handler({"message": f"the owner failed at {what}", "exception": fault})
+
+
 class Driver:
     """Turns of a socket with channels in the running loop: it has the clock, and the timer by `poll_timeout`. `send` takes each packet, `handle` each
     other event; `turned` is called behind each turn, and `failed` where the socket has too little memory. What one of these raises goes to the
@@ -129,10 +137,7 @@ class Driver:
         self._tell("the end of a turn", self._turned)
 
     def _tell(self, what: str, owner: Callable[..., None], *told) -> None:
-        try:
-            owner(*told)
-        except Exception as fault:
-            self._loop.call_exception_handler({"message": f"the owner failed at {what}", "exception": fault})
+        tell(self._loop, what, owner, *told)
 
     def _set_timer(self) -> None:
         if self._stopped:
@@ -268,6 +273,10 @@ class Channel:
     def _gone(self) -> ChannelClosed:
         return ChannelClosed(f"channel {self.id} is closed")
 
+    def _texts(self) -> int:
+        """What its label and its protocol count."""
+        return size_of(self.label) + size_of(self.protocol)
+
     def _let_go(self) -> int:
         """Drops what came and wasn't received, and answers what it counted."""
         size = sum(map(size_of, self._came))
@@ -283,8 +292,9 @@ class Connection:
     """An association with data channels over a wire. `packet_received` takes what comes by it.
 
     Each channel buffers `high_water` bytes, then `Channel.send` waits. With `read_limit` bytes that came and weren't received, where each message
-    counts 64 more, and of text that isn't ASCII each character four, the wire is told to pause: what it then drops the peer sends again, and slower. So the channels that the peer opens are to be
-    accepted, and those that aren't read any more closed. While 1,024 wait to be accepted the next ones are closed.
+    counts 64 more, and of text that isn't ASCII each character four, the wire is told to pause: what it then drops the peer sends again, and slower.
+    Label and protocol of a channel count so until it is accepted. So the channels that the peer opens are to be accepted, and those that aren't read any
+    more closed. While 1,024 wait to be accepted the next ones are closed; one that the peer has closed meanwhile, by which nothing came, waits no more.
 
     Without `options` the window is twice `max_message_size`, which is what the peer may send, and as long a message may be sent, 262,144 bytes at
     least, where `peer_max_message_size` allows it. `max_kept_bytes` is as of `Channels`."""
@@ -361,7 +371,9 @@ class Connection:
             self._alive()
             self._news.clear()
             await self._news.wait()
-        return self._accepted.popleft()
+        channel = self._accepted.popleft()
+        self._read(channel._texts())
+        return channel
 
     async def __aiter__(self) -> AsyncIterator[Channel]:
         while True:
@@ -376,9 +388,11 @@ class Connection:
         channels: at a SHUTDOWN they don't."""
         if not self._closed.is_set():
             until = time.monotonic() + timeout
-            while not self._closed.is_set() and not self.socket.is_at_rest and time.monotonic() < until:
-                await asyncio.sleep(0.01)
-            self.abort()
+            try:
+                while not self._closed.is_set() and not self.socket.is_at_rest and time.monotonic() < until:
+                    await asyncio.sleep(0.01)
+            finally:
+                self.abort()
         await self._closed.wait()
 
     def abort(self) -> None:
@@ -410,24 +424,24 @@ class Connection:
     def _handle(self, event: events.ChannelsEvent) -> None:
         match event:
             case events.ChannelMessage(channel, data):
-                mine = self._channel_of(channel)
-                if mine._left:
+                mine = self._channels.get(channel)
+                if mine is None or mine._left:
                     return
                 mine._came.append(data)
                 mine._news.set()
-                self._unread += size_of(data)
-                if self._unread > self.read_limit and not self._paused:
-                    self._paused = True
-                    self._wire.pause_reading()
+                self._keep(size_of(data))
             case events.ChannelOpened(channel):
                 if channel not in self._channels:
-                    self._offer(self._channel_of(channel))
-                self._channels[channel]._opened.set()
+                    self._offer(channel)
+                if channel in self._channels:
+                    self._channels[channel]._opened.set()
             case events.ChannelBufferedAmountLow(channel):
-                self._channel_of(channel)._room.set()
+                if channel in self._channels:
+                    self._channels[channel]._room.set()
             case events.ChannelClosed(channel):
-                self._channel_of(channel)._end()
-                del self._channels[channel]
+                if (mine := self._channels.pop(channel, None)) is not None:
+                    mine._end()
+                    self._withdraw(mine)
             case events.Connected():
                 self._connected.set()
             case events.Aborted() | events.Closed():
@@ -436,12 +450,27 @@ class Connection:
             case events.Reported() | events.ChannelRefused() | events.Restarted():
                 logger.info("%s", event)
 
-    def _offer(self, channel: Channel) -> None:
-        if len(self._accepted) < MOST_TO_ACCEPT:
-            self._accepted.append(channel)
-            self._news.set()
-        else:
-            channel.close()
+    def _offer(self, channel: PlainChannel) -> None:
+        if len(self._accepted) >= MOST_TO_ACCEPT:
+            with self._driver.calls(), suppress(NoChannel):
+                channel.close()
+            return
+        mine = self._channel_of(channel)
+        self._accepted.append(mine)
+        self._keep(mine._texts())
+        self._news.set()
+
+    def _withdraw(self, channel: Channel) -> None:
+        """Has a channel that is closed, and by which nothing came, wait no more to be accepted."""
+        if not channel._came and channel in self._accepted:
+            self._accepted.remove(channel)
+            self._read(channel._texts())
+
+    def _keep(self, size: int) -> None:
+        self._unread += size
+        if self._unread > self.read_limit and not self._paused:
+            self._paused = True
+            self._wire.pause_reading()
 
     def _turned(self) -> None:
         """Where messages were given up no event says that there is room again."""
@@ -464,6 +493,7 @@ class Connection:
 
     def _end(self) -> None:
         self._driver.stop()
+        self._paused = False  # what is received later resumes nothing
         self._held_back.clear()
         for channel in list(self._channels.values()):
             channel._end()

@@ -8,7 +8,8 @@ from __future__ import annotations
 import asyncio
 import functools
 import logging
-from collections import deque
+from collections import OrderedDict, deque
+from collections.abc import Callable
 from contextlib import suppress
 from dataclasses import dataclass, field
 from types import ModuleType
@@ -19,11 +20,12 @@ from aiortc.rtcdatachannel import RTCDataChannel, RTCDataChannelParameters  # ty
 from aiortc.rtcsctptransport import RTCSctpCapabilities, RTCSctpTransport  # type: ignore[import]
 
 from . import events
-from .aio import Driver, options_for, sent_at_most
+from .aio import Driver, options_for, sent_at_most, tell
 from .channels import Channel, Channels, channel_options
-from .names import MessageTooLarge, NoChannel, QueueFull, Role
+from .names import MessageTooLarge, NoChannel, PigeonError, QueueFull, Role, SocketFailed
 
 logger = logging.getLogger(__name__)
+COUNTED_A_TURN = 64
 
 
 @dataclass
@@ -51,7 +53,7 @@ class SctpTransport(RTCSctpTransport):
         self._of: dict[Channel, RTCDataChannel] = {}
         self._plain: dict[RTCDataChannel, Channel] = {}
         self._waiting: list[RTCDataChannel] = []
-        self._buffering: set[RTCDataChannel] = set()
+        self._buffering: OrderedDict[RTCDataChannel, None] = OrderedDict()  # those that are counted next first
         self._packets: deque[bytes] = deque()
         self._flushing: Optional[asyncio.Task] = None
 
@@ -101,9 +103,10 @@ class SctpTransport(RTCSctpTransport):
         self.transport._register_data_receiver(self)
         self.transport.on("statechange", self._transport_changed)
         with self._driver.calls():
-            for channel in sorted(self._waiting, key=lambda it: not it.negotiated):  # those that have their numbers, then those that take a free one
-                self._begin(channel)
+            waiting = sorted(self._waiting, key=lambda it: not it.negotiated)  # those that have their numbers, then those that take a free one
             self._waiting.clear()
+            for channel in waiting:
+                self._begin_or_close(channel)
             channels.connect()
 
     async def stop(self) -> None:
@@ -134,13 +137,17 @@ class SctpTransport(RTCSctpTransport):
         if self._driver:
             self._driver.stop()
             self.transport._unregister_data_receiver(self)
-        for channel in [*self._waiting, *self._plain]:
-            channel._setReadyState("closed")
+        ended = [*self._waiting, *self._plain]
         self._waiting.clear()
         self._plain.clear()
         self._of.clear()
-        self.emit("statechange")
+        for channel in ended:
+            self._tell("the end of a channel", channel._setReadyState, "closed")
+        self._tell("the end of the transport", self.emit, "statechange")
         self.remove_all_listeners()
+
+    def _tell(self, what: str, owner: Callable[..., None], *told) -> None:
+        tell(asyncio.get_running_loop(), what, owner, *told)
 
     # packets
 
@@ -154,33 +161,39 @@ class SctpTransport(RTCSctpTransport):
             self._flushing = asyncio.ensure_future(self._flush())
 
     async def _flush(self) -> None:
-        while self._packets:
-            try:
-                await self.transport._send_data(self._packets.popleft())
-            except ConnectionError:
-                self._packets.clear()
-        self._flushing = None
+        try:
+            while self._packets:
+                try:
+                    await self.transport._send_data(self._packets.popleft())
+                except ConnectionError:
+                    self._packets.clear()
+                except Exception as fault:
+                    logger.warning("DTLS has lost a packet: %s", fault)
+        finally:
+            self._flushing = None
 
     # events
 
     def _handle(self, event: events.ChannelsEvent) -> None:
         match event:
-            case events.ChannelMessage(channel, data):
+            case events.ChannelMessage(channel, data) if channel in self._of:
                 self._of[channel].emit("message", data)
+            case events.ChannelBufferedAmountLow(channel) if channel in self._of:
+                self._recount(self._of[channel])
             case events.ChannelOpened(channel) if channel in self._of:
                 self._opened(self._of[channel])
             case events.ChannelOpened(channel):
                 self.emit("datachannel", self._taken(channel))
-            case events.ChannelClosed(channel):
+            case events.ChannelClosed(channel) if channel in self._of:
                 mine = self._of.pop(channel)
                 del self._plain[mine]
                 mine._setReadyState("closed")
             case events.Connected():
                 self._state_name = "connected"
-                self.emit("statechange")
+                self._tell("statechange", self.emit, "statechange")
                 for mine in list(self._plain):
                     if mine.negotiated:
-                        self._opened(mine)
+                        self._tell("an open channel", self._opened, mine)
             case events.Closed() | events.Aborted():
                 logger.info("%s", event)
                 self._ended()
@@ -211,12 +224,19 @@ class SctpTransport(RTCSctpTransport):
         mine._setId(channel.id)
 
     def _count(self) -> None:
-        """Has each bufferedAmount follow what waits, by which bufferedamountlow is emitted."""
-        for mine in list(self._buffering):
-            waits = self._plain[mine].buffered_amount if mine in self._plain else 0
-            if not waits:
-                self._buffering.discard(mine)
-            mine._addBufferedAmount(waits - mine.bufferedAmount)
+        """Recounts what channels buffer, in turn: where many do a turn costs no more for it. Which is low is told of each."""
+        for _ in range(min(len(self._buffering), COUNTED_A_TURN)):
+            mine, _ = self._buffering.popitem(last=False)
+            self._tell("bufferedamountlow", self._recount, mine)
+
+    def _recount(self, mine: RTCDataChannel) -> None:
+        """Has bufferedAmount follow what waits, by which bufferedamountlow is emitted."""
+        waits = self._plain[mine].buffered_amount if mine in self._plain else 0
+        if waits:
+            self._buffering[mine] = None
+        else:
+            self._buffering.pop(mine, None)
+        mine._addBufferedAmount(waits - mine.bufferedAmount)
 
     # what RTCDataChannel calls
 
@@ -228,6 +248,15 @@ class SctpTransport(RTCSctpTransport):
                 mine._setReadyState("open")
         else:
             self._join(mine, channels.open(mine.label, mine.protocol, **kind))
+
+    def _begin_or_close(self, mine: RTCDataChannel) -> None:
+        try:
+            self._begin(mine)
+        except SocketFailed:
+            raise
+        except PigeonError as fault:
+            logger.warning("channel %r can't be: %s", mine.label, fault)
+            self._tell("the end of a channel", mine._setReadyState, "closed")
 
     def _data_channel_open(self, mine: RTCDataChannel) -> None:
         if self._state_name == "closed":
@@ -252,6 +281,7 @@ class SctpTransport(RTCSctpTransport):
             raise InvalidStateError
         try:
             with self._driven().calls():
+                channel.buffered_amount_low_threshold = mine.bufferedAmountLowThreshold
                 channel.send(data)
         except NoChannel:
             raise InvalidStateError from None
@@ -260,7 +290,7 @@ class SctpTransport(RTCSctpTransport):
         except QueueFull as fault:
             raise OperationError(str(fault)) from None
         mine._addBufferedAmount(len(data) if isinstance(data, bytes) else len(data.encode()))
-        self._buffering.add(mine)
+        self._buffering[mine] = None
 
     def _data_channel_close(self, mine: RTCDataChannel, transmit: bool = True) -> None:
         if mine.readyState in ("closing", "closed"):

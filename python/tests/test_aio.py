@@ -206,11 +206,63 @@ async def test_of_channels_that_nobody_accepts_some_are_kept():
     a, b = await pair()
     made = [a.open(str(number)) for number in range(aio.MOST_TO_ACCEPT + 6)]
     await asyncio.gather(*[it.wait_closed() for it in made[aio.MOST_TO_ACCEPT :]])
-    assert not any(it._closed.is_set() for it in made[: aio.MOST_TO_ACCEPT])
+    assert not any(it._closed.is_set() for it in made[: aio.MOST_TO_ACCEPT]) and len(b._channels) == aio.MOST_TO_ACCEPT
     assert [(await b.accept()).label for _ in range(aio.MOST_TO_ACCEPT)] == [it.label for it in made[: aio.MOST_TO_ACCEPT]]
     a.open("next")
     assert (await b.accept()).label == "next" and not b._accepted
     await asyncio.gather(a.close(), b.close())
+
+
+@run
+async def test_a_channel_that_the_peer_has_closed_waits_no_more_to_be_accepted():
+    a, b = await pair()
+    first = a.open("é" * 1000, "p" * 1000)
+    while not b._accepted:
+        await asyncio.sleep(0.005)
+    assert b._unread == 4 * 1000 + 1000 + 2 * 64
+    first.close()
+    while b._accepted:
+        await asyncio.sleep(0.005)
+    assert b._unread == 0
+    a.open("next")
+    assert (await b.accept()).label == "next" and b._unread == 0
+    await asyncio.gather(a.close(), b.close())
+
+
+@run
+async def test_texts_of_channels_that_nobody_accepts_pause_the_wire():
+    a, b = await pair(read_limit=20000)
+    for number in range(4):
+        a.open(str(number) * 10000)
+    while not b._wire.paused:
+        await asyncio.sleep(0.005)
+    assert {(await b.accept()).label[0] for _ in range(4)} == set("0123") and b._unread == 0
+    await asyncio.gather(a.close(), b.close())
+
+
+@run
+async def test_a_close_that_is_cancelled_ends_all():
+    a, b = await pair()
+    channel = a.open("chat")
+    await channel.opened()
+    a._wire.rate = 1.0
+    await channel.send("lost")
+    with pytest.raises(asyncio.TimeoutError):
+        await asyncio.wait_for(a.close(), 0.05)
+    assert a._closed.is_set() and a._driver._timer is None
+    b.abort()
+
+
+@run
+async def test_what_is_received_behind_the_end_resumes_nothing():
+    a, b = await pair(read_limit=1000)
+    await a.open("chat").send(bytes(2000))
+    theirs = await b.accept()
+    while not b._wire.paused:
+        await asyncio.sleep(0.005)
+    b.abort()
+    assert await theirs.receive() == bytes(2000) and b._wire.paused
+    a.abort()
 
 
 async def fill(channel: aio.Channel, other: aio.Connection) -> asyncio.Future:
@@ -230,7 +282,7 @@ async def test_a_channel_that_is_left_holds_up_nothing():
     assert await theirs.receive() == "first"
     sending = await fill(left, b)
     theirs.close()
-    assert b._unread == 0 and not b._wire.paused
+    assert b._unread == sum(it._texts() for it in b._accepted) and not b._wire.paused
     await asyncio.gather(sending, left.wait_closed())
     await other.send("there")
     assert await (await b.accept()).receive() == "there" and b._unread == 0

@@ -182,6 +182,86 @@ def test_a_handler_that_fails_ends_nothing():
     asyncio.run(asyncio.wait_for(fails(), 30))
 
 
+def test_handlers_that_fail_leave_no_channel_behind():
+    async def fails():
+        told = []
+        asyncio.get_running_loop().set_exception_handler(lambda loop, context: told.append(str(context.get("exception"))))
+        a, b = make(True), make(True)
+        agreed = [end.createDataChannel("agreed", negotiated=True, id=number) for end in (a, b) for number in (100, 101)]
+        made = [a.createDataChannel(str(number)) for number in range(3)]
+
+        def fails_at(what):
+            def fails():
+                raise RuntimeError(what)
+
+            return fails
+
+        agreed[0].on("open", fails_at("open"))
+        await join(a, b)
+        await until(lambda: all(it.readyState == "open" for it in agreed + made))
+        agreed[0].on("close", fails_at("close"))
+        await b.close()
+        await until(lambda: all(it.readyState == "closed" for it in agreed + made) and a.sctp.state == "closed")
+        assert sorted(told) == ["close", "open"]
+        await a.close()
+
+    asyncio.run(asyncio.wait_for(fails(), 30))
+
+
+def test_a_channel_that_cannot_begin_holds_up_no_other():
+    async def begins():
+        a = make(True, options={"max_message_size": 100})
+        long, short = a.createDataChannel("x" * 200), a.createDataChannel("short")
+        b = make(True)
+        await join(a, b)
+        await until(lambda: long.readyState == "closed" and short.readyState == "open")
+        await asyncio.gather(a.close(), b.close())
+
+    asyncio.run(asyncio.wait_for(begins(), 30))
+
+
+def test_a_packet_that_dtls_does_not_send_is_as_lost():
+    async def sends():
+        a, b = make(True), make(True)
+        channel, came = a.createDataChannel("chat"), []
+        b.on("datachannel", lambda it: it.on("message", came.append))
+        await join(a, b)
+        await until(lambda: channel.readyState == "open")
+        send, lost = a.sctp.transport._send_data, []
+
+        async def fails_once(packet):
+            if not lost:
+                lost.append(packet)
+                raise RuntimeError("a record too large")
+            await send(packet)
+
+        a.sctp.transport._send_data = fails_once
+        channel.send("first")
+        channel.send("second")
+        await until(lambda: came == ["first", "second"])
+        assert lost and a.sctp._flushing is None
+        await asyncio.gather(a.close(), b.close())
+
+    asyncio.run(asyncio.wait_for(sends(), 30))
+
+
+def test_of_many_channels_that_buffer_each_is_counted():
+    async def counts():
+        a, b = make(True), make(True)
+        made, low = [a.createDataChannel(str(number)) for number in range(200)], []
+        for channel in made:
+            channel.on("bufferedamountlow", lambda channel=channel: low.append(channel))
+        await join(a, b)
+        await until(lambda: all(it.readyState == "open" for it in made))
+        for channel in made:
+            channel.send(bytes(5000))
+        assert len(a.sctp._buffering) == 200 and all(it.bufferedAmount == 5000 for it in made)
+        await until(lambda: len(low) == 200 and not a.sctp._buffering and not any(it.bufferedAmount for it in made))
+        await asyncio.gather(a.close(), b.close())
+
+    asyncio.run(asyncio.wait_for(counts(), 60))
+
+
 def test_channels_that_cannot_be():
     async def tries():
         a = make(True)

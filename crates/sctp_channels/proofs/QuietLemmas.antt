@@ -10,7 +10,7 @@ use Rattle.std.proofs.lemmas.List.{append-nil}
 use Rattle.std.proofs.lemmas.List.Elements.{All-nil}
 use Rattle.std.proofs.lemmas.Map.Views.{All-map-remove_entry, All-values-insert_entry, All-values-set_value, IfSome-lookup_from_All}
 use Rattle.sctp_channels.specs.Channel.{Channel, change_lifecycle, kept_by, new_channel, reset_incoming, with_lifecycle}
-use Rattle.sctp_channels.specs.Channels.{Channels, Output, acknowledge, change, close, denied, drain, emit, end, has_room, has_stream, is_denied, is_own, is_shown, no_description, on_ack, on_establishment, on_incoming_reset, on_open, on_reset_denied, on_reset_performed, open_from, place, prioritize, refuse, reopen_if, reset, settle, shown_streams, take_open, tell_closed, tell_end, tell_opened, tell_refused, turn_down, turn_down_from, weigh, where_there, with_entries}
+use Rattle.sctp_channels.specs.Channels.{Channels, Output, acknowledge, change, close, denied, drain, emit, end, has_room, has_stream, is_denied, is_own, is_shown, no_description, on_ack, on_establishment, on_incoming_reset, on_open, on_reset_denied, on_reset_performed, open_from, place, prioritize, refuse, reopen_if, reset, settle, shown_streams, take_open, tell_begin, tell_closed, tell_end, tell_opened, tell_refused, turn_down, turn_down_from, weigh, where_there, with_entries}
 use Rattle.sctp_channels.specs.Steps.{each}
 use Rattle.sctp_channels.proofs.StandsLemmas.{confirm_from}
 use Rattle.sctp_channels.specs.Entries.{Entries, channel_at, changed_from, forget, put}
@@ -111,14 +111,17 @@ opens_if : (room : Bool) (id : ℕ) (description : Open) (l : Lifecycle) (old cs
 opens_if true id description l old cs quiet = and_then old cs (take_open id description l cs) quiet (takes_open id description l cs)
 opens_if false id description l old cs quiet = turns_down id NoRoom old
 
-reopens_if : (b : Bool) (before id : ℕ) (description : Open) (cs : Channels) → IsQuiet cs (reopen_if b before id description cs)
-reopens_if true before id description cs =
-    opens_if (has_room before description cs) id description life.reopened cs (emit (tell_closed id) cs) (emits (tell_closed id) cs refl)
-reopens_if false before id description cs = turns_down id StreamInUse cs
+tells_end : (l : Lifecycle) (id : ℕ) (cs : Channels) → IsQuiet cs (tell_end l id cs)
+tells_end l id cs = either (is_shown l) cs (emit (tell_closed id) cs) cs (emits (tell_closed id) cs refl) (same cs)
+
+reopens_if : (b : Bool) (l : Lifecycle) (before id : ℕ) (description : Open) (cs : Channels) → IsQuiet cs (reopen_if b l before id description cs)
+reopens_if true l before id description cs =
+    opens_if (has_room before description cs) id description life.reopened cs (tell_end l id cs) (tells_end l id cs)
+reopens_if false l before id description cs = turns_down id StreamInUse cs
 
 opens_from : (o : Option Channel) (id : ℕ) (description : Open) (cs : Channels) → IsQuiet cs (open_from o id description cs)
 opens_from None id description cs = opens_if (has_room 0 description cs) id description life.negotiated cs cs (same cs)
-opens_from (Some c) id description cs = reopens_if (life.may_reopen c.lifecycle) (kept_by c) id description cs
+opens_from (Some c) id description cs = reopens_if (life.may_reopen c.lifecycle) c.lifecycle (kept_by c) id description cs
 
 on_opening : (id : ℕ) (description : Open) (cs : Channels) → IsQuiet cs (on_open id description cs)
 on_opening id description cs =
@@ -127,14 +130,18 @@ on_opening id description cs =
     (either (is_own cs.is_client id) cs (turn_down id WrongParity cs) (open_from (channel_at id cs.entries) id description cs) (turns_down id WrongParity cs)
     (opens_from (channel_at id cs.entries) id description cs)) (emits (tell_refused id NoSuchStream) cs refl)
 
-confirms : (id : ℕ) (cs : Channels) → IsQuiet cs (emit (tell_opened id) (change (change_lifecycle life.confirm) id cs))
-confirms id cs =
-    and_then cs (change (change_lifecycle life.confirm) id cs) (emit (tell_opened id) (change (change_lifecycle life.confirm) id cs)) (changes (change_lifecycle life.confirm) id cs (λ c h. keeps_parts (life.confirm c.lifecycle) c h))
-    (emits (tell_opened id) (change (change_lifecycle life.confirm) id cs) refl)
+tells_begin : (l : Lifecycle) (id : ℕ) (cs : Channels) → IsQuiet cs (tell_begin l id cs)
+tells_begin l id cs = either (life.may_send l) cs (emit (tell_opened id) cs) cs (emits (tell_opened id) cs refl) (same cs)
+
+confirms : (l : Lifecycle) (id : ℕ) (cs : Channels) → IsQuiet cs (tell_begin l id (change (change_lifecycle life.confirm) id cs))
+confirms l id cs =
+    let confirmed = change (change_lifecycle life.confirm) id cs in
+    and_then cs confirmed (tell_begin l id confirmed) (changes (change_lifecycle life.confirm) id cs (λ c h. keeps_parts (life.confirm c.lifecycle) c h)) (tells_begin l id confirmed)
 
 confirms_from : (o : Option Channel) (id : ℕ) (cs : Channels) → IsQuiet cs (confirm_from o id cs)
 confirms_from None id cs = same cs
-confirms_from (Some c) id cs = either (life.is_connecting c.lifecycle) cs (emit (tell_opened id) (change (change_lifecycle life.confirm) id cs)) cs (confirms id cs) (same cs)
+confirms_from (Some c) id cs =
+    either (life.is_connecting c.lifecycle) cs (tell_begin c.lifecycle id (change (change_lifecycle life.confirm) id cs)) cs (confirms c.lifecycle id cs) (same cs)
 
 pub acknowledged : (id : ℕ) (cs : Channels) → IsQuiet cs (on_ack id cs)
 acknowledged id cs = confirms_from (channel_at id cs.entries) id cs
@@ -142,9 +149,6 @@ acknowledged id cs = confirms_from (channel_at id cs.entries) id cs
 pub establishes : (id : ℕ) (m : Establishment) (cs : Channels) → IsQuiet cs (on_establishment id m cs)
 establishes id (opens description) cs = on_opening id description cs
 establishes id acknowledges cs = acknowledged id cs
-
-tells_end : (l : Lifecycle) (id : ℕ) (cs : Channels) → IsQuiet cs (tell_end l id cs)
-tells_end l id cs = either (is_shown l) cs (emit (tell_closed id) cs) cs (emits (tell_closed id) cs refl) (same cs)
 
 abbrev settle_from : Option Channel → (Channel → Channel) → ℕ → Channels → Channels
 settle_from o f id cs = where_there o (λ c. settle f c id cs) cs

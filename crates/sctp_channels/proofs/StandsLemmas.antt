@@ -7,8 +7,9 @@ use Rattle.std.specs.BTreeMap.{is_at}
 use Rattle.std.specs.Map.{keys_of, set_value}
 use Rattle.std.specs.Ordering.{nat_cmp}
 use Rattle.sctp_channels.specs.Channel.{Channel, change_lifecycle}
-use Rattle.sctp_channels.specs.Lifecycle.{confirm, is_connecting}
-use Rattle.sctp_channels.specs.Channels.{Channels, Emits, Output, Stands, change, emit, on_ack, output_of, tell_closed, tell_opened, where_there}
+use Rattle.sctp_channels.specs.Lifecycle.{confirm, is_connecting, may_send}
+use Rattle.sctp_channels.specs.declared.lifecycle.Lifecycle.{Lifecycle}
+use Rattle.sctp_channels.specs.Channels.{Channels, Emits, Output, Stands, change, emit, is_shown, on_ack, output_of, tell_begin, tell_closed, tell_end, tell_opened, where_there}
 use Rattle.sctp_channels.specs.declared.output.Output as given
 use Rattle.sctp_channels.specs.declared.output.Output.TheVariants as outputs
 use Rattle.sctp_serial.specs.declared.api.StreamId.{StreamId}
@@ -24,16 +25,20 @@ keys_changed f id es = keys_changed_from (channel_at id es) f id es
 same : (cs : Channels) → Stands cs cs
 same cs = record { more = []; outputs = sym (append-nil cs.outputs); streams = refl }
 
-opened_if : (b : Bool) (id : ℕ) (cs : Channels) → Stands cs (cond b (emit (tell_opened id) (change (change_lifecycle confirm) id cs)) cs)
-opened_if true id cs = record { more = tell_opened id ∷ []; outputs = refl; streams = keys_changed (change_lifecycle confirm) id cs.entries }
-opened_if false id cs = same cs
+told_if : (b : Bool) (id : ℕ) (old new : Channels) → new.outputs ≡ old.outputs → keys_of new.entries ≡ keys_of old.entries → Stands old (cond b (emit (tell_opened id) new) new)
+told_if true id old new is keys = record { more = tell_opened id ∷ []; outputs = ap (λ (os : List Output). os ++ tell_opened id ∷ []) is; streams = keys }
+told_if false id old new is keys = record { more = []; outputs = is ∙ sym (append-nil old.outputs); streams = keys }
+
+opened_if : (b : Bool) (l : Lifecycle) (id : ℕ) (cs : Channels) → Stands cs (cond b (tell_begin l id (change (change_lifecycle confirm) id cs)) cs)
+opened_if true l id cs = told_if (may_send l) id cs (change (change_lifecycle confirm) id cs) refl (keys_changed (change_lifecycle confirm) id cs.entries)
+opened_if false l id cs = same cs
 
 abbrev pub confirm_from : Option Channel → ℕ → Channels → Channels
-confirm_from o id cs = where_there o (λ c. cond (is_connecting c.lifecycle) (emit (tell_opened id) (change (change_lifecycle confirm) id cs)) cs) cs
+confirm_from o id cs = where_there o (λ c. cond (is_connecting c.lifecycle) (tell_begin c.lifecycle id (change (change_lifecycle confirm) id cs)) cs) cs
 
 confirmed_from : (o : Option Channel) (id : ℕ) (cs : Channels) → Stands cs (confirm_from o id cs)
 confirmed_from None id cs = same cs
-confirmed_from (Some c) id cs = opened_if (is_connecting c.lifecycle) id cs
+confirmed_from (Some c) id cs = opened_if (is_connecting c.lifecycle) c.lifecycle id cs
 
 pub stands_then : (a b c : Channels) → Stands a b → Stands b c → Stands a c
 stands_then a b c s t = record {
@@ -76,3 +81,12 @@ emits_then o a b c is more = (
   o ∷ more.0,
   more.1 ∙ ap (λ (cs : Channels). record cs { outputs = cs.outputs ++ more.0 }) is ∙ ap (λ (os : List Output). record a { outputs = os }) (append_assoc a.outputs (o ∷ []) more.0),
 )
+
+-- one output, where there is one, and what came behind it
+emits_if : (is_told : Bool) (o : Output) (a b c : Channels) → b ≡ cond is_told (emit o a) a → Emits b c → Emits a c
+emits_if true o a b c is more = emits_then o a b c is more
+emits_if false o a b c is more = subst (λ (x : Channels). Emits x c) is more
+
+-- the owner was told the end of a channel that it knows
+pub ends_then : (l : Lifecycle) (id : ℕ) (a b c : Channels) → b ≡ tell_end l id a → Emits b c → Emits a c
+ends_then l id a b c is more = emits_if (is_shown l) (tell_closed id) a b c is more

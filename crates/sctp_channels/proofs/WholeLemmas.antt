@@ -10,7 +10,7 @@ use Rattle.sctp_channels.specs.declared.payload.PayloadKind.{PayloadKind}
 use Rattle.sctp_channels.specs.declared.payload.PayloadProtocol.{PayloadProtocol}
 use Rattle.sctp_channels.specs.declared.payload.PayloadProtocol.TheVariants.{Data}
 use Rattle.sctp_channels.specs.Channel.{Channel, change_lifecycle, count_received, exceeds, on_data, take_if, taken_if, takes_whole, with_parts}
-use Rattle.sctp_channels.specs.Channels.{Channels, OnMessage, change, data_from, deliver, emit, hand, on_payload, tell_message, tell_opened, tell_refused, with_entries}
+use Rattle.sctp_channels.specs.Channels.{Channels, OnMessage, change, data_from, deliver, emit, hand, on_payload, tell_begin, tell_message, tell_refused, with_entries}
 use Rattle.sctp_channels.specs.declared.output.Refusal.TheVariants.{NoChannel}
 use Rattle.sctp_channels.specs.Entries.{channel_at, changed_from}
 use Rattle.sctp_channels.specs.Lifecycle.{confirm, is_connecting, takes_data}
@@ -68,7 +68,7 @@ handed_from None id kind bytes cs found is = cc
 handed_from (Some c) id kind bytes cs found is =
     let w = whole_of cs.limit (length bytes) c (ap (λ (o : Option Bool). unwrap_or o false) is) in
     ap (λ (o : Option Channel). deliver id (Data kind) bytes (confirm_from o id cs)) found
-    ∙ ap (λ (b : Bool). deliver id (Data kind) bytes (cond b (emit (tell_opened id) (change (change_lifecycle confirm) id cs)) cs)) w.is_open
+    ∙ ap (λ (b : Bool). deliver id (Data kind) bytes (cond b (tell_begin c.lifecycle id (change (change_lifecycle confirm) id cs)) cs)) w.is_open
     ∙ ap (λ (o : Option Channel). data_from o id (Data kind) bytes cs) found
     ∙ delivered id kind bytes c cs found w
 

@@ -111,6 +111,23 @@ sent id size cs = change (count_sent size) id cs
 abbrev pub Emits : Channels → Channels → Type 0
 Emits old new = (more : List Output) × (new ≡ record old { outputs = old.outputs ++ more })
 
+-- ---- what the owner is told of a channel
+
+abbrev pub is_denied : Outgoing → Bool
+is_denied Denied = true
+is_denied _ = false
+
+-- the owner knows the channel, and was not told that it is closed
+abbrev pub is_shown : Lifecycle → Bool
+is_shown l = life.is_taken l.opening && not (is_denied l.outgoing)
+
+abbrev pub tell_end : Lifecycle → ℕ → Channels → Channels
+tell_end l id cs = cond (is_shown l) (emit (tell_closed id) cs) cs
+
+-- one that was closed meanwhile isn't told to be open
+abbrev pub tell_begin : Lifecycle → ℕ → Channels → Channels
+tell_begin l id cs = cond (life.may_send l) (emit (tell_opened id) cs) cs
+
 -- ---- what opens a channel, or says that it is open
 
 abbrev pub no_description : Open
@@ -139,15 +156,15 @@ room cs = cs.kept_limit - kept_bytes cs.entries
 abbrev pub has_room : (before : ℕ) → Open → Channels → Bool
 has_room before description cs = nat_le (text_bytes description) (room cs + before)
 
--- the channel before, which keeps so many bytes, is closed by the peer's word
-abbrev pub reopen_if : (may_reopen : Bool) → (before : ℕ) → ℕ → Open → Channels → Channels
-reopen_if true before id description cs =
-    cond (has_room before description cs) (take_open id description life.reopened (emit (tell_closed id) cs)) (turn_down id NoRoom cs)
-reopen_if false before id description cs = turn_down id StreamInUse cs
+-- the channel before, which keeps so many bytes, is closed by the peer's word: the owner is told where it knows that channel
+abbrev pub reopen_if : (may_reopen : Bool) → Lifecycle → (before : ℕ) → ℕ → Open → Channels → Channels
+reopen_if true l before id description cs =
+    cond (has_room before description cs) (take_open id description life.reopened (tell_end l id cs)) (turn_down id NoRoom cs)
+reopen_if false l before id description cs = turn_down id StreamInUse cs
 
 abbrev pub open_from : Option Channel → ℕ → Open → Channels → Channels
 open_from None id description cs = cond (has_room 0 description cs) (take_open id description life.negotiated cs) (turn_down id NoRoom cs)
-open_from (Some c) id description cs = reopen_if (life.may_reopen c.lifecycle) (kept_by c) id description cs
+open_from (Some c) id description cs = reopen_if (life.may_reopen c.lifecycle) c.lifecycle (kept_by c) id description cs
 
 -- the peer opens a channel: on a stream of its own parity that there is
 abbrev pub on_open : ℕ → Open → Channels → Channels
@@ -158,7 +175,7 @@ on_open id description cs =
 -- an answer, or a message, that says that the peer has the channel
 abbrev pub on_ack : ℕ → Channels → Channels
 on_ack id cs =
-    where_there (channel_at id cs.entries) (λ c. cond (life.is_connecting c.lifecycle) (emit (tell_opened id) (change (change_lifecycle life.confirm) id cs)) cs) cs
+    where_there (channel_at id cs.entries) (λ c. cond (life.is_connecting c.lifecycle) (tell_begin c.lifecycle id (change (change_lifecycle life.confirm) id cs)) cs) cs
 
 -- ---- data
 
@@ -186,17 +203,6 @@ on_payload id protocol payload cs = deliver id protocol payload (on_ack id cs)
 
 -- ---- resets
 
-abbrev pub is_denied : Outgoing → Bool
-is_denied Denied = true
-is_denied _ = false
-
--- the owner knows the channel, and was not told that it is closed
-abbrev pub is_shown : Lifecycle → Bool
-is_shown l = life.is_taken l.opening && not (is_denied l.outgoing)
-
-abbrev pub tell_end : Lifecycle → ℕ → Channels → Channels
-tell_end l id cs = cond (is_shown l) (emit (tell_closed id) cs) cs
-
 -- a channel is gone once both its streams were reset, and only then is its stream free
 abbrev pub settle : (Channel → Channel) → Channel → ℕ → Channels → Channels
 settle f c id cs = cond (life.is_over (f c).lifecycle) (tell_end (f c).lifecycle id (with_entries (forget id cs.entries) cs)) (change f id cs)
@@ -221,7 +227,7 @@ denied c id cs = cond (is_denied (life.deny c.lifecycle).outgoing) (tell_end c.l
 abbrev pub on_reset_denied : ℕ → Channels → Channels
 on_reset_denied id cs = where_there (channel_at id cs.entries) (λ c. denied c id (change (change_lifecycle life.deny) id cs)) cs
 
--- so many bytes of the stream wait in the socket
+-- so many bytes of the stream wait in the socket for a peer that takes them
 abbrev pub drain : ℕ → ℕ → Channels → Channels
 drain id buffered cs =
     where_there (channel_at id cs.entries) (λ c. cond (life.asks_for_reset buffered c.lifecycle) (emit (reset id) (change (change_lifecycle (life.drain buffered)) id cs)) cs) cs

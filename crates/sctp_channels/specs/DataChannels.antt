@@ -1,7 +1,7 @@
 -- A message of the owner, and a channel that is closed.
-use Rattle.std.specs.Prelude.{◌≡◌, ◌⊎◌, ℕ, ◌≤◌, min, ◌*◌, Bool, true, false, not, Option, Some, None}
+use Rattle.std.specs.Prelude.{◌≡◌, ◌⊎◌, ℕ, ◌≤◌, min, ◌*◌, Bool, true, false, Option, Some, None}
 use Rattle.sctp_channels.specs.Channel.{Channel}
-use Rattle.sctp_channels.specs.Lifecycle.{is_draining, may_send}
+use Rattle.sctp_channels.specs.Lifecycle.{is_draining, may_send, needs_answer}
 use Rattle.sctp_channels.specs.declared.reliability.Reliability.{Reliability}
 use Rattle.sctp_channels.specs.declared.reliability.Reliability.TheVariants.{MaxRetransmissions, MaxLifetime}
 pub use Rattle.sctp_channels.specs.Steps.{DataChannels, with_channels}
@@ -26,10 +26,15 @@ abbrev pub is_draining_at : Option Channel → Bool
 is_draining_at None = false
 is_draining_at (Some c) = is_draining c.lifecycle.outgoing
 
--- an answer is of use: the peer has a channel there, and has not reset it since
+-- the peer has reset its stream of a channel there
+abbrev pub is_incoming_reset_at : Option Channel → Bool
+is_incoming_reset_at None = false
+is_incoming_reset_at (Some c) = c.lifecycle.is_incoming_reset
+
+-- an answer is of use: the peer has a channel there, and neither end has reset it since, or asked for it
 abbrev pub needs_answer_at : Option Channel → Bool
 needs_answer_at None = false
-needs_answer_at (Some c) = not c.lifecycle.is_incoming_reset
+needs_answer_at (Some c) = needs_answer c.lifecycle
 
 -- the peer takes a message of so many bytes
 abbrev pub IsShortEnough : ℕ → DataChannels → Type 0

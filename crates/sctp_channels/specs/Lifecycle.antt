@@ -48,6 +48,16 @@ is_taken _ = true
 abbrev pub takes_data : Lifecycle → Bool
 takes_data l = is_taken l.opening && not l.is_incoming_reset
 
+-- its reset wasn't asked for
+abbrev pub is_going : Outgoing → Bool
+is_going Sending = true
+is_going Draining = true
+is_going _ = false
+
+-- an answer on its stream is of use: neither end has reset the stream, or asked for it
+abbrev pub needs_answer : Lifecycle → Bool
+needs_answer l = is_going l.outgoing && not l.is_incoming_reset
+
 abbrev pub is_stopped : Outgoing → Bool
 is_stopped Stopped = true
 is_stopped _ = false
@@ -90,7 +100,7 @@ abbrev pub is_draining : Outgoing → Bool
 is_draining Draining = true
 is_draining _ = false
 
--- the reset is asked for once nothing waits that it would drop
+-- the reset is asked for once nothing waits that the peer would take
 abbrev pub asks_for_reset : ℕ → Lifecycle → Bool
 asks_for_reset buffered l = is_draining l.outgoing && (buffered == 0)
 
@@ -98,7 +108,7 @@ abbrev pub drained : Bool → Outgoing → Outgoing
 drained true outgoing = Resetting
 drained false outgoing = outgoing
 
--- so many bytes wait in the socket
+-- so many bytes wait in the socket for a peer that takes them
 abbrev pub drain : ℕ → Lifecycle → Lifecycle
 drain buffered l = record l { outgoing = drained (asks_for_reset buffered l) l.outgoing }
 

@@ -108,7 +108,7 @@ pub data Step : Type 0 where
   passes_on : (e : sockets.Event (List ℕ)) → Step
   -- it has so many streams
   counts : (stream_count : ℕ) → Step
-  -- so many bytes of a stream wait in it
+  -- so many bytes of a stream wait in it for a peer that takes them
   buffers : (id buffered : ℕ) → Step
   -- it doesn't ask for these resets
   refuses : (ids : List ℕ) → Step
@@ -116,7 +116,7 @@ pub data Step : Type 0 where
   closes : (id : ℕ) → Step
   -- what is to be done is done, or told
   carries_out : Step
-  -- the socket has accepted the first answers, where the peer has not reset the stream since
+  -- the socket has accepted the first answers, where neither end has reset the stream since
   answers : Step
 
 -- a message is read by the table's row

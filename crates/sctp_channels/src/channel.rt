@@ -227,8 +227,8 @@ impl Channel {
         is_whole
     }
 
-    /// A payload came on the stream, under a PPID of this protocol. A message of more than `limit` bytes is dropped, of which this end has
-    /// told the peer. Where memory runs out the channel is as it was, and the payload is lost.
+    /// A payload came on the stream, under a PPID of this protocol. A message of more than `limit` bytes is dropped: more than the peer was
+    /// told, or parts for which there is no room. Where memory runs out the channel is as it was, and the payload is lost.
     pub fn on_data(
         &mut self,
         alloc: Global,

@@ -11,8 +11,8 @@ pub fn a_reset_is_asked_for_once()
     ensures { (acts : List Act) (l : Lifecycle) → resets_asked acts l ≤ 1 }
 {}
 
-/// A channel that has begun to send, and is over: the peer has reset its stream since, this end has asked for a reset of its own, once all that was
-/// accepted had left the socket, and the peer has performed it.
+/// A channel that has begun to send, and is over: the peer has reset its stream since, this end has asked for a reset of its own, once nothing waited
+/// in the socket that the peer would have taken, and the peer has performed it.
 pub fn both_resets_free_a_stream()
     ensures { (acts : List Act) (l : Lifecycle) → may_send l ≡ true → l.is_incoming_reset ≡ false → is_over (run acts l) ≡ true
         → (has is_stop acts ≡ true) × (has is_finish acts ≡ true) × (resets_asked acts l ≡ 1) }

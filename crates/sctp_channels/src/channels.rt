@@ -8,7 +8,7 @@ ghost use Rattle.sctp_channels.specs.Payload.{protocol_of};
 ghost use Rattle.sctp_channels.specs.Steps.{each};
 ghost use Rattle.sctp_channels.specs.Views.{open_of};
 ghost use Rattle.sctp_channels.specs.Channel.{count_received, new_channel, received_as, takes_whole, with_lifecycle};
-ghost use Rattle.sctp_channels.specs.Channels.{Emits, OnControl, OnMessage, Output as output, Stands, change, close, deliver, drain, emit, end, hand, has_room, has_stream, incoming_streams, is_denied, is_own, is_shown, limit_of, negotiate, no_channels, on_ack, on_incoming_reset, on_open, on_payload, on_reset_denied, on_reset_performed, open_from, open_own, output_of, place, refuse, room, sent, shown_streams, take_open, tell_closed, tell_end, turn_down, with_entries};
+ghost use Rattle.sctp_channels.specs.Channels.{Emits, OnControl, OnMessage, Output as output, Stands, change, close, deliver, drain, emit, end, hand, has_room, has_stream, incoming_streams, is_denied, is_own, is_shown, limit_of, negotiate, no_channels, on_ack, on_incoming_reset, on_open, on_payload, on_reset_denied, on_reset_performed, open_from, open_own, output_of, place, refuse, room, sent, shown_streams, take_open, tell_begin, tell_closed, tell_end, turn_down, with_entries};
 ghost use Rattle.sctp_channels.specs.DataChannels.{IsOpenAt};
 ghost use Rattle.sctp_channels.specs.Entries.{KeepsIncoming, channel_at, forget, put};
 
@@ -245,7 +245,7 @@ impl Channels {
         self.place(id, Lifecycle::negotiated(), description)
     }
 
-    /// The owner closes the channel: what was accepted is sent, then its stream is reset (`drain`).
+    /// The owner closes the channel: what was accepted is sent, as long as the peer takes it, then its stream is reset (`drain`).
     pub fn close(&mut self, id: StreamId)
         ensures { self.new ≡ close id.0 self.old }
     {
@@ -325,19 +325,39 @@ impl Channels {
         self.place(id, lifecycle, description)
     }
 
+    /// Says that a channel is closed whose owner knows it.
+    fn tell_end(&mut self, id: StreamId, lifecycle: Lifecycle) -> Result<(), AllocError>
+        ensures ok { OnOk result (self.new ≡ tell_end lifecycle id.0 self.old) }
+        ensures err { OnErr result (self.new ≡ self.old) }
+    {
+        if !is_shown(lifecycle) {
+            return Ok(());
+        }
+        self.emit(Output::Closed(id))
+    }
+
+    /// Says that a channel is open whose owner hasn't closed it meanwhile.
+    fn tell_begin(&mut self, id: StreamId, lifecycle: Lifecycle) -> Result<(), AllocError>
+        ensures ok { OnOk result (self.new ≡ tell_begin lifecycle id.0 self.old) }
+        ensures err { OnErr result (self.new ≡ self.old) }
+    {
+        if !lifecycle.may_send() {
+            return Ok(());
+        }
+        self.emit(Output::Opened(id))
+    }
+
     /// Says that a channel is closed whose owner knows it, and forgets it.
     fn end_one(&mut self, id: StreamId, lifecycle: Lifecycle) -> Result<(), AllocError>
         ensures ok { OnOk result (self.new ≡ tell_end lifecycle id.0 (with_entries (forget id.0 self.old.entries) self.old)) }
         ensures err { OnErr result (self.new ≡ self.old) }
     {
-        if is_shown(lifecycle) {
-            self.emit(Output::Closed(id))?;
-        }
+        self.tell_end(id, lifecycle)?;
         self.entries.remove(&id.0);
         Ok(())
     }
 
-    /// An answer, or a message, came: the peer has the channel.
+    /// An answer, or a message, came: the peer has the channel. Where the owner has closed it meanwhile nothing is told.
     pub fn on_ack(&mut self, id: StreamId) -> Result<(), AllocError>
         ensures ok { OnOk result (self.new ≡ on_ack id.0 self.old) }
         ensures err { OnErr result (self.new ≡ self.old) }
@@ -349,7 +369,7 @@ impl Channels {
         if !lifecycle.is_connecting() {
             return Ok(());
         }
-        self.emit(Output::Opened(id))?;
+        self.tell_begin(id, lifecycle)?;
         lifecycle.confirm();
         self.set_lifecycle(id, lifecycle);
         Ok(())
@@ -402,7 +422,8 @@ impl Channels {
         Ok(())
     }
 
-    /// So many bytes of the stream wait in the socket: of a channel that was closed the stream is reset once there are none.
+    /// So many bytes of the stream wait in the socket for a peer that takes them: of a channel that was closed the stream is reset once there are
+    /// none.
     pub fn drain(&mut self, id: StreamId, buffered_amount: usize) -> Result<(), AllocError>
         ensures ok { OnOk result (self.new ≡ drain id.0 buffered_amount self.old) }
         ensures err { OnErr result (self.new ≡ self.old) }
@@ -444,14 +465,15 @@ impl Channels {
             }
             return self.take_open(id, description, Lifecycle::negotiated());
         };
-        if !channel.lifecycle().may_reopen() {
+        let lifecycle = channel.lifecycle();
+        if !lifecycle.may_reopen() {
             return self.turn_down(id, Refusal::StreamInUse);
         }
         let before = channel.kept_bytes();
         if !self.has_room(before, &description) {
             return self.turn_down(id, Refusal::NoRoom);
         }
-        self.emit(Output::Closed(id))?;
+        self.tell_end(id, lifecycle)?;
         self.take_open(id, description, Lifecycle::reopened())
     }
 

@@ -8,7 +8,7 @@ ghost use Rattle.sctp_channels.specs.Views.{open_of};
 ghost use Rattle.sctp_channels.specs.Payload.{protocol_of};
 ghost use Rattle.sctp_channels.specs.Channels.{OnMessage, change, close, drain, is_own, negotiate, no_channels, on_incoming_reset, open_own, output_of, sent};
 ghost use Rattle.sctp_channels.specs.Entries.{channel_at};
-ghost use Rattle.sctp_channels.specs.DataChannels.{IsOpenAt, IsShortEnough, is_draining_at};
+ghost use Rattle.sctp_channels.specs.DataChannels.{IsOpenAt, IsShortEnough, is_draining_at, is_incoming_reset_at};
 ghost use Rattle.sctp_channels.specs.Steps.{DataChannels, Follows, Gets, StaysTold, acknowledged_by, each, ended, event_of, heard, named, passed_on, told_by, with_channels, with_outputs};
 
 use crate::unanswered::{Unanswered, answer_each, takes_answers};
@@ -37,9 +37,9 @@ pub struct DataChannels {
     alloc: Global,
     channels: Channels,
     events: VecDeque<ChannelEvent>,
-    // streams whose answer the socket hasn't taken; it is offered again with each packet that goes out, as long as the peer doesn't reset the stream
+    // streams whose answer the socket hasn't taken; it is offered again with each packet that goes out, as long as neither end resets the stream
     unanswered: Unanswered,
-    // streams that are to be reset once what was accepted is sent
+    // streams that are to be reset once what was accepted is sent, or the peer has reset them
     closing: BTreeSet<u16>,
     // the first of them to be looked at
     next_closing: u16,
@@ -188,7 +188,8 @@ impl DataChannels {
         Ok(data_message(id, kind, payload)?)
     }
 
-    /// Closes a channel. What was accepted is sent first; `Closed` tells when the stream is free, unless its reset was refused.
+    /// Closes a channel. What was accepted is sent first, as long as the peer doesn't close it too; `Closed` tells when the stream is free, unless
+    /// its reset was refused.
     #[tactic(auto, using(crate::proofs::FollowsLemmas::told_then, crate::proofs::FollowsLemmas::told_same))]
     pub fn close<S: DcSctpSocket>(&mut self, socket: &mut S, id: StreamId) -> Result<(), CallError>
         ensures closed { OnOk result (Follows (with_channels (close id.0 self.old.channels) self.old) self.new) }
@@ -384,6 +385,16 @@ impl DataChannels {
         match self.channels.get(id) {
             None => false,
             Some(channel) => matches!(channel.lifecycle().outgoing, Outgoing::Draining),
+        }
+    }
+
+    /// Whether the peer has reset its stream of the channel: it takes nothing of it any more.
+    fn is_incoming_reset(&self, id: StreamId) -> bool
+        ensures { result ≡ is_incoming_reset_at (channel_at id.0 self.now.channels.entries) }
+    {
+        match self.channels.get(id) {
+            None => false,
+            Some(channel) => channel.lifecycle().is_incoming_reset,
         }
     }
 
@@ -583,14 +594,14 @@ impl DataChannels {
     {
         let before = self.closing.len();
         for id in &self.next_closing()? {
-            if socket.buffered_amount(*id) == 0 {
+            if socket.buffered_amount(*id) == 0 || self.is_incoming_reset(*id) {
                 self.drain(*id)?;
             }
         }
         Ok(self.closing.len() < before)
     }
 
-    /// Nothing of the stream waits in the socket. One whose reset was asked for isn't looked at again.
+    /// Nothing of the stream waits in the socket that the peer would take. One whose reset was asked for isn't looked at again.
     fn drain(&mut self, id: StreamId) -> Result<(), AllocError>
         ensures row { OnOk result (self.new ≡ with_channels (drain id.0 0 self.old.channels) self.old) }
         ensures told { self.new.events ≡ self.old.events }

@@ -1,7 +1,7 @@
 //! What a channel may do, and when its stream is free again.
 
 ghost use Rattle.std.specs.Prelude.{◌≡◌};
-ghost use Rattle.sctp_channels.specs.Lifecycle.{answer, asks_for_reset, close, confirm, deny, drain, finish, is_connecting, is_over, may_reopen, may_send, negotiated, opened, refused, reopened, stop_incoming, takes_data};
+ghost use Rattle.sctp_channels.specs.Lifecycle.{answer, asks_for_reset, close, confirm, deny, drain, finish, is_connecting, is_over, may_reopen, may_send, needs_answer, negotiated, opened, refused, reopened, stop_incoming, takes_data};
 
 /// Whether both ends have the channel.
 #[derive(Clone, Copy, Debug)]
@@ -19,7 +19,7 @@ pub enum Opening {
 pub enum Outgoing {
     /// Messages are accepted.
     Sending,
-    /// No message is accepted any more; those that were go out first.
+    /// No message is accepted any more; those that were go out first, as long as the peer hasn't reset its stream.
     Draining,
     /// The reset was asked for, and isn't answered.
     Resetting,
@@ -109,6 +109,13 @@ impl Lifecycle {
         !matches!(self.opening, Opening::Refused) && !self.is_incoming_reset
     }
 
+    /// Whether an answer to the peer's opening is still of use: the peer has not reset its stream since, and this end's reset wasn't asked for.
+    pub(crate) fn needs_answer(&self) -> bool
+        ensures { result ≡ needs_answer self.now }
+    {
+        matches!(self.outgoing, Outgoing::Sending | Outgoing::Draining) && !self.is_incoming_reset
+    }
+
     /// Whether both streams were reset: then the channel is closed, and its stream is free (RFC 8831 section 6.7).
     pub fn is_over(&self) -> bool
         ensures { result ≡ is_over self.now }
@@ -152,7 +159,8 @@ impl Lifecycle {
         self.close();
     }
 
-    /// So many bytes of the stream wait in the socket. Answers whether its reset is to be asked for, which would drop what waits.
+    /// So many bytes of the stream wait in the socket for a peer that takes them: none where it has reset its stream. Answers whether this stream's
+    /// reset is to be asked for, which drops what waits.
     pub fn drain(&mut self, buffered_amount: usize) -> bool
         ensures asks { result ≡ asks_for_reset buffered_amount self.old }
         ensures row { self.new ≡ drain buffered_amount self.old }

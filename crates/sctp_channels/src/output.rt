@@ -20,7 +20,7 @@ pub enum Refusal {
     NoChannel,
     /// A message came under a PPID that is none of those of data channels. It is dropped.
     UnknownPayloadProtocol,
-    /// A message was longer than this end takes. It is dropped.
+    /// A message was longer than this end takes, or its parts went beyond `max_kept_bytes`. It is dropped.
     TooLong,
 }
 

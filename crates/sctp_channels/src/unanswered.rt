@@ -94,13 +94,14 @@ pub(crate) fn takes_answers<S: DcSctpSocket>(socket: &S) -> bool {
     }
 }
 
-/// Whether an answer is still of use: the peer has a channel on the stream, and has not reset it since.
+/// Whether an answer is still of use: the peer has a channel on the stream, and neither end has reset it since, or asked for it. One that went out
+/// behind the reset would be the first message of a later channel.
 fn needs_answer(channels: &Channels, id: StreamId) -> bool
     ensures { result ≡ needs_answer_at (channel_at id.0 channels.now.entries) }
 {
     match channels.get(id) {
         None => false,
-        Some(channel) => !channel.lifecycle().is_incoming_reset,
+        Some(channel) => channel.lifecycle().needs_answer(),
     }
 }
 

@@ -1,7 +1,8 @@
 //! Fields. A reader answers what the bytes begin with; where they begin with no such field it answers something.
 
-ghost use Rattle.std.specs.Prelude.{◌≡◌, ◌<◌, ◌^◌, Bool, List, ℕ, ◌++◌, length, FitsSigned, IfOk, OnOk};
+ghost use Rattle.std.specs.Prelude.{◌≡◌, ◌<◌, ◌^◌, Bool, List, ℕ, ◌++◌, length, All, FitsSigned, IfOk, OnOk};
 ghost use Rattle.std.specs.Int.{w32};
+ghost use Rattle.std.specs.List.{flat_map};
 ghost use Rattle.sctp_wire.specs.Field.{be16, be32, be64};
 ghost use Rattle.sctp_handover.specs.Bounds.{Is16, Is32, Is64};
 ghost use Rattle.sctp_handover.specs.Bytes.{flag_bytes, payload_bytes, signed_bytes};
@@ -94,14 +95,6 @@ pub(crate) fn push_flags(
     output.extend_from_slice(&[u8::from(a), u8::from(b), u8::from(c), u8::from(d)])
 }
 
-/// Appends a number in two's complement.
-#[tactic(auto, unfolding(crate::specs::Bytes::signed_bytes))]
-pub(crate) fn push_signed(output: &mut Vec<u8>, number: i32) -> Result<(), AllocError>
-    ensures { OnOk result (output.new.items ≡ output.old.items ++ signed_bytes number) }
-{
-    push_u32(output, number.cast_unsigned())
-}
-
 /// Appends bytes behind their length.
 #[tactic(auto, unfolding(crate::specs::Bytes::payload_bytes))]
 pub(crate) fn push_payload(output: &mut Vec<u8>, payload: &[u8]) -> Result<(), AllocError>
@@ -111,19 +104,35 @@ pub(crate) fn push_payload(output: &mut Vec<u8>, payload: &[u8]) -> Result<(), A
     output.extend_from_slice(payload)
 }
 
-/// Appends two numbers of two bytes.
-pub(crate) fn push_pair16(output: &mut Vec<u8>, first: u16, second: u16) -> Result<(), AllocError>
-    ensures { OnOk result (output.new.items ≡ output.old.items ++ (be16 first ++ be16 second)) }
+/// Appends numbers of two bytes.
+pub(crate) fn push_numbers16(output: &mut Vec<u8>, numbers: &[u16]) -> Result<(), AllocError>
+    ensures wrote { OnOk result (output.new.items ≡ output.old.items ++ flat_map be16 numbers.now) }
+    ensures fits { OnOk result (All Is16 numbers.now) }
 {
-    push_u16(output, first)?;
-    push_u16(output, second)
+    for number in numbers {
+        push_u16(output, *number)?;
+    }
+    Ok(())
 }
 
-/// Appends two numbers of eight bytes.
-pub(crate) fn push_pair64(output: &mut Vec<u8>, first: u64, second: u64) -> Result<(), AllocError>
-    ensures wrote { OnOk result (output.new.items ≡ output.old.items ++ (be64 first ++ be64 second)) }
-    ensures fits { second < 2 ^ 64 }
+/// Appends numbers of four bytes.
+pub(crate) fn push_numbers32(output: &mut Vec<u8>, numbers: &[u32]) -> Result<(), AllocError>
+    ensures wrote { OnOk result (output.new.items ≡ output.old.items ++ flat_map be32 numbers.now) }
+    ensures fits { OnOk result (All Is32 numbers.now) }
 {
-    push_u64(output, first)?;
-    push_u64(output, second)
+    for number in numbers {
+        push_u32(output, *number)?;
+    }
+    Ok(())
+}
+
+/// Appends numbers of eight bytes.
+pub(crate) fn push_numbers64(output: &mut Vec<u8>, numbers: &[u64]) -> Result<(), AllocError>
+    ensures wrote { OnOk result (output.new.items ≡ output.old.items ++ flat_map be64 numbers.now) }
+    ensures fits { OnOk result (All Is64 numbers.now) }
+{
+    for number in numbers {
+        push_u64(output, *number)?;
+    }
+    Ok(())
 }

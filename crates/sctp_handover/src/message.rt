@@ -6,12 +6,11 @@ ghost use Rattle.sctp_handover.specs.Bytes.{data_bytes, message_bytes};
 ghost use Rattle.sctp_handover.specs.Parts.{data_has_bytes, message_has_bytes};
 
 use crate::field::{
-    flags_at, number16_at, number32_at, number64_at, payload_at, push_flags, push_pair16,
-    push_pair64, push_payload, push_signed, signed_at, some_if,
+    flags_at, number16_at, number32_at, number64_at, payload_at, push_flags, push_numbers16,
+    push_numbers32, push_numbers64, push_payload, signed_at, some_if,
 };
 use crate::part::Part;
 use sctp_state::api::handover::{HandoverOutstandingData, HandoverStreamMessage};
-use sctp_wire::{push_u16, push_u32, push_u64};
 use std::alloc::{AllocError, Global};
 
 impl Part for HandoverStreamMessage {
@@ -55,7 +54,6 @@ impl Part for HandoverStreamMessage {
         Ok((message, rest))
     }
 
-    #[tactic(auto, unfolding(crate::specs::Bytes::message_bytes))]
     fn push_to(&self, output: &mut Vec<u8>) -> Result<(), AllocError> {
         push_flags(
             output,
@@ -64,14 +62,31 @@ impl Part for HandoverStreamMessage {
             self.mid.is_some(),
             self.ssn.is_some(),
         )?;
-        push_pair16(output, self.stream_id, self.max_retransmissions)?;
-        push_u16(output, self.ssn.unwrap_or(0))?;
-        push_u32(output, self.ppid)?;
-        push_u32(output, self.mid.unwrap_or(0))?;
-        push_u32(output, self.fsn)?;
-        push_signed(output, self.expires_in_ms.unwrap_or(0))?;
-        push_pair64(output, self.lifecycle_id, self.message_id)?;
-        push_u64(output, self.remaining_offset as u64)?;
+        push_numbers16(
+            output,
+            &[
+                self.stream_id,
+                self.max_retransmissions,
+                self.ssn.unwrap_or(0),
+            ],
+        )?;
+        push_numbers32(
+            output,
+            &[
+                self.ppid,
+                self.mid.unwrap_or(0),
+                self.fsn,
+                self.expires_in_ms.unwrap_or(0).cast_unsigned(),
+            ],
+        )?;
+        push_numbers64(
+            output,
+            &[
+                self.lifecycle_id,
+                self.message_id,
+                self.remaining_offset as u64,
+            ],
+        )?;
         push_payload(output, &self.payload)
     }
 }
@@ -129,7 +144,6 @@ impl Part for HandoverOutstandingData {
         Ok((data, rest))
     }
 
-    #[tactic(auto, unfolding(crate::specs::Bytes::data_bytes))]
     fn push_to(&self, output: &mut Vec<u8>) -> Result<(), AllocError> {
         push_flags(
             output,
@@ -145,14 +159,26 @@ impl Part for HandoverOutstandingData {
             self.is_nacked,
             self.is_to_be_retransmitted,
         )?;
-        push_pair16(output, self.stream_id, self.ssn)?;
-        push_pair16(output, self.max_retransmissions, self.retransmission_count)?;
-        push_u32(output, self.mid)?;
-        push_u32(output, self.fsn)?;
-        push_u32(output, self.ppid)?;
-        push_signed(output, self.expires_in_ms.unwrap_or(0))?;
-        push_signed(output, self.time_since_sent_ms)?;
-        push_pair64(output, self.lifecycle_id, self.message_id)?;
+        push_numbers16(
+            output,
+            &[
+                self.stream_id,
+                self.ssn,
+                self.max_retransmissions,
+                self.retransmission_count,
+            ],
+        )?;
+        push_numbers32(
+            output,
+            &[
+                self.mid,
+                self.fsn,
+                self.ppid,
+                self.expires_in_ms.unwrap_or(0).cast_unsigned(),
+                self.time_since_sent_ms.cast_unsigned(),
+            ],
+        )?;
+        push_numbers64(output, &[self.lifecycle_id, self.message_id])?;
         push_payload(output, &self.payload)
     }
 }

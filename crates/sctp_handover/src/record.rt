@@ -7,7 +7,7 @@ ghost use Rattle.sctp_handover.specs.Bytes.{is_connected, record_bytes};
 ghost use Rattle.sctp_handover.specs.Reads.{state_if};
 ghost use Rattle.sctp_handover.specs.declared.record.RecordFault.TheVariants.{Memory as no_memory};
 
-use crate::field::{flags_at, number32_at, number64_at, push_flags};
+use crate::field::{flags_at, number32_at, number64_at, push_flags, push_numbers32};
 use crate::section::{
     capabilities_at, push_capabilities, push_reception, push_transmission, reception_at,
     transmission_at,
@@ -86,7 +86,6 @@ fn record_at(alloc: Global, bytes: &[u8]) -> Result<SocketHandoverState, AllocEr
     })
 }
 
-#[tactic(auto, unfolding(crate::specs::Bytes::record_bytes))]
 fn push_record(output: &mut Vec<u8>, state: &SocketHandoverState) -> Result<(), AllocError>
     ensures wrote { OnOk result (output.new.items ≡ output.old.items ++ record_bytes (handover_state_of state.now)) }
     ensures fits { OnOk result (RecordFits (handover_state_of state.now)) }
@@ -99,10 +98,15 @@ fn push_record(output: &mut Vec<u8>, state: &SocketHandoverState) -> Result<(), 
         false,
         false,
     )?;
-    push_u32(output, state.my_verification_tag)?;
-    push_u32(output, state.my_initial_tsn)?;
-    push_u32(output, state.peer_verification_tag)?;
-    push_u32(output, state.peer_initial_tsn)?;
+    push_numbers32(
+        output,
+        &[
+            state.my_verification_tag,
+            state.my_initial_tsn,
+            state.peer_verification_tag,
+            state.peer_initial_tsn,
+        ],
+    )?;
     push_u64(output, state.tie_tag)?;
     push_capabilities(output, &state.capabilities)?;
     push_reception(output, &state.rx)?;

@@ -6,10 +6,12 @@ ghost use Rattle.sctp_handover.specs.Bounds.{CapabilitiesFit, ReceptionFits, Tra
 ghost use Rattle.sctp_handover.specs.Bytes.{capability_bytes, reception_bytes, transmission_bytes};
 ghost use Rattle.sctp_handover.specs.Reads.{Finds};
 
-use crate::field::{flags_at, number16_at, number32_at, number64_at, push_flags};
+use crate::field::{
+    flags_at, number16_at, number32_at, number64_at, push_flags, push_numbers16, push_numbers32,
+};
 use crate::part::{list_at, push_list};
 use sctp_state::api::handover::{HandoverCapabilities, HandoverReceive, HandoverTransmission};
-use sctp_wire::{push_u16, push_u32, push_u64};
+use sctp_wire::push_u64;
 use std::alloc::{AllocError, Global};
 
 pub(crate) fn capabilities_at(bytes: &[u8]) -> (HandoverCapabilities, &[u8])
@@ -31,7 +33,6 @@ pub(crate) fn capabilities_at(bytes: &[u8]) -> (HandoverCapabilities, &[u8])
     (capabilities, rest)
 }
 
-#[tactic(auto, unfolding(crate::specs::Bytes::capability_bytes))]
 pub(crate) fn push_capabilities(
     output: &mut Vec<u8>,
     capabilities: &HandoverCapabilities,
@@ -46,8 +47,13 @@ pub(crate) fn push_capabilities(
         capabilities.reconfig,
         capabilities.zero_checksum,
     )?;
-    push_u16(output, capabilities.negotiated_maximum_incoming_streams)?;
-    push_u16(output, capabilities.negotiated_maximum_outgoing_streams)
+    push_numbers16(
+        output,
+        &[
+            capabilities.negotiated_maximum_incoming_streams,
+            capabilities.negotiated_maximum_outgoing_streams,
+        ],
+    )
 }
 
 pub(crate) fn transmission_at(
@@ -83,7 +89,6 @@ pub(crate) fn transmission_at(
     Ok((transmission, rest))
 }
 
-#[tactic(auto, unfolding(crate::specs::Bytes::transmission_bytes))]
 pub(crate) fn push_transmission(
     output: &mut Vec<u8>,
     transmission: &HandoverTransmission,
@@ -91,13 +96,18 @@ pub(crate) fn push_transmission(
     ensures wrote { OnOk result (output.new.items ≡ output.old.items ++ transmission_bytes (transmission_of transmission.now)) }
     ensures fits { OnOk result (TransmissionFits (transmission_of transmission.now)) }
 {
-    push_u32(output, transmission.next_tsn)?;
-    push_u32(output, transmission.last_cumulative_tsn_ack)?;
-    push_u32(output, transmission.next_reset_req_sn)?;
-    push_u32(output, transmission.cwnd)?;
-    push_u32(output, transmission.rwnd)?;
-    push_u32(output, transmission.ssthresh)?;
-    push_u32(output, transmission.partial_bytes_acked)?;
+    push_numbers32(
+        output,
+        &[
+            transmission.next_tsn,
+            transmission.last_cumulative_tsn_ack,
+            transmission.next_reset_req_sn,
+            transmission.cwnd,
+            transmission.rwnd,
+            transmission.ssthresh,
+            transmission.partial_bytes_acked,
+        ],
+    )?;
     push_u64(output, transmission.next_outgoing_message_id)?;
     push_list(output, &transmission.streams)?;
     push_list(output, &transmission.queued_messages)?;
@@ -129,7 +139,6 @@ pub(crate) fn reception_at(
     Ok((reception, rest))
 }
 
-#[tactic(auto, unfolding(crate::specs::Bytes::reception_bytes))]
 pub(crate) fn push_reception(
     output: &mut Vec<u8>,
     reception: &HandoverReceive,
@@ -138,10 +147,15 @@ pub(crate) fn push_reception(
     ensures fits { OnOk result (ReceptionFits (receive_of reception.now)) }
 {
     push_flags(output, reception.seen_packet, false, false, false)?;
-    push_u32(output, reception.last_cumulative_acked_tsn)?;
-    push_u32(output, reception.last_assembled_tsn)?;
-    push_u32(output, reception.last_completed_deferred_reset_req_sn)?;
-    push_u32(output, reception.last_completed_reset_req_sn)?;
+    push_numbers32(
+        output,
+        &[
+            reception.last_cumulative_acked_tsn,
+            reception.last_assembled_tsn,
+            reception.last_completed_deferred_reset_req_sn,
+            reception.last_completed_reset_req_sn,
+        ],
+    )?;
     push_list(output, &reception.ordered_streams)?;
     push_list(output, &reception.unordered_streams)
 }

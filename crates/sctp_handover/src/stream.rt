@@ -7,7 +7,7 @@ ghost use Rattle.sctp_handover.specs.Bounds.{OrderedFits, OutgoingFits, Unordere
 ghost use Rattle.sctp_handover.specs.Bytes.{ordered_bytes, outgoing_bytes, unordered_bytes};
 ghost use Rattle.sctp_handover.specs.Parts.{ordered_has_bytes, outgoing_has_bytes, unordered_has_bytes};
 
-use crate::field::{number16_at, number32_at};
+use crate::field::{number16_at, number32_at, push_numbers16, push_numbers32};
 use crate::part::Part;
 use sctp_state::api::handover::{
     HandoverOrderedStream, HandoverOutgoingStream, HandoverUnorderedStream,
@@ -45,12 +45,9 @@ impl Part for HandoverOutgoingStream {
         Ok((stream, rest))
     }
 
-    #[tactic(auto, unfolding(crate::specs::Bytes::outgoing_bytes))]
     fn push_to(&self, output: &mut Vec<u8>) -> Result<(), AllocError> {
-        push_u16(output, self.id)?;
-        push_u16(output, self.next_ssn)?;
-        push_u32(output, self.next_unordered_mid)?;
-        push_u32(output, self.next_ordered_mid)?;
+        push_numbers16(output, &[self.id, self.next_ssn])?;
+        push_numbers32(output, &[self.next_unordered_mid, self.next_ordered_mid])?;
         push_u16(output, self.priority)
     }
 }

@@ -1,6 +1,7 @@
 -- Sums over the streams of a map, when one stream changes.
 use Rattle.std.proofs.Common.{◌≡◌, ℕ, ◌+◌, ◌≤◌, Bool, true, false, cond, List, [], ◌∷◌, Option, Some, None, ap, sym, ◌∙◌, arith}
-use Rattle.std.specs.Prelude.{unwrap_or, option_map, sum_by, filter, map, nat_lt, length}
+use Rattle.std.specs.Prelude.{unwrap_or, option_map, is_some, sum_by, filter, map, nat_lt, length}
+use Rattle.sctp_reassembly.specs.ReassemblyStreams.{Entries, stream_at, with_stream, put_stream, set_stream}
 use Rattle.sctp_fragments.specs.Runs.{from_rank}
 use Rattle.sctp_fragments.specs.Held.{Held, rank_of, bytes_of}
 use Rattle.std.specs.Ordering.{nat_cmp}
@@ -52,9 +53,20 @@ from_rank_bytes n (h ∷ hs) = go (nat_lt (rank_of h) n) (from_rank_bytes n hs)
     go true ih = omega (arith, ih)
     go false ih = omega (arith, ih)
 
--- a write of what an operation makes of the stream that is there
-pub written_is : {S : Type 0} (id : ℕ) (es old new : List (ℕ × S)) (v w fresh : S) (op : S → S) → new ≡ set_value (is_at (nat_cmp id)) es w → es ≡ old → Some v ≡ lookup (is_at (nat_cmp id)) es → w ≡ op v
-    → new ≡ set_value (is_at (nat_cmp id)) old (op (unwrap_or (lookup (is_at (nat_cmp id)) old) fresh))
-written_is {S = S} id es old new v w fresh op made same at is =
-    let there : v ≡ unwrap_or (lookup (is_at (nat_cmp id)) old) fresh = ap (λ (o : Option S). unwrap_or o fresh) at ∙ ap (λ (t : List (ℕ × S)). unwrap_or (lookup (is_at (nat_cmp id)) t) fresh) same in
-    made ∙ (ap (λ (t : S). set_value (is_at (nat_cmp id)) es t) (is ∙ ap op there) ∙ ap (λ (t : List (ℕ × S)). set_value (is_at (nat_cmp id)) t (op (unwrap_or (lookup (is_at (nat_cmp id)) old) fresh))) same)
+-- ---- a write of what an operation makes of a stream
+
+module _ {S : Type 0} (fresh : S) (id : ℕ) where
+  pub opened_there : (es old : Entries S) (v : S) → es ≡ old → Some v ≡ lookup (is_at (nat_cmp id)) es → es ≡ with_stream fresh id old
+  opened_there es old v same at =
+      let there : is_some (lookup (is_at (nat_cmp id)) old) ≡ true = ap (λ (t : Entries S). is_some (lookup (is_at (nat_cmp id)) t)) (sym same) ∙ ap is_some (sym at) in
+      same ∙ sym (ap (λ b. cond b old (insert_entry nat_cmp old id fresh)) there)
+
+  pub stream_there : (es old : Entries S) (v : S) → es ≡ old → Some v ≡ lookup (is_at (nat_cmp id)) es → v ≡ stream_at fresh id old
+  stream_there es old v same at = ap (λ (o : Option S). unwrap_or o fresh) at ∙ ap (stream_at fresh id) same
+
+  pub stream_absent : (old : Entries S) → None ≡ lookup (is_at (nat_cmp id)) old → fresh ≡ stream_at fresh id old
+  stream_absent old none = ap (λ (o : Option S). unwrap_or o fresh) none
+
+  pub set_opened : (opened old new : Entries S) (v w : S) (op : S → S) → new ≡ put_stream id w opened → opened ≡ with_stream fresh id old → v ≡ stream_at fresh id old → w ≡ op v → new ≡ set_stream fresh id (op (stream_at fresh id old)) old
+  set_opened opened old new v w op written is at made =
+      written ∙ (ap (λ (t : S). put_stream id t opened) (made ∙ ap op at) ∙ ap (λ (t : Entries S). put_stream id (op (stream_at fresh id old)) t) is)

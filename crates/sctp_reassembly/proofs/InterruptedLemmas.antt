@@ -1,17 +1,14 @@
 -- What a call on one stream leaves where memory runs out before its end.
 use Rattle.std.proofs.Common.{◌≡◌, ℕ, suc, ◌⊎◌, Option, Some, List, [], ◌∷◌, ◌++◌, refl, ap, sym, ◌∙◌, append_assoc, append-nil, inr}
 use Rattle.std.specs.List.{find}
-use Rattle.std.specs.Prelude.{unwrap_or, Result, Ok, Err, OnErr}
-use Rattle.std.specs.Map.{lookup}
-use Rattle.std.specs.Ordering.{nat_cmp}
-use Rattle.std.specs.BTreeMap.{is_at}
+use Rattle.std.specs.Prelude.{Result, Ok, Err, OnErr}
 use Rattle.sctp_serial.specs.Messages.{Message}
 use Rattle.sctp_fragments.specs.Runs.{with_item}
 use Rattle.sctp_fragments.specs.Held.{Held, rank_of, intervals_of, is_in_turn, left_by, message_of_run}
 use Rattle.sctp_reassembly.specs.Delivery.{OrderedStream, OrderedDelivery, delivering, deliver_within, preceded_by}
 use Rattle.sctp_reassembly.specs.ReassemblyStreams.{Entries, stream_at, with_stream, put_stream, set_stream}
 use Rattle.sctp_reassembly.specs.InterruptedStreams.{losing_next, deliver_in_part, ordered_arrival_in_part}
-use Rattle.sctp_reassembly.proofs.EntriesLemmas.{written_is}
+use Rattle.sctp_reassembly.proofs.EntriesLemmas.{set_opened}
 
 pub on_err : {T E P : Type 0} (r : Result T E) → P → OnErr r P
 on_err (Ok x) p = tt
@@ -73,21 +70,8 @@ arrived_in_part x s t new hs before ready same held (count, (stream, messages)) 
 
 -- ---- one stream of a map
 
-pub written_in_part : {S : Type 0} (id : ℕ) (es old new : Entries S) (v w fresh : S) (op : ℕ → S → S) (made : ℕ → S → List Message) (before ready : List Message) → new ≡ put_stream id w es → es ≡ old → Some v ≡ lookup (is_at (nat_cmp id)) es
+pub set_in_part : {S : Type 0} (fresh : S) (id : ℕ) (opened old new : Entries S) (v w : S) (op : ℕ → S → S) (made : ℕ → S → List Message) (before ready : List Message) → new ≡ put_stream id w opened → opened ≡ with_stream fresh id old → v ≡ stream_at fresh id old
     → (steps : ℕ) × ((w ≡ op steps v) × (ready ≡ before ++ made steps v))
-    → (steps : ℕ) × ((new ≡ put_stream id (op steps (stream_at fresh id old)) old) × (ready ≡ before ++ made steps (stream_at fresh id old)))
-written_in_part {S = S} id es old new v w fresh op made before ready written same at (steps, (stream, messages)) =
-    let there : v ≡ stream_at fresh id old = ap (λ (o : Option S). unwrap_or o fresh) at ∙ ap (λ (t : Entries S). stream_at fresh id t) same in
-    (steps, (written_is id es old new v w fresh (op steps) written same at stream, messages ∙ ap (λ (t : S). before ++ made steps t) there))
-
-pub opened_in_part : {S : Type 0} (id : ℕ) (opened old new : Entries S) (fresh : S) (op : ℕ → S → S) (made : ℕ → S → List Message) (before ready : List Message) → opened ≡ with_stream fresh id old → stream_at fresh id opened ≡ stream_at fresh id old
-    → (steps : ℕ) × ((new ≡ put_stream id (op steps (stream_at fresh id opened)) opened) × (ready ≡ before ++ made steps (stream_at fresh id opened)))
     → ((new ≡ old) × (ready ≡ before)) ⊎ ((steps : ℕ) × ((new ≡ set_stream fresh id (op steps (stream_at fresh id old)) old) × (ready ≡ before ++ made steps (stream_at fresh id old))))
-opened_in_part {S = S} id opened old new fresh op made before ready is stream (steps, (written, messages)) =
-    inr (
-      steps,
-      (
-        written ∙ (ap (λ (t : S). put_stream id (op steps t) opened) stream ∙ ap (λ (t : Entries S). put_stream id (op steps (stream_at fresh id old)) t) is),
-        messages ∙ ap (λ (t : S). before ++ made steps t) stream,
-      ),
-    )
+set_in_part {S = S} fresh id opened old new v w op made before ready written is at (steps, (stream, messages)) =
+    inr (steps, (set_opened fresh id opened old new v w (op steps) written is at stream, messages ∙ ap (λ (t : S). before ++ made steps t) at))

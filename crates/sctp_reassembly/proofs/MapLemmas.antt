@@ -1,6 +1,6 @@
 -- Entries of a map by the ranks of their keys.
 use Rattle.std.proofs.Common.{◌≡◌, ℕ, suc, ◌<◌, ◌≤◌, true, cond, ◌&&◌, not, Option, Some, None, List, [], ◌∷◌, ◌++◌, refl, ap, sym, subst, ◌∙◌, inl, inr, arith, append_assoc}
-use Rattle.std.specs.Prelude.{◌+◌, map, IfSome}
+use Rattle.std.specs.Prelude.{map, IfSome}
 use Rattle.std.proofs.lemmas.List.{map-append}
 use Rattle.sctp_fragments.specs.declared.interval.Entry.{Entry}
 use Rattle.std.proofs.Common.{Ordering, Equal, Greater, Less}

@@ -73,6 +73,32 @@ fn is_below<K: ReassemblyKey>(interval: &Interval<K>, key: K) -> bool
     is_before(interval.first().key, key)
 }
 
+/// Adds a fragment to a single one with another key: a map takes both. Without memory nothing changes.
+fn add_second<K: ReassemblyKey>(
+    alloc: Global,
+    state: &mut ListState<K>,
+    key: K,
+    fragment: Data,
+) -> Result<bool, AllocError>
+    requires state { IsListState K.number K.index state.old }
+    requires room { bytes_of (held_in (held_of K.number K.index) state.old) + length fragment.payload.items < 2 ^ 64 }
+    requires fragments { length (held_in (held_of K.number K.index) state.old) + 1 < 2 ^ 64 }
+    ensures value { OnOk result (held_in (held_of K.number K.index) state.new ≡ with_item rank_of (as_held (K.number key) (K.index key) fragment) (held_in (held_of K.number K.index) state.old)) }
+    ensures answer { IfOk result (λ is_new. is_new ≡ not (is_held rank_of (rank_at K.number K.index key) (held_in (held_of K.number K.index) state.old))) }
+    ensures place { IfOk result (λ is_new. is_new ≡ true → IsPlaced (held_in (held_of K.number K.index) state.old) (held_in (held_of K.number K.index) state.new) (as_held (K.number key) (K.index key) fragment)) }
+    ensures bytes { bytes_of (held_in (held_of K.number K.index) state.new) ≤ bytes_of (held_in (held_of K.number K.index) state.old) + length fragment.payload.items }
+    ensures fragments { length (held_in (held_of K.number K.index) state.new) ≤ length (held_in (held_of K.number K.index) state.old) + 1 }
+    ensures err { OnErr result (held_in (held_of K.number K.index) state.new ≡ held_in (held_of K.number K.index) state.old) }
+    ensures state { IsListState K.number K.index state.new }
+{
+    let mut map = Box::new(alloc, IntervalMap::new(alloc))?;
+    *map = IntervalMap::of(alloc, std::mem::replace(state, ListState::Empty));
+    let added = map.add(key, fragment);
+    *state = ListState::Many(map);
+    narrow(state);
+    added
+}
+
 impl<K: ReassemblyKey> IntervalList<K> {
     ghost use Rattle.std.specs.Prelude.{Bool};
     ghost use Rattle.std.specs.List.{find};
@@ -188,15 +214,7 @@ impl<K: ReassemblyKey> IntervalList<K> {
                 if has_key(interval, key) {
                     return Ok(false);
                 }
-                let mut map = Box::new(self.alloc, IntervalMap::new(self.alloc))?;
-                *map = IntervalMap::of(
-                    self.alloc,
-                    std::mem::replace(&mut self.state, ListState::Empty),
-                );
-                let added = map.add(key, fragment);
-                self.state = ListState::Many(map);
-                narrow(&mut self.state);
-                added
+                add_second(self.alloc, &mut self.state, key, fragment)
             }
         }
     }

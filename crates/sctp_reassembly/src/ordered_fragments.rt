@@ -97,7 +97,7 @@ fn deliver<K: ReassemblyKey>(
 }
 
 /// Of so many intervals the complete ones are noted. Fewer are looked through.
-const MANY: usize = 512;
+const MANY: usize = 64;
 
 /// Notes the interval with the key where it is complete. Where intervals become many, notes all that are.
 fn note_in<K: ReassemblyKey>(finished: &mut Finished<K>, list: &IntervalList<K>, key: K)

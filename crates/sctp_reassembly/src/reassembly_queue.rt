@@ -268,10 +268,11 @@ impl ReassemblyQueue {
     pub fn admits_fragment(&self, tsn: Tsn, stream_key: StreamKey) -> bool
         ensures { result ≡ admits_fragment tsn.0 (key_stream stream_key) self.now }
     {
-        let number = self.number_of(tsn);
         match &self.deferred {
             Some(deferred) => {
-                !self.fragment_waits(number, stream_key.id()) || deferred.has_room_for_fragment()
+                let waits = deferred.is_behind(self.number_of(tsn))
+                    && deferred.concerns(stream_key.id());
+                !waits || deferred.has_room_for_fragment()
             }
             None => true,
         }
@@ -282,14 +283,15 @@ impl ReassemblyQueue {
     pub fn admits_point(&self, tsn: Tsn, skipped: &[SkippedStream]) -> bool
         ensures { result ≡ admits_point tsn.0 skipped.now self.now }
     {
-        let number = self.number_of(tsn);
         match &self.deferred {
-            Some(deferred) => !deferred.is_behind(number) || deferred.has_room_for(skipped.len()),
+            Some(deferred) => {
+                !deferred.is_behind(self.number_of(tsn)) || deferred.has_room_for(skipped.len())
+            }
             None => true,
         }
     }
 
-    /// Whether entries of a forward point do.
+    /// Whether entries of a forward point wait for a reset.
     fn point_waits(&self, number: u64) -> bool
         ensures value { result ≡ point_waits number self.now.deferred }
         ensures deferred { result ≡ true → is_some self.now.deferred ≡ true }

@@ -7,7 +7,7 @@ ghost use Rattle.std.specs.Ordering.{nat_cmp};
 ghost use Rattle.std.specs.BTreeMap.{is_at};
 ghost use Rattle.sctp_fragments.specs.Interval.{as_held};
 ghost use Rattle.sctp_reassembly.specs.Delivery.{ready_bytes, Extends};
-ghost use Rattle.sctp_reassembly.specs.ReassemblyStreams.{bytes_held, fragments_held, AreCounted, stream_at, with_stream, put_stream, set_stream, forget};
+ghost use Rattle.sctp_reassembly.specs.ReassemblyStreams.{bytes_held, fragments_held, AreCounted, stream_at, with_stream, set_stream, forget};
 
 use crate::ready_messages::ReadyMessages;
 use crate::reassembly_stream::ReassemblyStream;
@@ -63,52 +63,19 @@ impl<S: ReassemblyStream> StreamMap<S> {
         self.fragments
     }
 
-    /// Makes the stream where there is none. Without memory nothing changes.
+    /// Makes a stream that isn't there. Without memory nothing changes.
     fn open(&mut self, id: StreamId) -> Result<(), AllocError>
+        requires absent { None ≡ lookup (is_at (nat_cmp id.0)) self.old }
         ensures ok { OnOk result (self.new ≡ with_stream S.fresh id.0 self.old) }
         ensures there { OnOk result (IsSome (lookup (is_at (nat_cmp id.0)) self.new)) }
-        ensures stream { OnOk result (stream_at S.fresh id.0 self.new ≡ stream_at S.fresh id.0 self.old) }
+        ensures stream { OnOk result (stream_at S.fresh id.0 self.new ≡ S.fresh) }
         ensures bytes { bytes_held S.held self.new ≡ bytes_held S.held self.old }
         ensures fragments { fragments_held S.held self.new ≡ fragments_held S.held self.old }
         ensures err { OnErr result (self.new ≡ self.old) }
     {
-        if self.streams.contains_key(&id.0) {
-            return Ok(());
-        }
         let stream = S::new(self.alloc);
         self.streams.insert(id.0, stream)?;
         Ok(())
-    }
-
-    /// Adds a fragment to a stream that is there.
-    #[tactic(auto, using(crate::proofs::ExtendsLemmas::extends_none))]
-    fn add_to(
-        &mut self,
-        id: StreamId,
-        key: S::Key,
-        fragment: Data,
-        ready: &mut ReadyMessages,
-    ) -> Result<(), AllocError>
-        requires there { IsSome (lookup (is_at (nat_cmp id.0)) self.old) }
-        requires room { bytes_held S.held self.old + ready_bytes ready.old + length fragment.payload.items < 2 ^ 64 }
-        requires fragments { fragments_held S.held self.old + 1 < 2 ^ 64 }
-        requires small { S.Key.number key < 2 ^ 63 }
-        ensures ok { OnOk result (self.new ≡ put_stream id.0 (S.after_arrival (as_held (S.Key.number key) (S.Key.index key) fragment) (stream_at S.fresh id.0 self.old)) self.old) }
-        ensures ready { OnOk result (ready.new ≡ ready.old ++ S.made_ready (as_held (S.Key.number key) (S.Key.index key) fragment) (stream_at S.fresh id.0 self.old)) }
-        ensures err { OnErr result ((steps : ℕ) × ((self.new ≡ put_stream id.0 (S.arrival_in_part steps (as_held (S.Key.number key) (S.Key.index key) fragment) (stream_at S.fresh id.0 self.old)) self.old) × (ready.new ≡ ready.old ++ S.ready_in_part steps (as_held (S.Key.number key) (S.Key.index key) fragment) (stream_at S.fresh id.0 self.old)))) }
-        ensures kept { Extends ready.old ready.new }
-        ensures bytes { bytes_held S.held self.new + ready_bytes ready.new ≤ bytes_held S.held self.old + ready_bytes ready.old + length fragment.payload.items }
-        ensures fragments { fragments_held S.held self.new ≤ fragments_held S.held self.old + 1 }
-    {
-        let Some(stream) = self.streams.get_mut(&id.0) else {
-            return Err(AllocError);
-        };
-        let before = stream.queued_bytes();
-        let fragments_before = stream.held_fragments();
-        let added = stream.add(key, fragment, ready);
-        self.bytes = self.bytes - before + stream.queued_bytes();
-        self.fragments = self.fragments - fragments_before + stream.held_fragments();
-        added
     }
 
     /// Adds a fragment to its stream.
@@ -130,38 +97,45 @@ impl<S: ReassemblyStream> StreamMap<S> {
         ensures bytes { bytes_held S.held self.new + ready_bytes ready.new ≤ bytes_held S.held self.old + ready_bytes ready.old + length fragment.payload.items }
         ensures fragments { fragments_held S.held self.new ≤ fragments_held S.held self.old + 1 }
     {
-        self.open(id)?;
-        self.add_to(id, key, fragment, ready)
-    }
-
-    /// Forwards a stream that is there.
-    #[tactic(auto, using(crate::proofs::ExtendsLemmas::extends_none))]
-    fn forward_in(
-        &mut self,
-        id: StreamId,
-        first: S::Key,
-        ready: &mut ReadyMessages,
-    ) -> Result<(), AllocError>
-        requires there { IsSome (lookup (is_at (nat_cmp id.0)) self.old) }
-        requires room { bytes_held S.held self.old + ready_bytes ready.old < 2 ^ 64 }
-        requires some { 0 < S.Key.number first }
-        requires small { S.Key.number first < 2 ^ 63 }
-        ensures ok { (n : ℕ) → S.Key.number first ≡ suc n → S.Key.index first ≡ 0 → OnOk result (self.new ≡ put_stream id.0 (S.after_forward n (stream_at S.fresh id.0 self.old)) self.old) }
-        ensures ready { (n : ℕ) → S.Key.number first ≡ suc n → S.Key.index first ≡ 0 → OnOk result (ready.new ≡ ready.old ++ S.forwarded n (stream_at S.fresh id.0 self.old)) }
-        ensures err { (n : ℕ) → S.Key.number first ≡ suc n → S.Key.index first ≡ 0 → OnErr result ((steps : ℕ) × ((self.new ≡ put_stream id.0 (S.forward_in_part steps n (stream_at S.fresh id.0 self.old)) self.old) × (ready.new ≡ ready.old ++ S.forwarded_in_part steps n (stream_at S.fresh id.0 self.old)))) }
-        ensures kept { Extends ready.old ready.new }
-        ensures bytes { bytes_held S.held self.new + ready_bytes ready.new ≤ bytes_held S.held self.old + ready_bytes ready.old }
-        ensures fragments { fragments_held S.held self.new ≤ fragments_held S.held self.old }
-    {
         let Some(stream) = self.streams.get_mut(&id.0) else {
-            return Err(AllocError);
+            return self.add_first(id, key, fragment, ready);
         };
         let before = stream.queued_bytes();
         let fragments_before = stream.held_fragments();
-        let forwarded = stream.forward(first, ready);
+        let added = stream.add(key, fragment, ready);
         self.bytes = self.bytes - before + stream.queued_bytes();
         self.fragments = self.fragments - fragments_before + stream.held_fragments();
-        forwarded
+        added
+    }
+
+    /// Adds the first fragment of a stream, which it makes.
+    #[tactic(auto, using(crate::proofs::ExtendsLemmas::extends_none))]
+    fn add_first(
+        &mut self,
+        id: StreamId,
+        key: S::Key,
+        fragment: Data,
+        ready: &mut ReadyMessages,
+    ) -> Result<(), AllocError>
+        requires absent { None ≡ lookup (is_at (nat_cmp id.0)) self.old }
+        requires room { bytes_held S.held self.old + ready_bytes ready.old + length fragment.payload.items < 2 ^ 64 }
+        requires fragments { fragments_held S.held self.old + 1 < 2 ^ 64 }
+        requires small { S.Key.number key < 2 ^ 63 }
+        ensures ok { OnOk result (self.new ≡ set_stream S.fresh id.0 (S.after_arrival (as_held (S.Key.number key) (S.Key.index key) fragment) (stream_at S.fresh id.0 self.old)) self.old) }
+        ensures ready { OnOk result (ready.new ≡ ready.old ++ S.made_ready (as_held (S.Key.number key) (S.Key.index key) fragment) (stream_at S.fresh id.0 self.old)) }
+        ensures err { OnErr result (((self.new ≡ self.old) × (ready.new ≡ ready.old)) ⊎ ((steps : ℕ) × ((self.new ≡ set_stream S.fresh id.0 (S.arrival_in_part steps (as_held (S.Key.number key) (S.Key.index key) fragment) (stream_at S.fresh id.0 self.old)) self.old) × (ready.new ≡ ready.old ++ S.ready_in_part steps (as_held (S.Key.number key) (S.Key.index key) fragment) (stream_at S.fresh id.0 self.old))))) }
+        ensures kept { Extends ready.old ready.new }
+        ensures bytes { bytes_held S.held self.new + ready_bytes ready.new ≤ bytes_held S.held self.old + ready_bytes ready.old + length fragment.payload.items }
+        ensures fragments { fragments_held S.held self.new ≤ fragments_held S.held self.old + 1 }
+    {
+        self.open(id)?;
+        let Some(stream) = self.streams.get_mut(&id.0) else {
+            return Err(AllocError);
+        };
+        let added = stream.add(key, fragment, ready);
+        self.bytes += stream.queued_bytes();
+        self.fragments += stream.held_fragments();
+        added
     }
 
     /// A forward point names the message before that of the key: its stream drops it and those before it.
@@ -182,8 +156,44 @@ impl<S: ReassemblyStream> StreamMap<S> {
         ensures bytes { bytes_held S.held self.new + ready_bytes ready.new ≤ bytes_held S.held self.old + ready_bytes ready.old }
         ensures fragments { fragments_held S.held self.new ≤ fragments_held S.held self.old }
     {
+        let Some(stream) = self.streams.get_mut(&id.0) else {
+            return self.forward_first(id, first, ready);
+        };
+        let before = stream.queued_bytes();
+        let fragments_before = stream.held_fragments();
+        let forwarded = stream.forward(first, ready);
+        self.bytes = self.bytes - before + stream.queued_bytes();
+        self.fragments = self.fragments - fragments_before + stream.held_fragments();
+        forwarded
+    }
+
+    /// The same for a stream of which nothing came, which it makes.
+    #[tactic(auto, using(crate::proofs::ExtendsLemmas::extends_none))]
+    fn forward_first(
+        &mut self,
+        id: StreamId,
+        first: S::Key,
+        ready: &mut ReadyMessages,
+    ) -> Result<(), AllocError>
+        requires absent { None ≡ lookup (is_at (nat_cmp id.0)) self.old }
+        requires room { bytes_held S.held self.old + ready_bytes ready.old < 2 ^ 64 }
+        requires some { 0 < S.Key.number first }
+        requires small { S.Key.number first < 2 ^ 63 }
+        ensures ok { (n : ℕ) → S.Key.number first ≡ suc n → S.Key.index first ≡ 0 → OnOk result (self.new ≡ set_stream S.fresh id.0 (S.after_forward n (stream_at S.fresh id.0 self.old)) self.old) }
+        ensures ready { (n : ℕ) → S.Key.number first ≡ suc n → S.Key.index first ≡ 0 → OnOk result (ready.new ≡ ready.old ++ S.forwarded n (stream_at S.fresh id.0 self.old)) }
+        ensures err { (n : ℕ) → S.Key.number first ≡ suc n → S.Key.index first ≡ 0 → OnErr result (((self.new ≡ self.old) × (ready.new ≡ ready.old)) ⊎ ((steps : ℕ) × ((self.new ≡ set_stream S.fresh id.0 (S.forward_in_part steps n (stream_at S.fresh id.0 self.old)) self.old) × (ready.new ≡ ready.old ++ S.forwarded_in_part steps n (stream_at S.fresh id.0 self.old))))) }
+        ensures kept { Extends ready.old ready.new }
+        ensures bytes { bytes_held S.held self.new + ready_bytes ready.new ≤ bytes_held S.held self.old + ready_bytes ready.old }
+        ensures fragments { fragments_held S.held self.new ≤ fragments_held S.held self.old }
+    {
         self.open(id)?;
-        self.forward_in(id, first, ready)
+        let Some(stream) = self.streams.get_mut(&id.0) else {
+            return Err(AllocError);
+        };
+        let forwarded = stream.forward(first, ready);
+        self.bytes += stream.queued_bytes();
+        self.fragments += stream.held_fragments();
+        forwarded
     }
 
     /// Forgets the streams that are named, or all where none is.

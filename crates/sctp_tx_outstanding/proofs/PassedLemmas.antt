@@ -330,9 +330,6 @@ module _ (most : ℕ) (s : Items) where
   pub begun_ascends : (end : ℕ) (f : ForwardPoint) → BeginsPoint most end s.is_interleaved s.kept f → Ascend f.entries
   begun_ascends end f h = subst Ascend (sym h.entries) (over_ascends s.is_interleaved [] (take f.count s.kept) tt)
 
-pub none_begun : (most end : ℕ) (m : Bool) (is : List Item) → BeginsPoint most end m is (at 0 [])
-none_begun most end m is = record { ends = omega arith; within = omega arith; given_up = refl; entries = refl; fits = λ some. absurd (omega (arith, some)) }
-
 pub begun : (most end : ℕ) (m : Bool) (is : List Item) (count left : ℕ) (ts : List Touched) → ArePassed m is count left ts → count ≤ end
     → size_with m None (entries_in (filter (λ t. is_kept left t) ts)) ≤ most → BeginsPoint most end m is (at count (entries_in (filter (λ t. is_kept left t) ts)))
 begun most end m is count left ts h ends fits = record { ends = ends; within = h.within; given_up = h.given_up; entries = entries_are m is count left ts h; fits = λ some. fits }

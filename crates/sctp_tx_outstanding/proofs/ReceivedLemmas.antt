@@ -241,10 +241,10 @@ module _ (olds bs : List GapAckBlock) where
 -- ---- a cursor that begins later
 
 pub cursor_later : (bs : List GapAckBlock) (o p from : ℕ) → o ≤ p → IsCursor bs o from → IsCursor bs p from
-cursor_later bs o p from le h = record { within = h.within; same = λ q lq. h.same q (omega (arith, le, lq)); lowest = h.lowest; runs = h.runs }
+cursor_later bs o p from le h = record { within = h.within; same = λ q lq. h.same q (omega (arith, le, lq)); lowest = h.lowest; order = h.order }
 
 pub cursor_begin : (bs : List GapAckBlock) (o : ℕ) → AreRuns 0 bs → IsCursor bs o 0
-cursor_begin bs o h = record { within = omega arith; same = λ q le. refl; lowest = 0; runs = h }
+cursor_begin bs o h = record { within = omega arith; same = λ q le. refl; lowest = 0; order = h }
 
 pub walk_begin : (b : Bool) (bs : List GapAckBlock) (o : ℕ) → (IsTrue b → AreRuns 0 bs) → IsWalk b bs o 0
 walk_begin true bs o h = cursor_begin bs o (h refl)
@@ -260,7 +260,7 @@ pub knows_changed : (h : LastBlocks) (x : Change) → is_of_sack x ≡ false →
 knows_changed h x e k is known = λ yes.
     let old : AreAsBlocksSaid h is = known yes in
     let same : length (change_at k (apply_change x) is) ≡ length is = length_change k (apply_change x) is in
-    record { runs = old.runs; small = old.small; within = omega (arith, same, old.within); rest = rest_changed h.runs.items x h.offset k is e old.rest }
+    record { order = old.order; small = old.small; within = omega (arith, same, old.within); rest = rest_changed h.gap_ack_blocks.items x h.offset k is e old.rest }
 
 length_more : (is : List Item) (i : Item) → length (is ++ i ∷ []) ≡ length is + 1
 length_more [] i = refl
@@ -272,4 +272,4 @@ pub knows_pushed : (h : LastBlocks) (is : List Item) (i : Item) → is_acked i �
 knows_pushed h is i e known = λ yes.
     let old : AreAsBlocksSaid h is = known yes in
     let more : length (is ++ i ∷ []) ≡ length is + 1 = length_more is i in
-    record { runs = old.runs; small = old.small; within = omega (arith, more, old.within); rest = rest_pushed h.runs.items h.offset is i e old.within old.rest }
+    record { order = old.order; small = old.small; within = omega (arith, more, old.within); rest = rest_pushed h.gap_ack_blocks.items h.offset is i e old.within old.rest }

@@ -17,7 +17,8 @@ use Rattle.sctp_tx_outstanding.specs.Totals.{parts, Exchanges}
 use Rattle.sctp_tx_outstanding.specs.Sizes.{IsLargeAt}
 use Rattle.sctp_tx_outstanding.specs.OutstandingData.{change_at, when}
 use Rattle.sctp_tx_outstanding.specs.declared.runs.Run.{Run}
-use Rattle.sctp_tx_outstanding.specs.Runs.{run_of, bit_of, nothing_known, known_of, IsKnown, IsKnownOf, AreKnown, SameBut, IsGivenUpOf}
+use Rattle.sctp_tx_outstanding.specs.declared.runs.Runs.{Runs}
+use Rattle.sctp_tx_outstanding.specs.Runs.{run_of, bit_of, nothing_known, known_of, IsKnown, IsKnownOf, AreKnown, HasRuns, SameBut, IsGivenUpOf}
 use Rattle.sctp_tx_outstanding.specs.Flights.{flies_of, flies_at}
 use Rattle.sctp_tx_outstanding.specs.Waiting.{waits_of, waits_at, IsAtLeast}
 use Rattle.sctp_tx_outstanding.proofs.WaitingLemmas.{same_fragment, false_from_none}
@@ -181,20 +182,6 @@ passed_run runs news o i is e is_rest h k =
     ap (λ n. known_of runs n) next ∙ (sym (tail_lem runs ((0 + k) / 64)) ∙ ap (λ bs. known_of bs ((0 + k) / 64)) (sym is_rest)) in
     subst (λ b. IsKnownOf (known_of news ((0 + k) / 64)) b (slice_get is k)) bit (subst (λ r. IsKnownOf r ((o + suc k) % 64) (slice_get is k)) same (h (suc k)))
 
--- ---- one comes
-
-pushed_before : (runs : List Run) (n : ℕ) (r : Run) → n < length runs → known_of (runs ++ r ∷ []) n ≡ known_of runs n
-pushed_before [] n r less = absurd (omega (arith, less))
-pushed_before (x ∷ xs) zero r less = refl
-pushed_before (x ∷ xs) (suc n) r less = pushed_before xs n r (omega (arith, less))
-
--- its run is listed, and has no item yet
-pub begun : (runs : List Run) (o : ℕ) (r : Run) (is : List Item) → ((k : ℕ) → k < length is → run_of o k < length runs) → AreKnown runs o is → AreKnown (runs ++ r ∷ []) o is
-begun runs o r is before h k = elim (cases_lt k (length is)) [
-  | inl less ↦ subst (λ x. IsKnownOf x (bit_of o k) (slice_get is k)) (sym (pushed_before runs (run_of o k) r (before k less))) (h k)
-  | inr le ↦ subst (λ x. IsKnownOf (known_of (runs ++ r ∷ []) (run_of o k)) (bit_of o k) x) (sym (slice_get_past is k le)) tt
-]
-
 -- ---- an item is seen
 
 module _ (runs : List Run) (o place : ℕ) (is js : List Item) (same : SameBut place is js) (h : AreKnown runs o is) where
@@ -301,7 +288,7 @@ module _ (m : Bool) (x : Change) (old new : Totals) (queued : old.queued ≡ new
       least = still_least r.least h.least;
     }
 
-  pub known_still : (p : ℕ) (is : List Item) → Exchanges m p x is old new → (r : Run) (bit k : ℕ) → (k ≡ p → bit_at r.flying bit ≡ 0 → new.flights ≤ old.flights)
+  known_still : (p : ℕ) (is : List Item) → Exchanges m p x is old new → (r : Run) (bit k : ℕ) → (k ≡ p → bit_at r.flying bit ≡ 0 → new.flights ≤ old.flights)
       → IsKnownOf r bit (slice_get is k) → IsKnownOf r bit (slice_get (change_at p (apply_change x) is) k)
   known_still p [] e r bit k flights h = h
   known_still zero (i ∷ is) e r bit zero flights h = still_known i e.0 e.1 r bit (flights refl) h
@@ -309,9 +296,18 @@ module _ (m : Bool) (x : Change) (old new : Totals) (queued : old.queued ≡ new
   known_still (suc p) (i ∷ is) e r bit zero flights h = h
   known_still (suc p) (i ∷ is) e r bit (suc k) flights h = known_still p is e r bit k (λ d. flights (ap (λ n. suc n) d)) h
 
-  pub least_still : (p : ℕ) (is : List Item) → Exchanges m p x is old new → (least k : ℕ) → IsLargeAt least k is → IsLargeAt least k (change_at p (apply_change x) is)
+  least_still : (p : ℕ) (is : List Item) → Exchanges m p x is old new → (least k : ℕ) → IsLargeAt least k is → IsLargeAt least k (change_at p (apply_change x) is)
   least_still p [] e least k h = h
   least_still zero (i ∷ is) e least zero h = still_least i e.0 e.1 least h
   least_still zero (i ∷ is) e least (suc k) h = h
   least_still (suc p) (i ∷ is) e least zero h = h
   least_still (suc p) (i ∷ is) e least (suc k) h = least_still p is e least k h
+
+  pub runs_still : (p : ℕ) (is : List Item) → Exchanges m p x is old new → (r : Runs) → (bit_at (known_of r.known.items (run_of r.offset p)).flying (bit_of r.offset p) ≡ 0 → new.flights ≤ old.flights)
+      → HasRuns r is → HasRuns r (change_at p (apply_change x) is)
+  runs_still p is e r flights h = record {
+    small = h.small;
+    known = λ k. known_still p is e (known_of r.known.items (run_of r.offset k)) (bit_of r.offset k) k
+        (λ at none. flights (subst (λ n. bit_at (known_of r.known.items (run_of r.offset n)).flying (bit_of r.offset n) ≡ 0) at none)) (h.known k);
+    least = λ k. least_still p is e r.least k (h.least k);
+  }

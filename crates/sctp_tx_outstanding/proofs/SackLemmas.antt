@@ -1,5 +1,5 @@
 -- A walk through items and blocks.
-use Rattle.std.proofs.Common.{◌≡◌, ℕ, zero, suc, ◌+◌, ◌<◌, ◌≤◌, ◌||◌, Bool, true, false, cond, List, [], ◌∷◌, length, drop, slice_index_or, min, refl, ap, sym, subst, ◌∙◌, arith}
+use Rattle.std.proofs.Common.{◌≡◌, ℕ, zero, suc, ◌+◌, ◌<◌, ◌≤◌, ◌||◌, Bool, false, cond, List, [], ◌∷◌, length, drop, slice_index_or, min, refl, ap, sym, subst, ◌∙◌, arith}
 use Rattle.std.specs.Prelude.{slice_get}
 use Rattle.std.proofs.Math.Seq.{drop-cons}
 use Rattle.sctp_chunk.specs.declared.sack.GapAckBlock.{GapAckBlock}
@@ -7,7 +7,7 @@ use Rattle.sctp_chunk.specs.Covered.{is_covered, covers, AreRuns}
 use Rattle.sctp_tx_outstanding.specs.Item.{Item}
 use Rattle.sctp_tx_outstanding.specs.OutstandingData.{Kept, change_at}
 use Rattle.sctp_tx_outstanding.specs.Sack.{ack_or_uncover, is_new_at, new_bytes_at, newly_of, bytes_of}
-use Rattle.sctp_tx_outstanding.specs.Passes.{IsCursor, IsWalk, ack_or_uncover_from, acked_from, below_from}
+use Rattle.sctp_tx_outstanding.specs.Passes.{IsCursor, ack_or_uncover_from, acked_from, below_from}
 use Rattle.sctp_chunk.proofs.SackLemmas.{is_covered_below}
 
 -- ---- blocks
@@ -18,8 +18,8 @@ uncovered_first lowest o b bs h less = is_covered_below b.start o (b ∷ bs) (om
 pub uncovered_at : (bs : List GapAckBlock) (at offset o : ℕ) (d : GapAckBlock) → IsCursor bs offset at → at < length bs → offset ≤ o → o < (slice_index_or bs at d).start → is_covered bs o ≡ false
 uncovered_at bs at offset o d h less le before =
     let e : drop at bs ≡ slice_index_or bs at d ∷ drop (suc at) bs = drop-cons bs at d less in
-    let runs = subst (λ cs. AreRuns h.lowest cs) e h.runs in
-    sym (h.same o le) ∙ ap (λ cs. is_covered cs o) e ∙ uncovered_first h.lowest o (slice_index_or bs at d) (drop (suc at) bs) runs before
+    let order = subst (λ cs. AreRuns h.lowest cs) e h.order in
+    sym (h.same o le) ∙ ap (λ cs. is_covered cs o) e ∙ uncovered_first h.lowest o (slice_index_or bs at d) (drop (suc at) bs) order before
 
 -- one block more
 pub alike_next : (b : GapAckBlock) (bs cs : List GapAckBlock) (place next here : ℕ) → cs ≡ b ∷ bs → ((p : ℕ) → place ≤ p → p < here → covers (p + 1) b ≡ covers (place + 1) b)
@@ -50,15 +50,6 @@ below_next bs f zero offset place most [] h = absurd (omega (arith, h))
 below_next bs f zero offset place most (i ∷ is) h = refl
 below_next bs f (suc k) offset place most [] h = absurd (omega (arith, h))
 below_next bs f (suc k) offset place most (i ∷ is) h = below_next bs f k offset place most is (omega (arith, h))
-
--- ---- a cursor goes on
-
-cursor_on : (bs : List GapAckBlock) (offset from : ℕ) → IsCursor bs offset from → IsCursor bs (offset + 1) from
-cursor_on bs offset from h = record { within = h.within; same = λ o le. h.same o (omega (arith, le)); lowest = h.lowest; runs = h.runs }
-
-pub walk_on : (b : Bool) (bs : List GapAckBlock) (offset from : ℕ) → IsWalk b bs offset from → IsWalk b bs (offset + 1) from
-walk_on true bs offset from h = cursor_on bs offset from h
-walk_on false bs offset from h = tt
 
 -- ---- one item more
 

@@ -3,7 +3,7 @@ use Rattle.std.proofs.lemmas.Bool.{cases_lt, both_ways}
 use Rattle.std.proofs.lemmas.Option.{slice_get_past}
 use Rattle.std.proofs.lemmas.List.Elements.{All-cons, All-nil}
 use Rattle.std.proofs.lemmas.List.Sums.{sum_by-cons}
-use Rattle.std.proofs.Common.{◌≡◌, inl, inr, ℕ, zero, suc, ◌+◌, ◌*◌, ◌/◌, ◌<◌, ◌≤◌, Bool, true, List, [], ◌∷◌, ◌++◌, length, slice_set, refl, sym, subst, arith}
+use Rattle.std.proofs.Common.{◌≡◌, inl, inr, ℕ, zero, suc, ◌+◌, ◌*◌, ◌/◌, ◌<◌, ◌≤◌, Bool, true, List, [], ◌∷◌, length, slice_set, refl, sym, subst, arith}
 use Rattle.std.specs.Prelude.{Option, Some, None, ◌≢◌, slice_get, nat_lt}
 use Rattle.std.specs.List.{All, sum_by}
 use Rattle.sctp_tx_outstanding.specs.Item.{Item, should_be_retransmitted, header_size, chunk_size}
@@ -49,17 +49,19 @@ followed less least place is js same le here all k = elim (cases_lt k place) [
   at : place ≡ k → IsLargeAt less k js
   at e = subst (λ p. IsLargeAt less p js) e here
 
-pub pushed_large : (least k : ℕ) (is : List Item) (i : Item) → length is ≡ k → IsAtLeast least i → IsLargeAt least k (is ++ i ∷ [])
-pushed_large least zero [] i e h = h
-pushed_large least (suc k) [] i e h = absurd (omega (arith, e))
-pushed_large least zero (x ∷ is) i e h = absurd (omega (arith, e))
-pushed_large least (suc k) (x ∷ is) i e h = pushed_large least k is i (omega (arith, e)) h
-
 -- where none waits
 pub none_small : (least : ℕ) (is : List Item) → sum_by queued_part is ≤ 0 → AreAtLeast least is
 none_small least [] h k = large_none least k
 none_small least (i ∷ is) h zero = λ t. absurd (both_ways (should_be_retransmitted i) (false_from_none (should_be_retransmitted i) (omega (arith, sum_by-cons queued_part i is, h))) t)
 none_small least (i ∷ is) h (suc k) = none_small least is (omega (arith, sum_by-cons queued_part i is, h)) k
+
+-- and so many wait then
+pub bounded : (old less least queued place : ℕ) (is js : List Item) (i : Item) → slice_get js place ≡ Some i → SameBut place is js → queued ≡ sum_by queued_part js → less ≤ old → IsAtLeast less i
+    → (0 < queued → least ≡ less) → AreAtLeast old is → AreAtLeast least js
+bounded old less least queued place is js i lookup same sum le here bound all = elim (cases_lt 0 queued) [
+  | inl some ↦ subst (λ n. AreAtLeast n js) (sym (bound some)) (followed less old place is js same le (subst (λ o. IsLargeOf less o) (sym lookup) here) all)
+  | inr none ↦ none_small least js (omega (arith, none, sum))
+]
 
 pub chunks_at_least : (m : Bool) (least size : ℕ) (is : List Item) → size ≤ least → AreAtLeast least is → All (λ i. should_be_retransmitted i ≡ true → (header_size m + size + 3) / 4 * 4 ≤ chunk_size m i) is
 chunks_at_least m least size [] le h = All-nil (λ i. should_be_retransmitted i ≡ true → (header_size m + size + 3) / 4 * 4 ≤ chunk_size m i)

@@ -26,10 +26,10 @@ RestBelow blocks (suc k) offset (i ∷ is) = Rests (is_covered blocks offset) i 
 
 -- the items are as the blocks said, of which none reaches above the last item
 pub record AreAsBlocksSaid (h : LastBlocks) (is : List Item) : Type 0 where
-  pub runs : AreRuns 0 h.runs.items
+  pub order : AreRuns 0 h.gap_ack_blocks.items
   pub small : h.offset < 2 ^ 63
-  pub within : highest_end h.runs.items < h.offset + length is
-  pub rest : Rest h.runs.items h.offset is
+  pub within : highest_end h.gap_ack_blocks.items < h.offset + length is
+  pub rest : Rest h.gap_ack_blocks.items h.offset is
 
 abbrev pub Knows : LastBlocks → List Item → Type 0
 Knows h is = h.is_known ≡ true → AreAsBlocksSaid h is

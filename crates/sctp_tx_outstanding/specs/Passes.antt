@@ -11,10 +11,10 @@ pub record IsCursor (blocks : List GapAckBlock) (offset from : ℕ) : Type 0 whe
   pub within : from ≤ length blocks
   pub same : (o : ℕ) → offset ≤ o → is_covered (drop from blocks) o ≡ is_covered blocks o
   pub lowest : ℕ
-  pub runs : AreRuns lowest (drop from blocks)
+  pub order : AreRuns lowest (drop from blocks)
 
--- blocks that aren't runs are searched whole
-abbrev pub IsWalk : (is_in_runs : Bool) → List GapAckBlock → (offset from : ℕ) → Type 0
+-- blocks that aren't in order are searched whole
+abbrev pub IsWalk : (are_in_order : Bool) → List GapAckBlock → (offset from : ℕ) → Type 0
 IsWalk true blocks offset from = IsCursor blocks offset from
 IsWalk false blocks offset from = Unit {0}
 

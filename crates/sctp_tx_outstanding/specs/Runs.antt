@@ -2,10 +2,11 @@
 use Rattle.std.specs.Prelude.{◌≡◌, ◌≢◌, ℕ, ◌+◌, ◌-◌, ◌/◌, ◌%◌, ◌^◌, ◌<◌, ◌≤◌, true, false, Option, Some, None, List, slice_get, unwrap_or}
 use Rattle.std.specs.Int.{bit_at}
 use Rattle.sctp_tx_outstanding.specs.declared.runs.Bits.{Bits}
-use Rattle.sctp_tx_outstanding.specs.declared.runs.Bits.TheVariants.{Flying, Waiting, Fast}
+use Rattle.sctp_tx_outstanding.specs.declared.runs.Bits.TheVariants.{Flying, Waiting, Fast, GivenUp}
 use Rattle.sctp_tx_outstanding.specs.declared.runs.Run.{Run}
 use Rattle.sctp_tx_outstanding.specs.declared.runs.Runs.{Runs}
 use Rattle.sctp_tx_outstanding.specs.Item.{Item, is_outstanding, should_be_retransmitted, is_fast, is_abandoned}
+use Rattle.sctp_tx_outstanding.specs.Sizes.{AreAtLeast}
 use Rattle.sctp_tx_outstanding.specs.Waiting.{IsAtLeast}
 
 -- the run of the item at the place, and its bit there
@@ -30,11 +31,12 @@ pub record IsKnown (r : Run) (bit : ℕ) (i : Item) : Type 0 where
   pub given_up : bit_at r.given_up bit ≡ 1 → is_abandoned i ≡ true
   pub least : IsAtLeast r.least i
 
--- the bits of items that may be so
+-- the bits of items that may be so, or were given up
 abbrev pub bits_of : Bits → Run → ℕ
 bits_of Flying r = r.flying
 bits_of Waiting r = r.waiting
 bits_of Fast r = r.fast
+bits_of GivenUp r = r.given_up
 
 abbrev pub IsKnownOf : Run → (bit : ℕ) → Option Item → Type 0
 IsKnownOf r bit None = Unit {0}
@@ -46,6 +48,7 @@ AreKnown runs offset is = (k : ℕ) → IsKnownOf (known_of runs (run_of offset 
 pub record HasRuns (x : Runs) (is : List Item) : Type 0 where
   pub small : x.offset < 64
   pub known : AreKnown x.known.items x.offset is
+  pub least : AreAtLeast x.least is
 
 -- all items but that at the place are the same
 abbrev pub SameBut : (place : ℕ) → (is js : List Item) → Type 0

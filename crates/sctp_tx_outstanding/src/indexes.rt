@@ -4,13 +4,11 @@ ghost use Rattle.std.specs.Prelude.{◌≡◌, ◌-◌, ◌≤◌, ◌∷◌, []
 ghost use Rattle.std.specs.Int.{bit_at};
 ghost use Rattle.sctp_tx_outstanding.specs.Item.{Item};
 ghost use Rattle.sctp_tx_outstanding.specs.Change.{apply_change};
-ghost use Rattle.std.specs.List.{sum_by};
-ghost use Rattle.sctp_tx_outstanding.specs.OutstandingData.{change_at, queued_part};
+ghost use Rattle.sctp_tx_outstanding.specs.OutstandingData.{change_at};
 ghost use Rattle.sctp_tx_outstanding.specs.declared.totals.Totals.{Totals};
 ghost use Rattle.sctp_tx_outstanding.specs.declared.kept.Change.{Change};
 ghost use Rattle.sctp_tx_outstanding.specs.Totals.{Exchanges, HasPart, replace_part};
-ghost use Rattle.sctp_tx_outstanding.specs.Runs.{SameBut, run_of, bit_of, known_of};
-ghost use Rattle.sctp_tx_outstanding.specs.Sizes.{AreAtLeast};
+ghost use Rattle.sctp_tx_outstanding.specs.Runs.{run_of, bit_of, known_of};
 ghost use Rattle.sctp_tx_outstanding.specs.Indexes.{AreIndexes};
 
 use crate::expiries::Expiries;
@@ -20,7 +18,6 @@ use crate::last_blocks::LastBlocks;
 use crate::messages::Messages;
 use crate::passed::Passed;
 use crate::runs::Runs;
-use crate::sizes::{least_at, lesser};
 use crate::totals::Totals;
 use std::alloc::Global;
 use std::collections::VecDeque;
@@ -31,26 +28,13 @@ use std::collections::VecDeque;
 pub struct Indexes {
     pub totals: Totals,
     pub last_blocks: LastBlocks,
-    /// No item that waits to be sent again has a smaller payload.
-    pub least: usize,
     pub runs: Runs,
     pub messages: Messages,
     pub expiries: Expiries,
     pub passed: Passed,
 }
 
-/// The item at the place has come or changed, and so many wait now: a bound of their payloads.
-#[inline(always)]
-fn follow_least(least: usize, items: &VecDeque<Item>, place: usize, queued: usize) -> usize
-    ensures { (is : List Item) → SameBut place is items.now.items → queued ≡ sum_by queued_part items.now.items → AreAtLeast least is → AreAtLeast result items.now.items }
-{
-    if queued == 0 {
-        return usize::MAX;
-    }
-    least_at(items, place, least)
-}
-
-/// Whether an item's change, by which one part of the totals comes for another, leaves the totals, the runs and the least size as they are.
+/// Whether an item's change, by which one part of the totals comes for another, leaves the totals and the runs as they are.
 #[inline(always)]
 fn stays_listed(how: Change, totals: Totals, old: Totals, new: Totals) -> bool
     ensures flights { result ≡ true → old.flights ≡ new.flights }
@@ -67,7 +51,7 @@ fn stays_listed(how: Change, totals: Totals, old: Totals, new: Totals) -> bool
     new.earliest == u128::MAX
 }
 
-/// Whether what is known of an item by its run, and the least size, stand after its change. One that is acknowledged keeps its bit of
+/// Whether what is known of an item by its run stands after its change. One that is acknowledged keeps its bit of
 /// those in flight: missing reports pass what blocks cover, and if it is taken back, it has the bit.
 #[inline(always)]
 fn stays_in_runs(runs: &Runs, place: usize, how: Change, old: Totals, new: Totals) -> bool
@@ -89,7 +73,6 @@ impl Indexes {
         Indexes {
             totals: Totals::nothing(),
             last_blocks: LastBlocks::new(alloc),
-            least: usize::MAX,
             runs: Runs::new(alloc),
             messages: Messages::new(alloc),
             expiries: Expiries::new(alloc),
@@ -109,13 +92,8 @@ impl Indexes {
         let part = Totals::of(item, is_interleaved);
         self.totals = self.totals.with_part(part);
         self.last_blocks.take(item.is_acked());
-        self.least = lesser(
-            self.least,
-            item.should_be_retransmitted(),
-            item.payload_size(),
-        );
         self.runs.begin(place);
-        self.runs.see(items, place);
+        self.runs.see(items, place, self.totals.queued);
         self.messages.add(item.message_id(), place);
         self.expiries.renew(place, u128::MAX, part.earliest);
     }
@@ -161,7 +139,6 @@ impl Indexes {
         if stays_in_runs(&self.runs, place, how, old, new) {
             return;
         }
-        self.least = follow_least(self.least, items, place, self.totals.queued);
-        self.runs.see(items, place);
+        self.runs.see(items, place, self.totals.queued);
     }
 }

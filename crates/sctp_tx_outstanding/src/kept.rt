@@ -406,7 +406,7 @@ impl Kept {
     pub(crate) fn least_waiting(&self) -> usize
         ensures { All (λ i. should_be_retransmitted i ≡ true → result ≤ chunk_size self.now.is_interleaved i) self.now.items }
     {
-        padded_size(self.indexes.least.min(1 << 32), self.is_interleaved)
+        padded_size(self.indexes.runs.least.min(1 << 32), self.is_interleaved)
     }
 
     /// Looks how small the items that wait to be sent again are, where none may have a chunk of at most so many bytes.
@@ -416,7 +416,6 @@ impl Kept {
         self.indexes
             .runs
             .renew_small(&self.items, allowed, self.is_interleaved);
-        self.indexes.least = self.indexes.runs.least(self.items.len());
     }
 
     /// A place from this one on, to which a walk came from another, up to which no item that waits has a chunk of so few bytes.

@@ -5,15 +5,15 @@ ghost use Rattle.sctp_tx_outstanding.specs.Passes.{IsWalk, AllAre};
 ghost use Rattle.sctp_tx_outstanding.specs.Sack.{highest_end};
 
 use crate::kept::Change;
-use crate::stretches::{Stretch, stretch_in_runs};
+use crate::stretches::{Stretch, stretch_in_order};
 use sctp_chunk::{GapAckBlock, are_runs};
 use std::alloc::Global;
 
-/// The blocks of the last SACK, if they are known, are runs and say what the items are: they are then looked at again only
+/// The blocks of the last SACK, if they are known, stand in order and say what the items are: they are then looked at again only
 /// where the next ones differ.
 #[derive(Drop)]
 pub struct LastBlocks {
-    pub runs: Vec<GapAckBlock>,
+    pub gap_ack_blocks: Vec<GapAckBlock>,
     /// The first item's offset in them.
     pub offset: usize,
     pub is_known: bool,
@@ -31,7 +31,7 @@ impl LastBlocks {
         ensures { Knows result [] }
     {
         LastBlocks {
-            runs: Vec::new(alloc),
+            gap_ack_blocks: Vec::new(alloc),
             offset: 1,
             is_known: true,
         }
@@ -76,39 +76,39 @@ impl LastBlocks {
         std::mem::replace(
             self,
             LastBlocks {
-                runs: Vec::new(alloc),
+                gap_ack_blocks: Vec::new(alloc),
                 offset: 1,
                 is_known: false,
             },
         )
     }
 
-    /// The stretch of items from the place on of which they say the same, if they are known. They are searched from `run` on.
+    /// The stretch of items from the place on of which they say the same, if they are known. They are searched from `from` on.
     #[inline(always)]
-    pub fn stretch(&self, run: usize, place: usize) -> Stretch
+    pub fn stretch(&self, from: usize, place: usize) -> Stretch
         requires small { place + 1 < 2 ^ 64 }
-        requires cursor { IsWalk self.now.is_known self.now.runs.items (place + self.now.offset) run }
-        ensures cursor { IsWalk self.now.is_known self.now.runs.items (place + self.now.offset) result.block }
+        requires cursor { IsWalk self.now.is_known self.now.gap_ack_blocks.items (place + self.now.offset) from }
+        ensures cursor { IsWalk self.now.is_known self.now.gap_ack_blocks.items (place + self.now.offset) result.block }
         ensures onward { place < result.end }
-        ensures covered { self.now.is_known ≡ true → AllAre result.is_covered self.now.runs.items self.now.offset place result.end }
+        ensures covered { self.now.is_known ≡ true → AllAre result.is_covered self.now.gap_ack_blocks.items self.now.offset place result.end }
     {
         if !self.is_known {
             return Stretch {
                 is_covered: false,
                 end: usize::MAX,
-                block: run,
+                block: from,
             };
         }
-        stretch_in_runs(&self.runs, run, self.offset, place)
+        stretch_in_order(&self.gap_ack_blocks, from, self.offset, place)
     }
 
     /// The items are as these blocks say. What can't be kept is not known.
     pub fn remember_blocks(&mut self, blocks: &[GapAckBlock], is_within: bool)
         ensures { (is : List Item) → (is_within ≡ true → highest_end blocks.now ≤ length is) → Rest blocks.now 1 is → Knows self.new is }
     {
-        self.runs.clear();
+        self.gap_ack_blocks.clear();
         self.offset = 1;
         let is_remembered = is_within && are_runs(0, blocks);
-        self.is_known = is_remembered && self.runs.extend_from_slice(blocks).is_ok();
+        self.is_known = is_remembered && self.gap_ack_blocks.extend_from_slice(blocks).is_ok();
     }
 }

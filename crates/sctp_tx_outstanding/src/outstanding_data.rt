@@ -391,12 +391,12 @@ impl OutstandingData {
         ensures lossy { IfOk result (λ is_lossy. is_lossy ≡ (nack_below false fast count (first_step self.old.items events.old)).is_lossy) }
         ensures err { OnErr result (SomeNacked false fast self.old events.old self.new events.new) }
     {
-        let is_in_runs = are_runs(0, blocks);
+        let are_in_order = are_runs(0, blocks);
         let mut is_lossy = false;
         let mut from = 0;
         let mut place = 0;
         while place < count {
-            let (block, next) = pass_idle(&self.kept, blocks, is_in_runs, from, place, count);
+            let (block, next) = pass_idle(&self.kept, blocks, are_in_order, from, place, count);
             if count <= next {
                 return Ok(is_lossy);
             }
@@ -569,7 +569,7 @@ impl OutstandingData {
     /// reported missing, and is lost by the third report. Without memory nothing changes, or only some of the first of these
     /// reports are done.
     ///
-    /// Items of which the blocks say what the last SACK's said are passed over as they are settled. Blocks that are runs, as in a
+    /// Items of which the blocks say what the last SACK's said are passed over as they are settled. Blocks that stand in order, as in a
     /// SACK that was cleaned, are walked once along with the items. Others are searched whole for each stretch of items that they
     /// say the same of. Of the payloads that leave a few buffers are kept for the next ones.
     pub fn handle_sack(

@@ -1,8 +1,10 @@
 //! What is known of the items by runs of 64, so that these needn't be looked at one by one.
 
 ghost use Rattle.std.specs.Prelude.{◌≡◌, ◌≢◌, ℕ, ◌+◌, ◌<◌, ◌≤◌, ◌^◌, true, false};
+ghost use Rattle.std.specs.List.{sum_by};
 ghost use Rattle.std.specs.Int.{bit_at};
 ghost use Rattle.sctp_tx_outstanding.specs.Item.{Item};
+ghost use Rattle.sctp_tx_outstanding.specs.OutstandingData.{queued_part};
 ghost use Rattle.sctp_tx_outstanding.specs.Runs.{run_of, bit_of, bits_of, known_of, nothing_known, IsKnown};
 
 use crate::item::Item;
@@ -53,6 +55,8 @@ pub enum Bits {
     Waiting,
     /// To be sent again by the packet that ignores the congestion window.
     Fast,
+    /// Given up, which is known.
+    GivenUp,
 }
 
 /// What is known of the items of a run.
@@ -95,7 +99,7 @@ fn clear_from(bits: u64, bit: u32) -> u32
     (bits >> bit).trailing_zeros().min(64 - bit)
 }
 
-/// A bound of the payloads of a run's items that wait, where these have the bits, or `usize::MAX` where none does.
+/// A bound of the payloads of items that wait, or `usize::MAX` where the bits or the count say that none does.
 #[inline(always)]
 fn bound_of(waiting: u64, least: usize) -> usize
     ensures { 0 < waiting → result ≡ least }
@@ -116,6 +120,7 @@ fn list_runs(known: &mut VecDeque<Run>, count: usize)
 
 impl Run {
     /// Nothing is known.
+    #[inline(always)]
     fn nothing() -> Run
         ensures { result ≡ nothing_known }
     {
@@ -148,6 +153,7 @@ impl Run {
             Bits::Flying => self.flying,
             Bits::Waiting => self.waiting,
             Bits::Fast => self.fast,
+            Bits::GivenUp => self.given_up,
         }
     }
 
@@ -178,6 +184,8 @@ pub struct Runs {
     pub known: VecDeque<Run>,
     /// The first item's place in its run.
     pub offset: u8,
+    /// No item that waits to be sent again has a smaller payload, in any run.
+    pub least: usize,
 }
 
 impl Runs {
@@ -193,6 +201,7 @@ impl Runs {
         Runs {
             known: VecDeque::new(alloc),
             offset: 0,
+            least: usize::MAX,
         }
     }
 
@@ -214,18 +223,7 @@ impl Runs {
     {
         match self.known.get(run) {
             Some(known) => known.bits(of),
-            None => u64::MAX,
-        }
-    }
-
-    /// The bits of the run's items of which it is known that they were given up.
-    #[inline(always)]
-    fn given_up(&self, run: usize) -> u64
-        ensures { result ≡ (known_of self.now.known.items run).given_up }
-    {
-        match self.known.get(run) {
-            Some(known) => known.given_up,
-            None => 0,
+            None => Run::nothing().bits(of),
         }
     }
 
@@ -240,13 +238,16 @@ impl Runs {
         }
     }
 
-    /// The item at the place has come, or has changed.
-    pub fn see(&mut self, items: &VecDeque<Item>, place: usize)
-        ensures { (is : List Item) → SameBut place is items.now.items → HasRuns self.old is → HasRuns self.new items.now.items }
+    /// The item at the place has come, or has changed, and so many wait now.
+    pub fn see(&mut self, items: &VecDeque<Item>, place: usize, queued: usize)
+        ensures { (is : List Item) → SameBut place is items.now.items → queued ≡ sum_by queued_part items.now.items → HasRuns self.old is → HasRuns self.new items.now.items }
     {
         let Some(item) = items.get(place) else {
             return;
         };
+        let waits = item.should_be_retransmitted();
+        let all = lesser(self.least, waits, item.payload_size());
+        self.least = bound_of(queued as u64, all);
         let run = run_of(self.offset, place);
         let bit = bit_of(self.offset, place);
         let Some(known) = self.known.get_mut(run) else {
@@ -329,7 +330,7 @@ impl Runs {
         ensures onward { place ≤ result }
         ensures given_up { (is : List Item) → HasRuns self.now is → AreGivenUp place result is }
     {
-        let known = self.given_up(run_of(self.offset, place));
+        let known = self.bits(Bits::GivenUp, run_of(self.offset, place));
         let count = clear_from(!known, bit_of(self.offset, place));
         place.saturating_add(count as usize)
     }
@@ -338,7 +339,7 @@ impl Runs {
     pub fn next_given_up(&self, place: usize) -> usize
         ensures onward { place ≤ result }
     {
-        let known = self.given_up(run_of(self.offset, place));
+        let known = self.bits(Bits::GivenUp, run_of(self.offset, place));
         let count = clear_from(known, bit_of(self.offset, place));
         place.saturating_add(count as usize)
     }

@@ -57,17 +57,17 @@ pub(crate) fn take_out(kept: &mut Kept, count: usize, spares: &mut SpareBuffers)
 /// The first block that may cover items behind those that blocks cover from the place on, and the place behind these.
 pub(crate) fn pass_covered(
     blocks: &[GapAckBlock],
-    is_in_runs: bool,
+    are_in_order: bool,
     from: usize,
     place: usize,
 ) -> (usize, usize)
     requires small { place + 1 < 2 ^ 64 }
-    requires cursor { IsWalk is_in_runs blocks.now (place + 1) from }
-    ensures cursor { IsWalk is_in_runs blocks.now (result.1 + 1) result.0 }
+    requires cursor { IsWalk are_in_order blocks.now (place + 1) from }
+    ensures cursor { IsWalk are_in_order blocks.now (result.1 + 1) result.0 }
     ensures onward { place ≤ result.1 }
     ensures covered { AllAre true blocks.now 1 place result.1 }
 {
-    let stretch = stretch_of(blocks, is_in_runs, from, place);
+    let stretch = stretch_of(blocks, are_in_order, from, place);
     if stretch.is_covered {
         return (stretch.block, stretch.end);
     }
@@ -78,21 +78,21 @@ pub(crate) fn pass_covered(
 pub(crate) fn pass_idle(
     kept: &Kept,
     blocks: &[GapAckBlock],
-    is_in_runs: bool,
+    are_in_order: bool,
     from: usize,
     place: usize,
     count: usize,
 ) -> (usize, usize)
     requires rest { Rest blocks.now 1 kept.now.items }
-    requires cursor { IsWalk is_in_runs blocks.now (place + 1) from }
-    ensures cursor { IsWalk is_in_runs blocks.now (result.1 + 1) result.0 }
+    requires cursor { IsWalk are_in_order blocks.now (place + 1) from }
+    ensures cursor { IsWalk are_in_order blocks.now (result.1 + 1) result.0 }
     ensures onward { place ≤ result.1 }
     ensures none { NoneFlies place result.1 kept.now.items }
 {
     let mut block = from;
     let mut next = place;
     while next < count {
-        let (later, uncovered) = pass_covered(blocks, is_in_runs, block, next);
+        let (later, uncovered) = pass_covered(blocks, are_in_order, block, next);
         let flight = kept.next_flight(uncovered);
         block = later;
         if flight == next {
@@ -180,12 +180,12 @@ fn settle_range(
     found
 }
 
-// How far the walk has come in the items, the earlier blocks and the new ones, and what it found.
+// How far the walk has come in the items, the earlier blocks and the later ones, and what it found.
 #[derive(Clone, Copy)]
 struct Walk {
     place: usize,
-    run: usize,
-    block: usize,
+    earlier: usize,
+    later: usize,
     covered: Covered,
 }
 
@@ -194,29 +194,29 @@ fn settle_stretch(
     kept: &mut Kept,
     last: &LastBlocks,
     blocks: &[GapAckBlock],
-    is_in_runs: bool,
+    are_in_order: bool,
     count: usize,
     walk: Walk,
 ) -> Walk
     requires count { count ≤ length kept.old.items }
     requires within { walk.place < count }
-    requires rest { last.now.is_known ≡ true → Rest last.now.runs.items (walk.place + last.now.offset) (drop walk.place kept.old.items) }
-    requires run { IsWalk last.now.is_known last.now.runs.items (walk.place + last.now.offset) walk.run }
-    requires block { IsWalk is_in_runs blocks.now (walk.place + 1) walk.block }
+    requires rest { last.now.is_known ≡ true → Rest last.now.gap_ack_blocks.items (walk.place + last.now.offset) (drop walk.place kept.old.items) }
+    requires earlier { IsWalk last.now.is_known last.now.gap_ack_blocks.items (walk.place + last.now.offset) walk.earlier }
+    requires later { IsWalk are_in_order blocks.now (walk.place + 1) walk.later }
     ensures onward { walk.place < result.place }
     ensures within { result.place ≤ count }
-    ensures run { IsWalk last.now.is_known last.now.runs.items (result.place + last.now.offset) result.run }
-    ensures block { IsWalk is_in_runs blocks.now (result.place + 1) result.block }
+    ensures earlier { IsWalk last.now.is_known last.now.gap_ack_blocks.items (result.place + last.now.offset) result.earlier }
+    ensures later { IsWalk are_in_order blocks.now (result.place + 1) result.later }
     ensures mode { kept.new.is_interleaved ≡ kept.old.is_interleaved }
     ensures settled { Advances blocks.now kept.old.is_interleaved walk.place result.place walk.covered result.covered kept.old.items kept.new.items }
 {
-    let earlier = last.stretch(walk.run, walk.place);
-    let later = stretch_of(blocks, is_in_runs, walk.block, walk.place);
+    let earlier = last.stretch(walk.earlier, walk.place);
+    let later = stretch_of(blocks, are_in_order, walk.later, walk.place);
     let end = count.min(earlier.end).min(later.end);
     let next = Walk {
         place: end,
-        run: earlier.block,
-        block: later.block,
+        earlier: earlier.block,
+        later: later.block,
         covered: walk.covered,
     };
     if last.is_known && earlier.is_covered == later.is_covered {
@@ -235,16 +235,16 @@ pub(crate) fn settle_all(kept: &mut Kept, alloc: Global, blocks: &[GapAckBlock])
     ensures rests { Rest blocks.now 1 kept.new.items }
 {
     let last = kept.take_last_blocks(alloc);
-    let is_in_runs = are_runs(0, blocks);
+    let are_in_order = are_runs(0, blocks);
     let count = kept.len();
     let mut walk = Walk {
         place: 0,
-        run: 0,
-        block: 0,
+        earlier: 0,
+        later: 0,
         covered: Covered { bytes: 0, below: 0 },
     };
     while walk.place < count {
-        walk = settle_stretch(kept, &last, blocks, is_in_runs, count, walk);
+        walk = settle_stretch(kept, &last, blocks, are_in_order, count, walk);
     }
     kept.remember(last, blocks);
     walk.covered

@@ -78,7 +78,7 @@ impl Runs {
     ghost use Rattle.sctp_tx_outstanding.specs.Sizes.{AreAtLeast, Exceeds};
 
     /// How many bytes the payloads of all items have at least that wait, where so many are kept.
-    pub fn least(&self, count: usize) -> usize
+    fn least_of_all(&self, count: usize) -> usize
         ensures { (is : List Item) → length is ≡ count → HasRuns self.now is → AreAtLeast result is }
     {
         let last = run_of(self.offset, count.saturating_sub(1));
@@ -131,7 +131,8 @@ impl Runs {
         self.settle_least(run, least);
     }
 
-    /// The same in each run of which it isn't known that all chunks of items that wait have more than so many bytes.
+    /// The same in each run of which it isn't known that all chunks of items that wait have more than so many bytes, and then of
+    /// all items.
     pub fn renew_small(&mut self, items: &VecDeque<Item>, allowed: usize, is_interleaved: bool)
         ensures { HasRuns self.old items.now.items → HasRuns self.new items.now.items }
     {
@@ -141,6 +142,7 @@ impl Runs {
                 self.renew(items, place);
             }
         }
+        self.least = self.least_of_all(items.len());
     }
 
     /// A walk came from one place to the next item that waits: where it enters that one's run and the item doesn't fit, looks

@@ -13,7 +13,7 @@ pub struct Stretch {
     pub is_covered: bool,
     /// The place behind them.
     pub end: usize,
-    /// The blocks before this one end before them, if they are runs.
+    /// The blocks before this one end before them, if they stand in order.
     pub block: usize,
 }
 
@@ -38,30 +38,30 @@ fn skip_blocks(blocks: &[GapAckBlock], mut from: usize, first: usize, place: usi
     from
 }
 
-/// The stretch from the place on in blocks that are runs, where the first item has the offset `first`. They are searched from
+/// The stretch from the place on in blocks that stand in order, where the first item has the offset `first`. They are searched from
 /// `from` on.
 #[inline(always)]
-pub(crate) fn stretch_in_runs(
-    runs: &[GapAckBlock],
+pub(crate) fn stretch_in_order(
+    blocks: &[GapAckBlock],
     from: usize,
     first: usize,
     place: usize,
 ) -> Stretch
     requires small { place + 1 < 2 ^ 64 }
-    requires cursor { IsCursor runs.now (place + first) from }
-    ensures cursor { IsCursor runs.now (place + first) result.block }
+    requires cursor { IsCursor blocks.now (place + first) from }
+    ensures cursor { IsCursor blocks.now (place + first) result.block }
     ensures onward { place < result.end }
-    ensures covered { AllAre result.is_covered runs.now first place result.end }
+    ensures covered { AllAre result.is_covered blocks.now first place result.end }
 {
-    let block = skip_blocks(runs, from, first, place);
-    if block >= runs.len() {
+    let block = skip_blocks(blocks, from, first, place);
+    if block >= blocks.len() {
         return Stretch {
             is_covered: false,
             end: usize::MAX,
             block,
         };
     }
-    let begin = (runs[block].start as usize).saturating_sub(first);
+    let begin = (blocks[block].start as usize).saturating_sub(first);
     if place < begin {
         return Stretch {
             is_covered: false,
@@ -71,7 +71,7 @@ pub(crate) fn stretch_in_runs(
     }
     Stretch {
         is_covered: true,
-        end: end_of(runs[block], first),
+        end: end_of(blocks[block], first),
         block,
     }
 }
@@ -114,22 +114,22 @@ fn border(blocks: &[GapAckBlock], place: usize) -> usize
     next
 }
 
-/// The stretch from the place on in a SACK's blocks. Only in runs are they searched from `from` on.
+/// The stretch from the place on in a SACK's blocks. Only blocks in order are searched from `from` on.
 #[inline(always)]
 pub(crate) fn stretch_of(
     blocks: &[GapAckBlock],
-    is_in_runs: bool,
+    are_in_order: bool,
     from: usize,
     place: usize,
 ) -> Stretch
     requires small { place + 1 < 2 ^ 64 }
-    requires cursor { IsWalk is_in_runs blocks.now (place + 1) from }
-    ensures cursor { IsWalk is_in_runs blocks.now (place + 1) result.block }
+    requires cursor { IsWalk are_in_order blocks.now (place + 1) from }
+    ensures cursor { IsWalk are_in_order blocks.now (place + 1) result.block }
     ensures onward { place < result.end }
     ensures covered { AllAre result.is_covered blocks.now 1 place result.end }
 {
-    if is_in_runs {
-        return stretch_in_runs(blocks, from, 1, place);
+    if are_in_order {
+        return stretch_in_order(blocks, from, 1, place);
     }
     Stretch {
         is_covered: is_covered(blocks, place + 1),

@@ -2,7 +2,7 @@
 
 ghost use Rattle.std.specs.Prelude.{◌≡◌, ◌^◌, ◌-◌, ◌+◌, ◌≤◌, false, min};
 ghost use Rattle.sctp_tx_outstanding.specs.OutstandingData.{when};
-ghost use Rattle.sctp_tx_outstanding.specs.Totals.{parts, replace_part, nothing, HasPart};
+ghost use Rattle.sctp_tx_outstanding.specs.Totals.{parts, replace_part, nothing, HasPart, IsSmall};
 
 use crate::item::Item;
 
@@ -47,7 +47,8 @@ impl Totals {
     /// What one item adds.
     #[inline(always)]
     pub(crate) fn of(item: &Item, is_interleaved: bool) -> Totals
-        ensures { result ≡ parts is_interleaved item.now }
+        ensures parts { result ≡ parts is_interleaved item.now }
+        ensures small { IsSmall item.now }
     {
         let is_in_flight = item.is_outstanding();
         Totals {

@@ -568,12 +568,11 @@ impl SendQueue {
         ensures done { result ≡ true → self.new ≡ restarted_one id.0 self.old }
         ensures same { result ≡ false → self.new ≡ self.old }
     {
-        if self.streams.has_messages(id) {
+        if !self.streams.restart_idle(id) {
             return false;
         }
         self.changed.add(id);
         self.scheduler.leave(id);
-        self.streams.change(id, StreamChange::Restart);
         self.begun = begun_without(id, self.begun);
         true
     }

@@ -50,7 +50,7 @@ has_room o tsn t = not (is_full t.reassembly) || takes_next o tsn t
 abbrev pub accepts_tsn : Options → (tsn : ℕ) → Tcb → Bool
 accepts_tsn o tsn t = has_room o tsn t && is_valid t.tracker.tracker (number_of t.tracker tsn)
 
--- one that is taken: its TSN is, and where it waits for a reset, it may
+-- a fragment is taken if its TSN may be, and if it may wait where it would wait for a reset
 abbrev pub accepts_fragment : Options → (tsn : ℕ) → FragmentTree → Tcb → Bool
 accepts_fragment o tsn f t = accepts_tsn o tsn t && reassembly.admits_fragment tsn f.stream_id t.reassembly
 

@@ -1,6 +1,6 @@
 //! The streams that were named, and what is left on all of them.
 
-ghost use Rattle.std.specs.Prelude.{◌≡◌, ◌+◌, ◌<◌, ◌≤◌, ◌^◌, ◌==◌, not, true, [], ◌∷◌, ◌++◌, if◌then◌else◌, None, Some, IsTrue, IsSome, IfOk, OnOk, OnErr, option_map, map, take, filter};
+ghost use Rattle.std.specs.Prelude.{◌≡◌, ◌+◌, ◌<◌, ◌≤◌, ◌^◌, ◌==◌, not, true, false, [], ◌∷◌, ◌++◌, if◌then◌else◌, None, Some, IsTrue, IsSome, IfOk, OnOk, OnErr, option_map, map, take, filter};
 ghost use Rattle.std.specs.Map.{lookup, keys_of, values_of};
 ghost use Rattle.std.specs.List.{list_all, list_any};
 ghost use Rattle.std.specs.List.Sorted.{IsStrictlySortedBy};
@@ -424,6 +424,27 @@ impl Streams {
         }
     }
 
+    /// A new association begins for a stream on which no message waits. The answer is whether it is one.
+    pub(crate) fn restart_idle(&mut self, id: StreamId) -> bool
+        ensures idle { result ≡ has_nothing (stream id.0 self.old) }
+        ensures done { result ≡ true → self.new ≡ put_stream id.0 (restart (stream id.0 self.old)) self.old }
+        ensures same { result ≡ false → self.new ≡ self.old }
+    {
+        // (read for its bound: no more streams are ready)
+        let _count = self.streams.len();
+        let Some(stream) = self.streams.get_mut(&id.0) else {
+            return true;
+        };
+        if stream.has_messages() {
+            return false;
+        }
+        let was_ready = stream.is_ready();
+        stream.change(StreamChange::Restart);
+        self.ready_count = ready_count_after(self.ready_count, was_ready, false);
+        self.ready_ids.follow(id.0, was_ready, false);
+        true
+    }
+
     /// Whether a stream is as a restart leaves it.
     pub(crate) fn is_restarted(&self, id: StreamId) -> bool
         ensures { result ≡ is_restarted (stream id.0 self.now) }
@@ -431,16 +452,6 @@ impl Streams {
         match self.streams.get(&id.0) {
             Some(stream) => stream.is_restarted(),
             None => true,
-        }
-    }
-
-    /// Whether messages wait on a stream.
-    pub(crate) fn has_messages(&self, id: StreamId) -> bool
-        ensures { result ≡ not (has_nothing (stream id.0 self.now)) }
-    {
-        match self.streams.get(&id.0) {
-            Some(stream) => stream.has_messages(),
-            None => false,
         }
     }
 

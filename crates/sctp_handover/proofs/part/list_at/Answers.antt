@@ -1,4 +1,4 @@
-use Rattle.std.proofs.Common.{◌≡◌, ◌++◌, ℕ, List, length, ◌∙◌, append_assoc}
+use Rattle.std.proofs.Common.{◌++◌, ℕ, List, length, ◌∙◌, append_assoc}
 use Rattle.std.specs.List.{flat_map}
 use Rattle.sctp_wire.specs.Field.{be64}
 use Rattle.sctp_handover.specs.Bytes.{list_bytes}

@@ -1,4 +1,4 @@
-use Rattle.std.proofs.Common.{◌≡◌, Bool, ap, ◌∙◌, pos, arith, is_some, unwrap_or, false, ◌^◌}
+use Rattle.std.proofs.Common.{Bool, ap, ◌∙◌, arith, false}
 use Rattle.sctp_handover.proofs.FieldLemmas.{state_back}
 use Rattle.sctp_handover.proofs.OpenLemmas.{opened_record}
 use Rattle.sctp_handover.specs.Bytes.{is_connected}

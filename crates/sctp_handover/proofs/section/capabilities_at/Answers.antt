@@ -1,4 +1,4 @@
-use Rattle.std.proofs.Common.{◌≡◌, Bool, ap, ◌∙◌, pos, arith, is_some, unwrap_or, false, ◌^◌}
+use Rattle.std.proofs.Common.{Bool, ap, ◌∙◌}
 use Rattle.sctp_handover.proofs.OpenLemmas.{opened_capability}
 use Rattle.sctp_handover.proofs.section.capabilities_at.Goals as goal
 

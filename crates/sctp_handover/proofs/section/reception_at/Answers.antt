@@ -1,4 +1,4 @@
-use Rattle.std.proofs.Common.{◌≡◌, Bool, ap, ◌∙◌, pos, arith, is_some, unwrap_or, false, ◌^◌}
+use Rattle.std.proofs.Common.{Bool, ap, ◌∙◌, false}
 use Rattle.sctp_handover.proofs.PartLemmas.{same_list}
 use Rattle.sctp_handover.proofs.OpenLemmas.{opened_reception}
 use Rattle.sctp_handover.proofs.section.reception_at.Goals as goal

@@ -1,4 +1,4 @@
-use Rattle.std.proofs.Common.{◌≡◌, Bool, ap, ◌∙◌, pos, arith, is_some, unwrap_or, false, ◌^◌}
+use Rattle.std.proofs.Common.{◌∙◌}
 use Rattle.sctp_handover.proofs.PartLemmas.{same_list}
 use Rattle.sctp_handover.proofs.OpenLemmas.{opened_transmission}
 use Rattle.sctp_handover.proofs.section.transmission_at.Goals as goal

@@ -23,5 +23,5 @@ returns-clause-items c = change_set c.args.place (apply_change c.args.change) c.
 
 pub returns-clause-parts : goal.returns-clause-parts
 returns-clause-parts c =
-    exchanges_at c.args.is_interleaved c.args.place c.args.change c.args.items.now.items c.in-Some.item.now c.of-old.result c.of-new.result (search rules) c.in-Some.ensures.value c.of-old.ensures
-    (c.of-new.ensures ∙ ap (λ i. parts c.args.is_interleaved i) c.apply.ensures)
+    exchanges_at c.args.is_interleaved c.args.place c.args.change c.args.items.now.items c.in-Some.item.now c.of-old.result c.of-new.result (search rules) c.in-Some.ensures.value c.of-old.ensures.parts
+    (c.of-new.ensures.parts ∙ ap (λ i. parts c.args.is_interleaved i) c.apply.ensures)

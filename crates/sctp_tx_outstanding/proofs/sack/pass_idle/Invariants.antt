@@ -5,7 +5,7 @@ use Rattle.sctp_tx_outstanding.proofs.sack.pass_idle.Given as goal
 
 abbrev pub invariant-loop-next : goal.invariant-loop-next
 invariant-loop-next l = record {
-  cursor : IsWalk l.is_in_runs l.blocks (l.next + 1) l.block;
+  cursor : IsWalk l.are_in_order l.blocks (l.next + 1) l.block;
   onward : l.place ≤ l.next;
   none : NoneFlies l.place l.next l.kept.items;
 }

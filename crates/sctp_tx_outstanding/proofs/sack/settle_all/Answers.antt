@@ -16,7 +16,7 @@ settle_stretch-walk-requires-clause-rest c = λ yes.
     let is = c.args.kept.now.items in
     let known : AreAsBlocksSaid last is = c.take_last_blocks-last.ensures.known yes in
     let behind : drop k c.loop-walk.kept.items ≡ drop k is = c.loop-walk.invariant.settled.behind ∙ ap (λ (x : Kept). drop k x.items) c.take_last_blocks-last.ensures.same in
-    subst (λ (xs : List Item). Rest last.runs.items (k + last.offset) xs) (sym behind) (rest_behind last.runs.items k last.offset (k + last.offset) is refl known.rest)
+    subst (λ (xs : List Item). Rest last.gap_ack_blocks.items (k + last.offset) xs) (sym behind) (rest_behind last.gap_ack_blocks.items k last.offset (k + last.offset) is refl known.rest)
 
 pub loop-walk-preserved : goal.loop-walk-preserved
 loop-walk-preserved c =
@@ -28,8 +28,8 @@ loop-walk-preserved c =
     record {
       mode = step.ensures.mode ∙ before.mode;
       within = step.ensures.within;
-      run = step.ensures.run;
-      block = step.ensures.block;
+      earlier = step.ensures.earlier;
+      later = step.ensures.later;
       settled =
           further c.args.blocks.now start.is_interleaved 0 walk.place step.result.place (record { bytes = 0; below = 0 }) walk.covered step.result.covered start.items c.loop-walk.kept.items step.new.kept.items onward before.settled
           (subst (λ m. Advances c.args.blocks.now m walk.place step.result.place walk.covered step.result.covered c.loop-walk.kept.items step.new.kept.items) before.mode step.ensures.settled);

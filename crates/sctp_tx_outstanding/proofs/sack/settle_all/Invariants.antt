@@ -6,8 +6,8 @@ abbrev pub invariant-loop-walk : goal.invariant-loop-walk
 invariant-loop-walk l = record {
   mode : l.kept.is_interleaved ≡ l.initial.kept.is_interleaved;
   within : l.walk.place ≤ l.count;
-  run : IsWalk l.last.is_known l.last.runs.items (l.walk.place + l.last.offset) l.walk.run;
-  block : IsWalk l.is_in_runs l.blocks (l.walk.place + 1) l.walk.block;
+  earlier : IsWalk l.last.is_known l.last.gap_ack_blocks.items (l.walk.place + l.last.offset) l.walk.earlier;
+  later : IsWalk l.are_in_order l.blocks (l.walk.place + 1) l.walk.later;
   settled : Advances l.blocks l.initial.kept.is_interleaved 0 l.walk.place (record { bytes = 0; below = 0 }) l.walk.covered l.initial.kept.items l.kept.items;
 }
 

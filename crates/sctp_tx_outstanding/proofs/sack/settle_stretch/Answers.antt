@@ -4,7 +4,7 @@ use Rattle.sctp_tx_outstanding.proofs.sack.settle_stretch.Goals as goal
 
 pub returns-then-earlier-later-clause-settled : goal.returns-then-earlier-later-clause-settled
 returns-then-earlier-later-clause-settled c =
-    let olds = c.args.last.now.runs.items in
+    let olds = c.args.last.now.gap_ack_blocks.items in
     let bs = c.args.blocks.now in
     let k = c.args.walk.place in
     let e = c.min-end.result in

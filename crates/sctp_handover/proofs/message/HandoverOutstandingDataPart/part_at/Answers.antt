@@ -1,5 +1,5 @@
-use Rattle.std.proofs.Common.{◌≡◌, Bool, ap, ◌∙◌, pos, arith, is_some, unwrap_or, false, ◌^◌}
-use Rattle.sctp_handover.proofs.FieldLemmas.{there, through, or_zero_signed, or_zero}
+use Rattle.std.proofs.Common.{Bool, ap, ◌∙◌, pos, is_some, unwrap_or}
+use Rattle.sctp_handover.proofs.FieldLemmas.{there, through, or_zero_signed}
 use Rattle.sctp_handover.proofs.OpenLemmas.{opened_data}
 use Rattle.sctp_handover.proofs.message.HandoverOutstandingDataPart.part_at.Goals as goal
 

@@ -1,4 +1,4 @@
-use Rattle.std.proofs.Common.{◌≡◌, Bool, ap, ◌∙◌, pos, arith, is_some, unwrap_or, false, ◌^◌}
+use Rattle.std.proofs.Common.{Bool, ap, ◌∙◌, pos, arith, is_some, unwrap_or, ◌^◌}
 use Rattle.sctp_handover.proofs.FieldLemmas.{there, through, or_zero_signed, or_zero}
 use Rattle.sctp_handover.proofs.OpenLemmas.{opened_message}
 use Rattle.sctp_handover.proofs.message.HandoverStreamMessagePart.part_at.Goals as goal

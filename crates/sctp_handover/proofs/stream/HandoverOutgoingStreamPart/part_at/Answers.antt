@@ -1,4 +1,4 @@
-use Rattle.std.proofs.Common.{◌≡◌, Bool, ap, ◌∙◌, pos, arith, is_some, unwrap_or, false, ◌^◌}
+use Rattle.std.proofs.Common.{◌∙◌}
 use Rattle.sctp_handover.proofs.OpenLemmas.{opened_outgoing}
 use Rattle.sctp_handover.proofs.stream.HandoverOutgoingStreamPart.part_at.Goals as goal
 

@@ -1,5 +1,4 @@
 use Rattle.std.proofs.Common.{◌≡◌, ◌<◌, ◌^◌, List, ap, subst, sym, length, arith}
-use Rattle.std.specs.Int.{bit_at}
 use Rattle.sctp_tx_outstanding.specs.Item.{Item}
 use Rattle.sctp_tx_outstanding.specs.Change.{apply_change}
 use Rattle.sctp_tx_outstanding.specs.OutstandingData.{change_at}
@@ -7,14 +6,13 @@ use Rattle.sctp_tx_outstanding.specs.LastBlocks.{Knows}
 use Rattle.sctp_tx_outstanding.specs.Messages.{Finds}
 use Rattle.sctp_tx_outstanding.specs.Expiries.{Expects}
 use Rattle.sctp_tx_outstanding.specs.Passed.{IsPassed}
-use Rattle.sctp_tx_outstanding.specs.Runs.{HasRuns, SameBut, run_of, bit_of, known_of}
-use Rattle.sctp_tx_outstanding.specs.Sizes.{AreAtLeast}
+use Rattle.sctp_tx_outstanding.specs.Runs.{HasRuns, SameBut}
 use Rattle.sctp_tx_outstanding.specs.Totals.{replace_part, AreTotals}
 use Rattle.sctp_tx_outstanding.proofs.TotalsLemmas.{totals_changed, totals_as, length_change, has_part}
 use Rattle.sctp_tx_outstanding.proofs.MessagesLemmas.{finds_changed}
 use Rattle.sctp_tx_outstanding.proofs.ExpiriesLemmas.{moves_changed}
 use Rattle.sctp_tx_outstanding.proofs.PassedLemmas.{passed_changed}
-use Rattle.sctp_tx_outstanding.proofs.RunsLemmas.{same_changed, known_still, least_still}
+use Rattle.sctp_tx_outstanding.proofs.RunsLemmas.{same_changed, runs_still}
 use Rattle.sctp_tx_outstanding.proofs.indexes.Indexes.follow.Goals as goal
 
 pub returns-then-stays_listed : goal.returns-then-stays_listed
@@ -35,11 +33,7 @@ returns-then-stays_listed c = λ m is changed parts before.
     record {
       totals = totals_as m js all (replace_part old new totals) totals (totals_changed m k how is old new totals before.totals few parts) changed same;
       last_blocks = subst (λ (xs : List Item). Knows c.see.new.self xs) (sym changed) (c.see.ensures k is before.last_blocks);
-      least = subst (λ (xs : List Item). AreAtLeast c.args.self.now.least xs) (sym changed) (λ j. least_still m how old new queued fast k is parts c.args.self.now.least j (before.least j));
-      runs = subst (λ (xs : List Item). HasRuns c.args.self.now.runs xs) (sym changed) (record {
-        small = before.runs.small;
-        known = λ j. known_still m how old new queued fast k is parts _ _ j (λ at none. omega (arith, flights)) (before.runs.known j);
-      });
+      runs = subst (λ (xs : List Item). HasRuns c.args.self.now.runs xs) (sym changed) (runs_still m how old new queued fast k is parts c.args.self.now.runs (λ none. omega (arith, flights)) before.runs);
       messages = subst (λ (xs : List Item). Finds c.args.self.now.messages xs) (sym changed) (finds_changed c.args.self.now.messages how k is before.messages);
       expiries = subst (λ (xs : List Item). Expects c.renew.new.self xs) (sym changed) (c.renew.ensures is js (moves_changed m how k is old new parts) before.expiries);
       passed = subst (λ (xs : List Item). IsPassed m xs c.args.self.now.passed) (sym changed)
@@ -53,7 +47,6 @@ returns-then-stays_in_runs c = λ m is changed parts before.
     let old = c.args.parts.0 in
     let new = c.args.parts.1 in
     let all = c.args.items.now.items in
-    let runs = c.args.self.now.runs in
     let js = change_at k (apply_change how) is in
     let yes = c.if-stays_in_runs.true in
     let queued : old.queued ≡ new.queued = c.stays_in_runs.ensures.queued yes in
@@ -62,12 +55,7 @@ returns-then-stays_in_runs c = λ m is changed parts before.
     record {
       totals = totals_as m js all (replace_part old new c.args.self.now.totals) c.exchanged-self.result (totals_changed m k how is old new c.args.self.now.totals before.totals few parts) changed (c.exchanged-self.ensures (has_part m k how is old new c.args.self.now.totals before.totals parts));
       last_blocks = subst (λ (xs : List Item). Knows c.see.new.self xs) (sym changed) (c.see.ensures k is before.last_blocks);
-      least = subst (λ (xs : List Item). AreAtLeast c.args.self.now.least xs) (sym changed) (λ j. least_still m how old new queued fast k is parts c.args.self.now.least j (before.least j));
-      runs = subst (λ (xs : List Item). HasRuns runs xs) (sym changed) (record {
-        small = before.runs.small;
-        known = λ j. known_still m how old new queued fast k is parts _ _ j
-            (λ at none. c.stays_in_runs.ensures.flights yes (subst (λ n. bit_at (known_of runs.known.items (run_of runs.offset n)).flying (bit_of runs.offset n) ≡ 0) at none)) (before.runs.known j);
-      });
+      runs = subst (λ (xs : List Item). HasRuns c.args.self.now.runs xs) (sym changed) (runs_still m how old new queued fast k is parts c.args.self.now.runs (c.stays_in_runs.ensures.flights yes) before.runs);
       messages = subst (λ (xs : List Item). Finds c.args.self.now.messages xs) (sym changed) (finds_changed c.args.self.now.messages how k is before.messages);
       expiries = subst (λ (xs : List Item). Expects c.renew.new.self xs) (sym changed) (c.renew.ensures is js (moves_changed m how k is old new parts) before.expiries);
       passed = subst (λ (xs : List Item). IsPassed m xs c.args.self.now.passed) (sym changed)
@@ -89,8 +77,7 @@ returns c = λ m is changed parts before.
     record {
       totals = totals;
       last_blocks = subst (λ (xs : List Item). Knows c.see.new.self xs) (sym changed) (c.see.ensures k is before.last_blocks);
-      least = c.follow_least-self.ensures is same totals.queued before.least;
-      runs = c.see-2.ensures is same before.runs;
+      runs = c.see-2.ensures is same totals.queued before.runs;
       messages = subst (λ (xs : List Item). Finds c.args.self.now.messages xs) (sym changed) (finds_changed c.args.self.now.messages how k is before.messages);
       expiries = subst (λ (xs : List Item). Expects c.renew.new.self xs) (sym changed) (c.renew.ensures is js (moves_changed m how k is old new parts) before.expiries);
       passed = subst (λ (xs : List Item). IsPassed m xs c.args.self.now.passed) (sym changed)

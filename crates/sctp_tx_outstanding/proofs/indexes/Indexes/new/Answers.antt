@@ -1,12 +1,10 @@
 use Rattle.std.proofs.Common.{rules}
-use Rattle.sctp_tx_outstanding.proofs.SizesLemmas.{large_none}
 use Rattle.sctp_tx_outstanding.proofs.indexes.Indexes.new.Goals as goal
 
 pub returns : goal.returns
 returns c = λ m. record {
   totals = search rules;
   last_blocks = search rules;
-  least = λ k. large_none 18446744073709551615 k;
   runs = search rules;
   messages = search rules;
   expiries = search rules;

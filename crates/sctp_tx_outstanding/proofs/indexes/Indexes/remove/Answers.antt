@@ -1,4 +1,4 @@
-use Rattle.std.proofs.Common.{suc, ◌<◌, ◌^◌, ◌∷◌, ap, ◌∙◌, sym, length, refl, arith}
+use Rattle.std.proofs.Common.{◌<◌, ◌^◌, ◌∷◌, ap, ◌∙◌, sym, length, refl, arith}
 use Rattle.sctp_tx_outstanding.specs.declared.totals.Totals.{Totals}
 use Rattle.sctp_tx_outstanding.specs.Totals.{replace_part, nothing, parts}
 use Rattle.sctp_tx_outstanding.proofs.TotalsLemmas.{totals_popped, totals_as}
@@ -13,11 +13,10 @@ returns c =
     let few : length is < 2 ^ 64 = omega arith in
     record {
       totals = totals_as m is is (replace_part (parts m i) nothing old.totals) c.without_part-self.result (totals_popped m i is old.totals c.requires.totals few)
-          refl (c.without_part-self.ensures ∙ ap (λ (t : Totals). replace_part t nothing old.totals) c.of-part.ensures);
+          refl (c.without_part-self.ensures ∙ ap (λ (t : Totals). replace_part t nothing old.totals) c.of-part.ensures.parts);
       last_blocks = c.pass.ensures (i ∷ is) c.requires.last_blocks;
-      least = λ k. c.requires.least (suc k);
       runs = c.pass-2.ensures i is c.requires.runs;
       messages = c.leave.ensures i is (sym c.message_id.ensures) c.requires.messages;
-      expiries = c.leave-2.ensures i is (sym (ap (λ (t : Totals). t.earliest) c.of-part.ensures)) c.requires.expiries;
+      expiries = c.leave-2.ensures i is (sym (ap (λ (t : Totals). t.earliest) c.of-part.ensures.parts)) c.requires.expiries;
       passed = c.leave-3.ensures m i is c.requires.passed;
     }

@@ -15,7 +15,6 @@ invariant_of-self c =
         small = totals.small;
       };
       last_blocks = before.last_blocks;
-      least = before.least;
       runs = before.runs;
       messages = before.messages;
       expiries = c.expect_all.ensures;

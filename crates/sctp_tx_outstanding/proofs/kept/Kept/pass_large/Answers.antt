@@ -9,7 +9,6 @@ invariant_of-self c =
     record {
       totals = old.totals;
       last_blocks = old.last_blocks;
-      least = old.least;
       runs = c.enter.ensures old.runs;
       messages = old.messages;
       expiries = old.expiries;

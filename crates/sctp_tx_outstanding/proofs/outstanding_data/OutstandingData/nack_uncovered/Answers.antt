@@ -9,7 +9,7 @@ use Rattle.sctp_tx_outstanding.proofs.outstanding_data.OutstandingData.nack_unco
 pub loop-place-init : goal.loop-place-init
 loop-place-init c = record {
   within = omega arith;
-  cursor = walk_begin c.are_runs-is_in_runs.result c.args.blocks.now 1 c.are_runs-is_in_runs.ensures.0;
+  cursor = walk_begin c.are_runs-are_in_order.result c.args.blocks.now 1 c.are_runs-are_in_order.ensures.0;
   items = refl;
   emitted = refl;
   lossy = refl;
@@ -32,7 +32,7 @@ loop-place-preserved c =
     let lossy = passed_lossy fast bs s emitted k n le rest none c.loop-place.is_lossy c.loop-place.invariant.lossy in
     record {
       within = omega (arith, c.if-count-next.false);
-      cursor = walk_past c.are_runs-is_in_runs.result bs (n + 1) (n + 1 + 1) c.pass_idle-block.result.0 (omega arith) c.pass_idle-block.ensures.cursor;
+      cursor = walk_past c.are_runs-are_in_order.result bs (n + 1) (n + 1 + 1) c.pass_idle-block.result.0 (omega arith) c.pass_idle-block.ensures.cursor;
       items = nack_next_items false fast n s emitted c.loop-place.self c.loop-place.events c.args.self.now items events c.nack_item.new.self c.in_ok-is_lost.ensures.items;
       emitted = nack_next_emitted false fast n s emitted c.loop-place.self c.loop-place.events c.args.self.now items events c.nack_item.new.events c.in_ok-is_lost.ensures.emitted;
       lossy = nack_next_lossy false fast n s emitted c.loop-place.self c.loop-place.events c.args.self.now items events c.loop-place.is_lossy c.in_ok-is_lost.is_lost _ lossy c.in_ok-is_lost.ensures.lossy refl;

@@ -7,7 +7,7 @@ use Rattle.sctp_tx_outstanding.proofs.outstanding_data.OutstandingData.nack_unco
 abbrev pub invariant-loop-place : goal.invariant-loop-place
 invariant-loop-place l = record {
   within : l.place ≤ l.count;
-  cursor : IsWalk l.is_in_runs l.blocks (l.place + 1) l.from;
+  cursor : IsWalk l.are_in_order l.blocks (l.place + 1) l.from;
   items : l.self ≡ record l.initial.self { items = (nack_below false l.fast l.place (first_step l.initial.self.items l.initial.events)).items };
   emitted : l.events ≡ (nack_below false l.fast l.place (first_step l.initial.self.items l.initial.events)).emitted;
   lossy : l.is_lossy ≡ (nack_below false l.fast l.place (first_step l.initial.self.items l.initial.events)).is_lossy;

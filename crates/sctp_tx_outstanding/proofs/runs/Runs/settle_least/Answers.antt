@@ -8,4 +8,5 @@ returns c = λ is large h. record {
   small = h.small;
   known = settled c.args.self.now.known.items c.args.self.now.offset c.args.run c.args.least c.in-Some.known.now is
       (listed c.args.self.now.known.items c.args.run c.in-Some.known.now (search rules) c.in-Some.ensures.value) large h.known;
+  least = h.least;
 }

@@ -2,7 +2,7 @@ use Rattle.std.proofs.Common.{inl, inr, arith}
 use Rattle.std.proofs.lemmas.Bool.{cases_lt}
 use Rattle.sctp_tx_outstanding.specs.Runs.{run_of, known_of}
 use Rattle.sctp_tx_outstanding.proofs.SizesLemmas.{large_less, large_past, large_at}
-use Rattle.sctp_tx_outstanding.proofs.runs.Runs.least.Goals as goal
+use Rattle.sctp_tx_outstanding.proofs.runs.Runs.least_of_all.Goals as goal
 
 pub returns : goal.returns
 returns c = λ is count h k.

@@ -1,12 +1,12 @@
 use Rattle.std.proofs.Common.{ap, arith, length}
-use Rattle.std.proofs.lemmas.Result.{on_err_weaker}
+use Rattle.std.proofs.lemmas.Result.{on_ok_weaker, on_err_weaker}
 use Rattle.sctp_fragments.specs.Held.{bytes_of}
 use Rattle.sctp_fragments.specs.Interval.{as_held}
 use Rattle.sctp_reassembly.specs.ReassemblyStreams.{bytes_held, fragments_held}
-use Rattle.sctp_reassembly.proofs.EntriesLemmas.{sum_written}
+use Rattle.sctp_reassembly.proofs.EntriesLemmas.{sum_written, opened_there, stream_there, set_opened}
 use Rattle.sctp_reassembly.proofs.ForgetLemmas.{sum_removed}
-use Rattle.sctp_reassembly.proofs.InterruptedLemmas.{written_in_part}
-use Rattle.sctp_reassembly.proofs.stream_map.StreamMap.add_to.Goals as goal
+use Rattle.sctp_reassembly.proofs.InterruptedLemmas.{set_in_part}
+use Rattle.sctp_reassembly.proofs.stream_map.StreamMap.add.Goals as goal
 
 pub invariant_of-self-2 : goal.invariant_of-self-2
 invariant_of-self-2 g c =
@@ -37,10 +37,23 @@ returns-clause-fragments g c =
     let least = sum_removed (λ s. length (g.S.ReassemblyStream.held s)) c.args.id.0 entries c.in-Some.stream.now c.in-Some.ensures.value in
     omega (arith, written, sums, least, c.add-added.ensures.fragments, ap (fragments_held g.S.ReassemblyStream.held) c.self.view_is)
 
+pub returns-clause-ok : goal.returns-clause-ok
+returns-clause-ok g c =
+    let x = as_held (g.S.Key.ReassemblyKey.number c.args.key) (g.S.Key.ReassemblyKey.index c.args.key) c.args.fragment in
+    let fresh = g.S.ReassemblyStream.fresh in
+    let is = opened_there fresh c.args.id.0 c.self.inside.streams.entries c.args.self.now c.in-Some.stream.now c.self.view_is c.in-Some.ensures.value in
+    let at = stream_there fresh c.args.id.0 c.self.inside.streams.entries c.args.self.now c.in-Some.stream.now c.self.view_is c.in-Some.ensures.value in
+    on_ok_weaker c.add-added.result
+    (set_opened fresh c.args.id.0 c.self.inside.streams.entries c.args.self.now _ c.in-Some.stream.now c.add-added.new.self (g.S.ReassemblyStream.after_arrival x) (c.get_mut.follows.holds c.add-added.new.self).0 is at)
+    c.add-added.ensures.ok
+
 pub returns-clause-err : goal.returns-clause-err
 returns-clause-err g c =
     let x = as_held (g.S.Key.ReassemblyKey.number c.args.key) (g.S.Key.ReassemblyKey.index c.args.key) c.args.fragment in
+    let fresh = g.S.ReassemblyStream.fresh in
+    let is = opened_there fresh c.args.id.0 c.self.inside.streams.entries c.args.self.now c.in-Some.stream.now c.self.view_is c.in-Some.ensures.value in
+    let at = stream_there fresh c.args.id.0 c.self.inside.streams.entries c.args.self.now c.in-Some.stream.now c.self.view_is c.in-Some.ensures.value in
     on_err_weaker c.add-added.result
-    (written_in_part c.args.id.0 c.self.inside.streams.entries c.args.self.now _ c.in-Some.stream.now c.add-added.new.self g.S.ReassemblyStream.fresh (λ steps. g.S.ReassemblyStream.arrival_in_part steps x) (λ steps. g.S.ReassemblyStream.ready_in_part steps x) c.args.ready.now c.add-added.new.ready
-    (c.get_mut.follows.holds c.add-added.new.self).0 c.self.view_is c.in-Some.ensures.value)
+    (set_in_part fresh c.args.id.0 c.self.inside.streams.entries c.args.self.now _ c.in-Some.stream.now c.add-added.new.self (λ steps. g.S.ReassemblyStream.arrival_in_part steps x) (λ steps. g.S.ReassemblyStream.ready_in_part steps x) c.args.ready.now c.add-added.new.ready
+    (c.get_mut.follows.holds c.add-added.new.self).0 is at)
     c.add-added.ensures.err

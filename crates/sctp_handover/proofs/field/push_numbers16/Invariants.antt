@@ -1,0 +1,7 @@
+use Rattle.std.proofs.Common.{◌≡◌, ◌++◌, take}
+use Rattle.std.specs.List.{flat_map}
+use Rattle.sctp_wire.specs.Field.{be16}
+use Rattle.sctp_handover.proofs.field.push_numbers16.Given as goal
+
+abbrev pub invariant-loop-number : goal.invariant-loop-number
+invariant-loop-number l = l.output.items ≡ l.initial.output.items ++ flat_map be16 (take l.number-index l.numbers)
