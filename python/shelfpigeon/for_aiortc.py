@@ -54,6 +54,7 @@ class SctpTransport(RTCSctpTransport):
         self._plain: dict[RTCDataChannel, Channel] = {}
         self._waiting: list[RTCDataChannel] = []
         self._buffering: OrderedDict[RTCDataChannel, None] = OrderedDict()  # those that are counted next first
+        self._low: dict[RTCDataChannel, int] = {}  # the thresholds that are set
         self._packets: deque[bytes] = deque()
         self._flushing: Optional[asyncio.Task] = None
 
@@ -141,6 +142,7 @@ class SctpTransport(RTCSctpTransport):
         self._waiting.clear()
         self._plain.clear()
         self._of.clear()
+        self._low.clear()
         for channel in ended:
             self._tell("the end of a channel", channel._setReadyState, "closed")
         self._tell("the end of the transport", self.emit, "statechange")
@@ -187,6 +189,7 @@ class SctpTransport(RTCSctpTransport):
             case events.ChannelClosed(channel) if channel in self._of:
                 mine = self._of.pop(channel)
                 del self._plain[mine]
+                self._low.pop(mine, None)
                 mine._setReadyState("closed")
             case events.Connected():
                 self._state_name = "connected"
@@ -281,7 +284,8 @@ class SctpTransport(RTCSctpTransport):
             raise InvalidStateError
         try:
             with self._driven().calls():
-                channel.buffered_amount_low_threshold = mine.bufferedAmountLowThreshold
+                if self._low.get(mine) != mine.bufferedAmountLowThreshold:
+                    channel.buffered_amount_low_threshold = self._low[mine] = mine.bufferedAmountLowThreshold
                 channel.send(data)
         except NoChannel:
             raise InvalidStateError from None

@@ -16,9 +16,12 @@ use sctp_state::{HandoverError, SendOptions, SocketHandoverState};
 use std::alloc::Global;
 use std::time::Duration;
 
-/// `[rtx N] [id N]`
+/// `[life MS] [rtx N] [id N]`
 fn options_of(words: &[&str]) -> SendOptions {
     let mut options = SendOptions::default();
+    if let Some(millis) = number_behind(words, "life") {
+        options.lifetime = Some(Duration::from_millis(millis));
+    }
     if let Some(count) = number_behind(words, "rtx") {
         options.max_retransmissions = u16::try_from(count).ok();
     }
@@ -38,7 +41,7 @@ fn message_of(alloc: Global, words: &[&str], word: &str, output: &mut Output) ->
     )
 }
 
-/// `S P PAYLOAD [rtx N] [id N]`
+/// `S P PAYLOAD [life MS] [rtx N] [id N]`
 fn send<S: Driven>(alloc: Global, side: &mut Side<S>, words: &[&str], output: &mut Output) {
     let message = message_of(alloc, words, text_at(words, 2), output);
     let answer = side.socket.send(message, &options_of(words));

@@ -1,1 +1,2 @@
 pub mod FlagLemmas
+pub mod WorkLemmas

@@ -75,6 +75,9 @@ told_closed os new id told is =
     ∙ ap (λ (xs : List Output). xs ++ told) (map-append output_of os (outputs.Closed id ∷ []))
     ∙ append_assoc (map output_of os) (tell_closed id.0 ∷ []) told
 
+pub emits_none : (a b : Channels) → b ≡ a → Emits a b
+emits_none a b same = ([], same ∙ ap (λ (os : List Output). record a { outputs = os }) (sym (append-nil a.outputs)))
+
 -- one output, and what came behind it
 pub emits_then : (o : Output) (a b c : Channels) → b ≡ emit o a → Emits b c → Emits a c
 emits_then o a b c is more = (

@@ -202,7 +202,6 @@ impl DataChannels {
     }
 
     /// Takes what the socket has handed out and emitted: messages first, since a channel's are ready before the reset that closes it is emitted.
-    #[tactic(auto, using(crate::proofs::FollowsLemmas::follows_then, crate::proofs::FollowsLemmas::told_then))]
     pub fn collect<S: DcSctpSocket>(&mut self, socket: &mut S) -> Result<(), CallError>
         ensures steps { OnOk result (Follows self.old self.new) }
         ensures done { OnOk result (self.new.channels.outputs ≡ []) }
@@ -215,7 +214,6 @@ impl DataChannels {
 
     /// What the socket emitted, and what is to be done then.
     #[inline(always)]
-    #[tactic(auto, using(crate::proofs::FollowsLemmas::follows_then, crate::proofs::FollowsLemmas::told_then))]
     fn take_rest<S: DcSctpSocket>(&mut self, socket: &mut S) -> Result<(), CallError>
         ensures steps { OnOk result (Follows self.old self.new) }
         ensures done { OnOk result (self.new.channels.outputs ≡ []) }
@@ -255,7 +253,6 @@ impl DataChannels {
     }
 
     /// Takes what the socket emitted, where nothing waits in front of it.
-    #[tactic(auto, using(crate::proofs::FollowsLemmas::follows_told, crate::proofs::FollowsLemmas::follows_same, crate::proofs::FollowsLemmas::follows_none, crate::proofs::FollowsLemmas::packet_at_once, crate::proofs::FollowsLemmas::low_at_once, crate::proofs::FollowsLemmas::told_first, crate::proofs::FollowsLemmas::told_none, crate::proofs::FollowsLemmas::told_at_once))]
     fn pass_on<S: DcSctpSocket>(
         &mut self,
         socket: &mut S,
@@ -282,7 +279,6 @@ impl DataChannels {
     }
 
     /// An event, and what the socket emitted behind it.
-    #[tactic(auto, using(crate::proofs::FollowsLemmas::follows_then, crate::proofs::FollowsLemmas::told_then))]
     fn take_others<S: DcSctpSocket>(
         &mut self,
         socket: &mut S,
@@ -302,7 +298,6 @@ impl DataChannels {
         self.closing.is_empty() && self.channels.output_count() == 0 && self.unanswered.len() == 0
     }
 
-    #[tactic(auto, using(crate::proofs::FollowsLemmas::follows_then, crate::proofs::FollowsLemmas::follows_same, crate::proofs::FollowsLemmas::follows_gets, crate::proofs::FollowsLemmas::told_then, crate::proofs::FollowsLemmas::told_same))]
     fn take_messages<S: DcSctpSocket>(&mut self, socket: &mut S) -> Result<(), CallError>
         ensures steps { OnOk result (Follows self.old self.new) }
         ensures told { StaysTold self.old self.new }
@@ -317,7 +312,6 @@ impl DataChannels {
     }
 
     #[inline(always)]
-    #[tactic(auto, using(crate::proofs::FollowsLemmas::follows_then, crate::proofs::FollowsLemmas::follows_same, crate::proofs::FollowsLemmas::told_then, crate::proofs::FollowsLemmas::told_same))]
     fn take_events<S: DcSctpSocket>(&mut self, socket: &mut S) -> Result<(), CallError>
         ensures steps { OnOk result (Follows self.old self.new) }
         ensures told { StaysTold self.old self.new }
@@ -409,7 +403,6 @@ impl DataChannels {
     }
 
     #[inline(always)]
-    #[tactic(auto, using(crate::proofs::FollowsLemmas::follows_then, crate::proofs::FollowsLemmas::packet_told, crate::proofs::FollowsLemmas::told_then, crate::proofs::FollowsLemmas::told_same, crate::proofs::FollowsLemmas::told_more))]
     fn take_event<S: DcSctpSocket>(
         &mut self,
         socket: &mut S,
@@ -429,7 +422,6 @@ impl DataChannels {
     }
 
     #[inline(never)]
-    #[tactic(auto, using(crate::proofs::FollowsLemmas::follows_then, crate::proofs::FollowsLemmas::follows_hears, crate::proofs::FollowsLemmas::follows_passes, crate::proofs::FollowsLemmas::told_then, crate::proofs::FollowsLemmas::told_same, crate::proofs::FollowsLemmas::told_more))]
     fn take_other_event<S: DcSctpSocket>(
         &mut self,
         socket: &mut S,
@@ -561,7 +553,6 @@ impl DataChannels {
     }
 
     #[inline(never)]
-    #[tactic(auto, using(crate::proofs::FollowsLemmas::follows_then, crate::proofs::FollowsLemmas::follows_same, crate::proofs::FollowsLemmas::follows_drains, crate::proofs::FollowsLemmas::told_then, crate::proofs::FollowsLemmas::told_same, crate::proofs::FollowsLemmas::no_outputs))]
     fn settle_all<S: DcSctpSocket>(&mut self, socket: &mut S) -> Result<(), CallError>
         ensures steps { OnOk result (Follows self.old self.new) }
         ensures done { OnOk result (self.new.channels.outputs ≡ []) }
@@ -573,7 +564,6 @@ impl DataChannels {
 
     /// Asks for the resets that are due, up to where of the streams that are next in turn none is: a call costs no more than what it asks for,
     /// however many streams wait for a peer that takes nothing.
-    #[tactic(auto, using(crate::proofs::FollowsLemmas::follows_then, crate::proofs::FollowsLemmas::follows_same, crate::proofs::FollowsLemmas::told_then, crate::proofs::FollowsLemmas::told_same))]
     fn settle_in_turn<S: DcSctpSocket>(&mut self, socket: &S) -> Result<(), AllocError>
         ensures steps { OnOk result (Follows self.old self.new) }
         ensures told { StaysTold self.old self.new }
@@ -659,7 +649,6 @@ impl DataChannels {
     }
 
     #[inline(never)]
-    #[tactic(auto, using(crate::proofs::FollowsLemmas::follows_then, crate::proofs::FollowsLemmas::follows_same, crate::proofs::FollowsLemmas::follows_carried, crate::proofs::FollowsLemmas::told_then, crate::proofs::FollowsLemmas::told_same, crate::proofs::FollowsLemmas::no_outputs, crate::proofs::FollowsLemmas::all_carried))]
     fn carry_out_all<S: DcSctpSocket>(&mut self, socket: &mut S) -> Result<(), CallError>
         ensures steps { OnOk result (Follows self.old self.new) }
         ensures done { OnOk result (self.new.channels.outputs ≡ []) }

@@ -6,7 +6,7 @@ use sctp_serial::{StreamId, StreamKey, Tsn};
 use std::alloc::{AllocError, Global};
 
 /// So many may wait.
-const MOST: u32 = 4_096;
+const MOST: u32 = 1_024;
 
 /// The stream is to be reset once this TSN came.
 const STREAM: StreamId = StreamId(3);

@@ -48,8 +48,8 @@ module _ {K : Type 0} (is_key : K → Type 0) (number index : K → ℕ) where
         let whole : runs es ≡ runs front ++ run_of (held_of number index) i ∷ [] = ap runs is ∙ runs_append is_key number index front ((k, i) ∷ []) in
         (end_of None (runs front), AreRuns_back rank_of goes_on None (runs front) (run_of (held_of number index) i ∷ []) (subst (AreRuns rank_of goes_on None) whole all))
 
-    pub holds_last : (n : ℕ) → is_held rank_of n (run_of (held_of number index) i) ≡ true → Holds is_key number index n k es
-    holds_last n held = record { front = front; interval = i; back = []; is = is; low = low_front; held = held }
+    pub holds_last : (n : ℕ) → is_held rank_of n (run_of (held_of number index) i) ≡ true → (h : Holds is_key number index n k es) × (i ≡ h.interval)
+    holds_last n held = (record { front = front; interval = i; back = []; is = is; low = low_front; held = held }, refl)
 
     -- an item behind the end of all
     module _ (x e : Held) (r : Bool) (less : r ≡ true) (is_less : r ≡ nat_lt (rank_of e) (rank_of x)) (last : (h : Held) (hs : List Held) → run_of (held_of number index) i ≡ h ∷ hs → e ≡ last_of h hs) where

@@ -16,7 +16,7 @@ use Rattle.sctp_fragments.specs.ReassemblyKey.{pair_rank, rank_at}
 use Rattle.sctp_fragments.specs.Interval.{held_of, run_of, lists_of}
 use Rattle.sctp_fragments.specs.Runs.{is_held}
 use Rattle.sctp_fragments.specs.Held.{Held, rank_of, intervals_of, is_complete, is_in_turn, NonePass, NoneInTurn, without_first_of, IsPlaced}
-use Rattle.sctp_reassembly.specs.Finished.{BeginsAt, is_missed, is_earlier, NoneMissed, NoneEarlier}
+use Rattle.sctp_reassembly.specs.Finished.{BeginsAt, IsNumbered, is_missed, is_earlier, NoneMissed, NoneEarlier}
 use Rattle.sctp_reassembly.proofs.DeliverLemmas.{NonePass_with}
 use Rattle.sctp_reassembly.proofs.NoteLemmas.{not_above}
 
@@ -165,13 +165,22 @@ module _ {K : Type 0} (number index : K → ℕ) where
   -- ---- where the run with a rank begins
 
   module _ (n : ℕ) (hs run : List Held) (same : (front back : List (List Held)) (r : List Held) → intervals_of hs ≡ front ++ r ∷ back → is_held rank_of n r ≡ true → run ≡ r) where
-    pub begins_there : (o : Option K) → IfSome o (λ k. BeginsAt (rank k) run) → IfSome o (λ k. (front back : List (List Held)) (r : List Held) → intervals_of hs ≡ front ++ r ∷ back → is_held rank_of n r ≡ true → BeginsAt (rank k) r)
-    begins_there None begins = tt
-    begins_there (Some k) begins = λ front back r runs held. subst (BeginsAt (rank k)) (same front back r runs held) begins
+    pub some_there : (P : K → List Held → Type 0) (o : Option K) → IfSome o (λ k. P k run) → IfSome o (λ k. (front back : List (List Held)) (r : List Held) → intervals_of hs ≡ front ++ r ∷ back → is_held rank_of n r ≡ true → P k r)
+    some_there P None told = tt
+    some_there P (Some k) told = λ front back r runs held. subst (P k) (same front back r runs held) told
 
     pub incomplete_there : (o : Option K) → IfNone o (is_complete run ≡ false) → IfNone o ((front back : List (List Held)) (r : List Held) → intervals_of hs ≡ front ++ r ∷ back → is_held rank_of n r ≡ true → is_complete r ≡ false)
     incomplete_there None off = λ front back r runs held. subst (λ (t : List Held). is_complete t ≡ false) (same front back r runs held) off
     incomplete_there (Some k) off = tt
+
+  -- the run is the message with the number n only where it begins at a key with that number
+  pub number_decides : (n : ℕ) (r : List Held) (o : Option K) (told : Bool) → IfSome o (λ k. told ≡ (number k == n)) → IfNone o (told ≡ false) → IfSome o (λ k. IsNumbered (number k) r) → IfNone o (is_complete r ≡ false) → told ≡ is_in_turn n r
+  number_decides n r None told some none numbered incomplete = none ∙ sym (off r incomplete)
+    where
+      off : (r : List Held) → is_complete r ≡ false → is_in_turn n r ≡ false
+      off [] h = refl
+      off (d ∷ ds) h = rw h refl
+  number_decides n r (Some k) told some none numbered incomplete = some ∙ sym (numbered n)
 
   -- ---- a search, by which keys below the number go, from a rank m on
 

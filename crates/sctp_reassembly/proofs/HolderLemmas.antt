@@ -29,6 +29,14 @@ pub none_then : {T : Type 0} {P Q : Type 0} (r : Option T) → (P → Q) → IfN
 none_then (Some x) f p = tt
 none_then None f p = f p
 
+pub some_at : {T : Type 0} (P : T → Type 0) (r : Option T) (x : T) → r ≡ Some x → IfSome r P → P x
+some_at P (Some y) x is told = let same : y ≡ x = cc in subst P same told
+some_at P None x is told = absurd (cc)
+
+pub none_at : {T : Type 0} {P : Type 0} (r : Option T) → r ≡ None → IfNone r P → P
+none_at (Some y) is told = absurd (cc)
+none_at None is told = told
+
 pub linked_held : (n : ℕ) (h : Held) (hs : List Held) → IsLinked rank_of goes_on h hs → rank_of h ≤ n → n ≤ rank_of (last_of h hs) → is_held rank_of n (h ∷ hs) ≡ true
 linked_held n h hs l low high =
     subst (λ (t : List Held). is_held rank_of n t ≡ true) (append-nil (h ∷ hs)) (is_held_within rank_of goes_on n [] [] h hs None (tt, (l, tt)) tt low high)
@@ -258,6 +266,9 @@ module _ {K : Type 0} (is_key : K → Type 0) (number index : K → ℕ) where
       pub later_only : (front back : List (List Held)) (r : List Held) → lists_of (held_of number index) (all_of first later) ≡ front ++ r ∷ back → is_held rank_of n r ≡ true → run_of (held_of number index) j.interval ≡ r
       later_only front back r at here =
           (only_one n None in_map.front in_map.back front back (run_of (held_of number index) j.interval) r (subst (AreRuns rank_of goes_on None) in_map.is runs_here) (sym in_map.is ∙ (sym lists_are ∙ at)) j.held here).run_is
+
+      pub found_later : (d : Interval K) → d ≡ j.interval → IsAmong n (run_of (held_of number index) d) (lists_of (held_of number index) (all_of first later))
+      found_later d same = subst (IsAmong n (run_of (held_of number index) d)) (sym lists_are) (among_later n (run_of (held_of number index) i) later k d j same)
 
       pub later_out : (new : List (K × Interval K)) (d : Interval K) → d ≡ j.interval → new ≡ j.front ++ j.back → IsOut (lists_of (held_of number index) (all_of first later)) (run_of (held_of number index) d) (run_of (held_of number index) i ∷ runs new)
       later_out new d same left = record {

@@ -1,5 +1,5 @@
 -- Complete intervals by the keys at which they begin.
-use Rattle.std.specs.Prelude.{◌≡◌, ℕ, ◌&&◌, not, nat_lt, Bool, false, Option, Some, None, List, [], ◌∷◌}
+use Rattle.std.specs.Prelude.{◌≡◌, ◌==◌, ℕ, ◌&&◌, not, nat_lt, Bool, false, Option, Some, None, List, [], ◌∷◌}
 use Rattle.std.specs.BTreeSet.{BTreeSet}
 use Rattle.std.specs.List.{All}
 use Rattle.sctp_fragments.specs.ReassemblyKey.{pair_rank, rank_at}
@@ -33,6 +33,10 @@ NoneEarlier n m rs = NonePass (is_earlier n m) rs
 abbrev pub BeginsAt : ℕ → List Held → Type 0
 BeginsAt m [] = ⊥
 BeginsAt m (h ∷ hs) = rank_of h ≡ m
+
+-- a run is the message with the number m, and with no other
+abbrev pub IsNumbered : ℕ → List Held → Type 0
+IsNumbered m r = (n : ℕ) → is_in_turn n r ≡ (m == n)
 
 -- what is true of every ordered stream, as it is kept: no complete message from the next number on is missed
 pub record IsKeptInOrder {K : Type 0} (number index : K → ℕ) (s : OrderedStream) (is_settled : Bool) (finished : Option (BTreeSet K)) : Type 0 where

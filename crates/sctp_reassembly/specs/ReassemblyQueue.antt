@@ -73,7 +73,7 @@ most_waiting_entries = 65536
 
 -- and no more fragments than so many
 abbrev pub most_waiting_fragments : ℕ
-most_waiting_fragments = 4096
+most_waiting_fragments = 1024
 
 pub record IsDeferred (bytes fragments entries : ℕ) (ws : List Waiting) : Type 0 where
   pub counted : bytes ≡ sum_by waiting_bytes ws

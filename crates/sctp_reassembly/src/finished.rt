@@ -7,7 +7,7 @@ ghost use Rattle.sctp_fragments.specs.Runs.{is_held};
 ghost use Rattle.sctp_fragments.specs.ReassemblyKey.{pair_rank, rank_at};
 ghost use Rattle.sctp_fragments.specs.Interval.{held_of, run_of, lists_of};
 ghost use Rattle.sctp_reassembly.specs.Places.{all_of, runs_at};
-ghost use Rattle.sctp_reassembly.specs.Finished.{BeginsAt, is_missed, NoneMissed, NoneEarlier};
+ghost use Rattle.sctp_reassembly.specs.Finished.{BeginsAt, IsNumbered, is_missed, NoneMissed, NoneEarlier};
 
 use crate::places::least_of;
 use sctp_fragments::{Interval, ReassemblyKey, is_before};
@@ -51,6 +51,7 @@ fn add_key<K: ReassemblyKey>(keys: &mut BTreeSet<K>, key: K) -> Result<(), Alloc
 /// The key at which the interval begins, where it is complete.
 pub(crate) fn begin_of<K: ReassemblyKey>(interval: &Interval<K>) -> Option<K>
     ensures some { IfSome result (λ k. BeginsAt (rank_at K.number K.index k) (run_of (held_of K.number K.index) interval.now)) }
+    ensures number { IfSome result (λ k. IsNumbered (K.number k) (run_of (held_of K.number K.index) interval.now)) }
     ensures none { IfNone result (is_complete (run_of (held_of K.number K.index) interval.now) ≡ false) }
 {
     if !interval.is_complete() {

@@ -109,7 +109,7 @@ impl<K: ReassemblyKey> IntervalList<K> {
     ghost use Rattle.sctp_fragments.specs.Interval.{as_held, held_of, run_of};
     ghost use Rattle.sctp_reassembly.specs.UnorderedByTsn.{BeginsFrom};
     ghost use Rattle.sctp_reassembly.specs.KeyAt.{IsKeyAt};
-    ghost use Rattle.sctp_reassembly.specs.Finished.{BeginsAt, NoneMissed, NoneEarlier};
+    ghost use Rattle.sctp_reassembly.specs.Finished.{BeginsAt, IsNumbered, NoneMissed, NoneEarlier};
 
     /// No fragments. Takes no memory.
     pub fn new(alloc: Global) -> IntervalList<K>
@@ -219,20 +219,10 @@ impl<K: ReassemblyKey> IntervalList<K> {
         }
     }
 
-    /// Whether the interval with the key is a complete message with the number.
-    pub fn is_in_turn_at(&self, key: K, number: u128) -> bool
-        ensures { (front back : List (List Held)) (r : List Held) → intervals_of self.now ≡ front ++ r ∷ back → is_held rank_of (rank_at K.number K.index key) r ≡ true → result ≡ is_in_turn number r }
-    {
-        match &self.state {
-            ListState::Empty => false,
-            ListState::Lone(interval) => has_key(interval, key) && interval.is_in_turn(number),
-            ListState::Many(map) => map.is_in_turn_at(key, number),
-        }
-    }
-
     /// The key at which the interval with the key begins, where it is complete.
-    pub(crate) fn finished_at(&self, key: K) -> Option<K>
+    pub fn finished_at(&self, key: K) -> Option<K>
         ensures some { IfSome result (λ k. (front back : List (List Held)) (r : List Held) → intervals_of self.now ≡ front ++ r ∷ back → is_held rank_of (rank_at K.number K.index key) r ≡ true → BeginsAt (rank_at K.number K.index k) r) }
+        ensures number { IfSome result (λ k. (front back : List (List Held)) (r : List Held) → intervals_of self.now ≡ front ++ r ∷ back → is_held rank_of (rank_at K.number K.index key) r ≡ true → IsNumbered (K.number k) r) }
         ensures none { IfNone result ((front back : List (List Held)) (r : List Held) → intervals_of self.now ≡ front ++ r ∷ back → is_held rank_of (rank_at K.number K.index key) r ≡ true → is_complete r ≡ false) }
     {
         match &self.state {

@@ -1,14 +1,14 @@
 //! Fragments of a stream whose messages become ready in the order of their numbers.
 
-ghost use Rattle.std.specs.Prelude.{◌≡◌, ◌+◌, ◌<◌, ◌≤◌, ◌^◌, ◌++◌, ℕ, suc, List, length, option_map, OnOk, OnErr, IfOk, IfSome, IfNone, nat_lt, [], true, false};
+ghost use Rattle.std.specs.Prelude.{◌≡◌, ◌==◌, ◌+◌, ◌<◌, ◌≤◌, ◌^◌, ◌++◌, ◌∷◌, ℕ, suc, List, length, option_map, OnOk, OnErr, IfOk, IfSome, IfNone, nat_lt, [], true, false};
 ghost use Rattle.std.specs.List.{find};
 ghost use Rattle.sctp_serial.specs.Unwrapped.{origin};
-ghost use Rattle.sctp_fragments.specs.Held.{Held, bytes_of, rank_of, intervals_of, is_in_turn, without_first_of, left_by, IsPlaced, NoneInTurn};
+ghost use Rattle.sctp_fragments.specs.Held.{Held, bytes_of, rank_of, intervals_of, is_complete, is_in_turn, without_first_of, left_by, IsPlaced, NoneInTurn};
 ghost use Rattle.sctp_fragments.specs.ReassemblyKey.{pair_rank, rank_at};
 ghost use Rattle.sctp_fragments.specs.Interval.{as_held, held_of, run_of};
-ghost use Rattle.sctp_fragments.specs.Runs.{with_item};
+ghost use Rattle.sctp_fragments.specs.Runs.{is_held, with_item};
 ghost use Rattle.sctp_reassembly.specs.Delivery.{deliver, ordered_arrival, ordered_forward, ready_bytes, Extends};
-ghost use Rattle.sctp_reassembly.specs.Finished.{NoneMissed};
+ghost use Rattle.sctp_reassembly.specs.Finished.{NoneMissed, IsNumbered};
 ghost use Rattle.sctp_reassembly.specs.InterruptedStreams.{deliver_in_part, ordered_arrival_in_part, ordered_forward_in_part};
 
 use crate::finished::Finished;
@@ -99,18 +99,37 @@ fn deliver<K: ReassemblyKey>(
 /// Of so many intervals the complete ones are noted. Fewer are looked through.
 const MANY: usize = 64;
 
-/// Notes the interval with the key where it is complete. Where intervals become many, notes all that are.
-fn note_in<K: ReassemblyKey>(finished: &mut Finished<K>, list: &IntervalList<K>, key: K)
-    ensures { (m : ℕ) (old : List Held) (x : Held) → IsPlaced old list.now x → rank_of x ≡ rank_at K.number K.index key → NoneMissed K.number K.index m finished.old (intervals_of old) → NoneMissed K.number K.index m finished.new (intervals_of list.now) }
+/// Notes the interval with the key where it is complete, and says where it begins then. Where intervals become many, notes all that are.
+fn note_in<K: ReassemblyKey>(
+    finished: &mut Finished<K>,
+    list: &IntervalList<K>,
+    key: K,
+) -> Option<K>
+    ensures noted { (m : ℕ) (old : List Held) (x : Held) → IsPlaced old list.now x → rank_of x ≡ rank_at K.number K.index key → NoneMissed K.number K.index m finished.old (intervals_of old) → NoneMissed K.number K.index m finished.new (intervals_of list.now) }
+    ensures number { IfSome result (λ k. (front back : List (List Held)) (r : List Held) → intervals_of list.now ≡ front ++ r ∷ back → is_held rank_of (rank_at K.number K.index key) r ≡ true → IsNumbered (K.number k) r) }
+    ensures none { IfNone result ((front back : List (List Held)) (r : List Held) → intervals_of list.now ≡ front ++ r ∷ back → is_held rank_of (rank_at K.number K.index key) r ≡ true → is_complete r ≡ false) }
 {
+    let first = list.finished_at(key);
     if !finished.is_known() {
         if list.len() == MANY {
             *finished = list.finished();
         }
-        return;
+        return first;
     }
-    if let Some(first) = list.finished_at(key) {
-        finished.note(first);
+    if let Some(first) = &first {
+        finished.note(*first);
+    }
+    first
+}
+
+/// Whether a message that begins there has the number.
+fn is_message<K: ReassemblyKey>(first: Option<K>, number: u128) -> bool
+    ensures some { IfSome first (λ k. result ≡ (K.number k == number)) }
+    ensures none { IfNone first (result ≡ false) }
+{
+    match first {
+        Some(first) => first.number() as u128 == number,
+        None => false,
     }
 }
 
@@ -134,8 +153,8 @@ fn add_in<K: ReassemblyKey>(
     if !list.add(key, fragment)? {
         return Ok(false);
     }
-    note_in(finished, list, key);
-    Ok(list.is_in_turn_at(key, next))
+    let first = note_in(finished, list, key);
+    Ok(is_message(first, next))
 }
 
 /// Whether nothing is in turn: nothing was before, and no interval came to be.

@@ -132,20 +132,33 @@ fn place_with<K: ReassemblyKey>(later: &BTreeMap<K, Interval<K>>, key: K) -> Opt
     ensures some { IfSome result (λ place. Holds K.is_key K.number K.index (rank_at K.number K.index key) place later.now.entries) }
     ensures none { IfNone result (is_held rank_of (rank_at K.number K.index key) (flat (runs_at K.number K.index later.now.entries)) ≡ false) }
 {
-    if let Some(place) = last_with(later, key) {
-        return Some(place);
+    if let Some(found) = last_with(later, key) {
+        return Some(found.0);
     }
+    place_amid(later, key)
+}
+
+/// The same, without a look at the last interval first.
+fn place_amid<K: ReassemblyKey>(later: &BTreeMap<K, Interval<K>>, key: K) -> Option<K>
+    requires runs { IsInRuns (runs_at K.number K.index later.now.entries) }
+    requires named { AreNamed K.is_key K.number K.index later.now.entries }
+    ensures some { IfSome result (λ place. Holds K.is_key K.number K.index (rank_at K.number K.index key) place later.now.entries) }
+    ensures none { IfNone result (is_held rank_of (rank_at K.number K.index key) (flat (runs_at K.number K.index later.now.entries)) ≡ false) }
+{
     match place_below(later, key) {
         Some(place) => Some(place),
         None => place_from(later, key),
     }
 }
 
-/// The key in the map of the last interval, where that has the key.
-fn last_with<K: ReassemblyKey>(later: &BTreeMap<K, Interval<K>>, key: K) -> Option<K>
+/// The last interval and its key in the map, where it has the key.
+fn last_with<K: ReassemblyKey>(
+    later: &BTreeMap<K, Interval<K>>,
+    key: K,
+) -> Option<(K, &Interval<K>)>
     requires runs { IsInRuns (runs_at K.number K.index later.now.entries) }
     requires named { AreNamed K.is_key K.number K.index later.now.entries }
-    ensures { IfSome result (λ place. Holds K.is_key K.number K.index (rank_at K.number K.index key) place later.now.entries) }
+    ensures { IfSome result (λ e. (h : Holds K.is_key K.number K.index (rank_at K.number K.index key) e.0 later.now.entries) × (e.1.now ≡ h.interval)) }
 {
     let Some((place, interval)) = later.last_key_value() else {
         return None;
@@ -153,7 +166,7 @@ fn last_with<K: ReassemblyKey>(later: &BTreeMap<K, Interval<K>>, key: K) -> Opti
     if !has_key(interval, key) {
         return None;
     }
-    Some(*place)
+    Some((*place, interval))
 }
 
 /// Whether an interval has an entry with the key.
@@ -181,7 +194,10 @@ pub(crate) fn interval_with<'a, K: ReassemblyKey>(
     if has_key(interval, key) {
         return Some(interval);
     }
-    let Some(place) = place_with(later, key) else {
+    if let Some((_, interval)) = last_with(later, key) {
+        return Some(interval);
+    }
+    let Some(place) = place_amid(later, key) else {
         return None;
     };
     place.known();

@@ -264,7 +264,7 @@ impl ReassemblyQueue {
     }
 
     /// Whether a fragment is to be taken: while a reset is deferred, of those that would wait for it only so many that no more than
-    /// 4,096 do. This rule is our own.
+    /// 1,024 do. This rule is our own.
     pub fn admits_fragment(&self, tsn: Tsn, stream_key: StreamKey) -> bool
         ensures { result ≡ admits_fragment tsn.0 (key_stream stream_key) self.now }
     {

@@ -142,14 +142,15 @@ impl StreamScheduler {
         ensures ok { OnOk result (self.new ≡ set_bytes_remaining id.0 bytes priority (accept id.0 self.old)) }
         ensures err { OnErr result (self.new ≡ self.old) }
     {
+        if bytes == 0 {
+            if let Some(finish) = self.active.leave(id.0) {
+                self.virtual_time = finish;
+            }
+            return Ok(());
+        }
         let Some(finish) = self.active.finish_time(id.0) else {
             return self.set_bytes_remaining(id, bytes, priority);
         };
-        if bytes == 0 {
-            self.active.leave(id.0);
-            self.virtual_time = finish;
-            return Ok(());
-        }
         let next = self.finish_at(finish, bytes, priority);
         self.active.renew(id.0, finish, next)?;
         self.virtual_time = finish;

@@ -9,7 +9,7 @@ use crate::rows::{End, Row, What};
 use std::alloc::{AllocError, Global};
 
 /// A packet's way: rows count from 0.
-#[derive(Clone, Copy, Debug)]
+#[derive(Clone, Copy)]
 pub struct Arrow {
     pub from: End,
     /// The packet's number among those of its end, from 0 on.
@@ -21,7 +21,7 @@ pub struct Arrow {
 }
 
 /// A packet that was never given: its end, and the row in which it was sent.
-#[derive(Clone, Copy, Debug)]
+#[derive(Clone, Copy)]
 pub struct Cross {
     pub from: End,
     pub sent: usize,

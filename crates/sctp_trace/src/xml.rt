@@ -8,7 +8,7 @@ ghost use Rattle.sctp_trace.specs.Xml.{tag_name, key_name, escaped_code, escape,
 use std::alloc::AllocError;
 
 /// The names of elements.
-#[derive(Clone, Copy, Debug, PartialEq, Eq)]
+#[derive(Clone, Copy)]
 pub enum Tag {
     Svg,
     Style,
@@ -19,7 +19,7 @@ pub enum Tag {
 }
 
 /// The names of attributes.
-#[derive(Clone, Copy, Debug, PartialEq, Eq)]
+#[derive(Clone, Copy)]
 pub enum Key {
     Xmlns,
     ViewBox,
@@ -35,14 +35,14 @@ pub enum Key {
     D,
 }
 
-#[derive(Debug, Drop)]
+#[derive(Drop)]
 pub struct Attribute {
     pub key: Key,
     pub value: String,
 }
 
 /// An element: its text stands before its children.
-#[derive(Debug, Drop)]
+#[derive(Drop)]
 pub struct Element {
     pub tag: Tag,
     pub attributes: Vec<Attribute>,

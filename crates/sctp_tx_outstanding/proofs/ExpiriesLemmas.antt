@@ -1,6 +1,6 @@
 -- The moments at which items expire, as items come, change and leave.
 use Rattle.std.proofs.Common.{◌≡◌, ℕ, zero, suc, ◌+◌, ◌-◌, ◌*◌, ◌/◌, ◌%◌, ◌^◌, ◌<◌, ◌≤◌, ◌==◌, Bool, true, false, cond, List, [], ◌∷◌, ◌++◌, length, take, slice_index_or, refl, ap, sym, subst, ◌∙◌, inl, inr, arith}
-use Rattle.std.specs.Prelude.{Option, Some, None, ◌&&◌}
+use Rattle.std.specs.Prelude.{Option, Some, None, ◌&&◌, ◌||◌}
 use Rattle.std.specs.List.{All}
 use Rattle.std.proofs.lemmas.Bool.{cases_lt, both_ways}
 use Rattle.std.proofs.lemmas.Bool.Decides.{nat_tests}
@@ -14,12 +14,14 @@ use Rattle.sctp_tx_outstanding.specs.Change.{apply_change}
 use Rattle.sctp_tx_outstanding.specs.OutstandingData.{change_at}
 use Rattle.sctp_tx_outstanding.specs.Totals.{parts, Exchanges}
 use Rattle.sctp_tx_outstanding.specs.Messages.{pair_key}
-use Rattle.sctp_tx_outstanding.specs.Numbers.{by_number, is_listed}
+use Rattle.sctp_tx_outstanding.specs.Numbers.{is_listed}
 use Rattle.sctp_tx_outstanding.specs.Expiries.{expires_as, AreMoments, Expects, Moves, Sets, expires_at, ListsUpTo}
 use Rattle.sctp_tx_outstanding.proofs.EarliestLemmas.{not_before}
-use Rattle.sctp_tx_outstanding.proofs.MessagesLemmas.{turn_round, out, stays}
-use Rattle.sctp_tx_outstanding.proofs.NumbersLemmas.{as_below, as_at, as_next, here, ahead, behind, further, nowhere, not_below, is_same_lem}
-use Rattle.sctp_serial.proofs.NumberLemmas.{greater_differs}
+use Rattle.sctp_tx_outstanding.proofs.MessagesLemmas.{stays}
+use Rattle.sctp_tx_outstanding.proofs.NumbersLemmas.{here, ahead, behind, further, nowhere, is_same_lem}
+use Rattle.std.specs.Ordering.{nat_cmp}
+use Rattle.std.specs.BTreeMap.{is_at}
+use Rattle.sctp_serial.proofs.NumberLemmas.{greater_differs, equal_at}
 
 -- ---- an item changes
 
@@ -74,43 +76,46 @@ moves_pushed p was will is i e a b = record {
 
 -- ---- the first one leaves
 
-not_such : (a b c w : Bool) → a ≡ false → w ≡ cond (a && b) c w
-not_such true b c w h = cc
-not_such false b c w h = refl
+pub keeps_others : (moment number : ℕ) (keys news : List ℕ) → Sets moment number false keys news → (m n : ℕ) → m < never → n < 2 ^ 32 → (n == number) ≡ false → is_listed keys (pair_key m n) ≡ true → is_listed news (pair_key m n) ≡ true
+keeps_others moment number keys news put m n less few apart h = put m n less few ∙ (stays (m == moment) (n == number) (is_listed keys (pair_key m n)) apart ∙ h)
 
--- what never expires isn't listed
-pub set_never : (moment number : ℕ) (b : Bool) (keys : List ℕ) → moment ≡ never → Sets moment number b keys keys
-set_never moment number b keys h = λ m n less few. not_such (m == moment) (n == number) b (is_listed keys (pair_key m n)) (not_below moment m (omega (arith, h, less)))
-
-pub first_left : (keys news : List ℕ) (first next moment : ℕ) (i : Item) (is : List Item) → next ≡ first + 1 → first < 2 ^ 32 → expiry i ≡ moment → Sets moment first false keys news
+pub first_left : (keys news : List ℕ) (first next : ℕ) (i : Item) (is : List Item) → next ≡ first + 1
+    → ((m n : ℕ) → m < never → n < 2 ^ 32 → (n == first) ≡ false → is_listed keys (pair_key m n) ≡ true → is_listed news (pair_key m n) ≡ true)
     → AreMoments keys first (i ∷ is) → AreMoments news next is
-first_left keys news first next moment i is e small of put known = record {
+first_left keys news first next i is e kept known = record {
   fits = λ m k less h. omega (arith, e, known.fits m (suc k) less h);
-  exact = λ m n less few. put m n less few ∙ (leaves m n less few ∙ ap (λ l. by_number l (λ k. expires_as m k is) n) (sym e));
+  listed = λ m k less h.
+      let place : next + k ≡ first + suc k = omega (arith, e) in
+      ap (λ n. is_listed news (pair_key m n)) place ∙ kept m (first + suc k) less (known.fits m (suc k) less h) (greater_differs first (first + suc k) (omega arith)) (known.listed m (suc k) less h);
+}
+
+-- ---- the first key goes
+
+pub expires_here : (m k : ℕ) (is : List Item) (i : Item) → k < length is → i ≡ slice_index_or is k i → (expiry i == m) ≡ expires_as m k is
+expires_here m k [] i h at = absurd (omega (arith, h))
+expires_here m zero (x ∷ is) i h at = ap (λ (y : Item). expiry y == m) at
+expires_here m (suc k) (x ∷ is) i h at = expires_here m k is i (omega (arith, h)) at
+
+pub none_here : (m k : ℕ) (is : List Item) → length is ≤ k → false ≡ expires_as m k is
+none_here m k [] h = refl
+none_here m zero (x ∷ is) h = absurd (omega (arith, h))
+none_here m (suc k) (x ∷ is) h = none_here m k is (omega (arith, h))
+
+pub first_dropped : (key : ℕ) (keys : List ℕ) (first : ℕ) (b : Bool) (is : List Item) → b ≡ false → ((moment k : ℕ) → first + k < 2 ^ 32 → key ≡ pair_key moment (first + k) → b ≡ expires_as moment k is)
+    → AreMoments (key ∷ keys) first is → AreMoments keys first is
+first_dropped key keys first b is off tells known = record {
+  fits = known.fits;
+  listed = λ m k less h. other (is_at (nat_cmp (pair_key m (first + k))) key) refl (λ same. both_ways b off (tells m k (known.fits m k less h) same ∙ h)) (known.listed m k less h);
 }
   where
-    at_first : (m n : ℕ) → m < never → n < 2 ^ 32 → n ≡ first → is_listed keys (pair_key m n) ≡ (m == moment)
-    at_first m n less few same =
-        let there : n ≡ first + 0 = omega (arith, same) in
-        known.exact m n less few ∙ (ap (λ l. by_number first (λ k. expires_as m k (i ∷ is)) l) there ∙ (as_at first (λ k. expires_as m k (i ∷ is)) 0 ∙ (ap (λ j. j == m) of ∙ turn_round m moment)))
-
-    leaves : (m n : ℕ) → m < never → n < 2 ^ 32 → cond ((m == moment) && (n == first)) false (is_listed keys (pair_key m n)) ≡ by_number (first + 1) (λ k. expires_as m k is) n
-    leaves m n less few = elim (cases_lt first n) [
-      | inl more ↦ stays (m == moment) (n == first) (is_listed keys (pair_key m n)) (greater_differs first n more) ∙ (known.exact m n less few ∙ sym (as_next first (λ k. expires_as m k (i ∷ is)) n more))
-      | inr le ↦ none m n less few le ∙ sym (as_below (first + 1) (λ k. expires_as m k is) n (omega (arith, le)))
-    ] where
-      none : (m n : ℕ) → m < never → n < 2 ^ 32 → n ≤ first → cond ((m == moment) && (n == first)) false (is_listed keys (pair_key m n)) ≡ false
-      none m n less few le = elim (cases_lt n first) [
-        | inl below ↦ stays (m == moment) (n == first) (is_listed keys (pair_key m n)) (not_below first n below) ∙ (known.exact m n less few ∙ as_below first (λ k. expires_as m k (i ∷ is)) n below)
-        | inr ge ↦
-            let same : n ≡ first = omega (arith, le, ge) in
-            out (m == moment) (n == first) (is_listed keys (pair_key m n)) (is_same_lem first n same) (at_first m n less few same)
-      ]
+    other : {n : ℕ} (c : Bool) → is_at (nat_cmp n) key ≡ c → (key ≡ n → ⊥) → is_listed (key ∷ keys) n ≡ true → is_listed keys n ≡ true
+    other {n = n} true here apart h = absurd (apart (equal_at n key here))
+    other {n = n} false there apart h = sym (ap (λ (b : Bool). b || is_listed keys n) there) ∙ h
 
 -- ---- before the least key none expires
 
 listed_as : (keys : List ℕ) (first m k : ℕ) (is : List Item) → AreMoments keys first is → m < never → expires_as m k is ≡ true → is_listed keys (pair_key m (first + k)) ≡ true
-listed_as keys first m k is known less h = known.exact m (first + k) less (known.fits m k less h) ∙ (as_at first (λ j. expires_as m j is) k ∙ h)
+listed_as keys first m k is known less h = known.listed m k less h
 
 all_from : (e : ℕ) (is : List Item) → e ≤ never → ((m k : ℕ) → m < never → expires_as m k is ≡ true → e ≤ m) → All (NotBefore e) is
 all_from e [] small h = All-nil (NotBefore e)

@@ -5,7 +5,7 @@ use Rattle.sctp_tx_outstanding.specs.declared.expiries.Due.{Due}
 use Rattle.sctp_tx_outstanding.specs.Item.{Item, expiry, never}
 use Rattle.sctp_tx_outstanding.specs.Losses.{expires}
 use Rattle.sctp_tx_outstanding.specs.Messages.{pair_key}
-use Rattle.sctp_tx_outstanding.specs.Numbers.{by_number, is_listed}
+use Rattle.sctp_tx_outstanding.specs.Numbers.{is_listed}
 
 -- whether the item at the place expires at the moment, and not before
 abbrev pub expires_as : (moment k : ℕ) → List Item → Bool
@@ -13,10 +13,10 @@ expires_as moment k [] = false
 expires_as moment zero (i ∷ is) = expiry i == moment
 expires_as moment (suc k) (i ∷ is) = expires_as moment k is
 
--- the keys are those of the items that expire at some moment, and no other. The first item's number is `first`
+-- each item that expires at some moment has its key among these. The first item's number is `first`
 pub record AreMoments (keys : List ℕ) (first : ℕ) (is : List Item) : Type 0 where
   pub fits : (moment k : ℕ) → moment < never → expires_as moment k is ≡ true → first + k < 2 ^ 32
-  pub exact : (moment n : ℕ) → moment < never → n < 2 ^ 32 → is_listed keys (pair_key moment n) ≡ by_number first (λ k. expires_as moment k is) n
+  pub listed : (moment k : ℕ) → moment < never → expires_as moment k is ≡ true → is_listed keys (pair_key moment (first + k)) ≡ true
 
 abbrev pub Expects : Expiries → List Item → Type 0
 Expects x is = x.is_known ≡ true → AreMoments x.keys.keys x.first is

@@ -1,18 +1,20 @@
 //! The moments at which items expire.
 
-ghost use Rattle.std.specs.Prelude.{◌≡◌, ℕ, ◌<◌, ◌≤◌, ◌==◌, true, false, IfSome};
+ghost use Rattle.std.specs.Prelude.{◌≡◌, ℕ, ◌+◌, ◌^◌, ◌<◌, ◌≤◌, ◌==◌, true, false, IfSome};
 ghost use Rattle.sctp_tx_outstanding.specs.Messages.{pair_key};
 ghost use Rattle.sctp_tx_outstanding.specs.Numbers.{is_listed};
-ghost use Rattle.sctp_tx_outstanding.specs.Expiries.{ListsUpTo, Sets};
+ghost use Rattle.sctp_tx_outstanding.specs.Expiries.{ListsUpTo, Sets, expires_as};
 
+use crate::item::Item;
 use crate::messages::number_at;
 use crate::numbers::{add, least_from};
 use sctp_serial::SocketTime;
 use std::alloc::Global;
-use std::collections::BTreeSet;
+use std::collections::{BTreeSet, VecDeque};
 
-/// Which items expire when: those that are missing or lost and have a lifetime, each under its moment and its number. What
-/// has no lifetime isn't listed, and costs a test. Where memory was missing it isn't known, until all items are looked at.
+/// Which items expire when: those that are missing or lost and have a lifetime, each under its moment and its number. One that is
+/// acknowledged keeps its key, so that SACKs which take it back and forth cost no more: it goes as the item leaves, or comes first of
+/// all. What has no lifetime isn't listed, and costs a test. Where memory was missing it isn't known, until all items are looked at.
 #[derive(Drop)]
 pub struct Expiries {
     pub keys: BTreeSet<u128>,
@@ -98,10 +100,24 @@ fn list_below(
     true
 }
 
+/// Whether the item of the key expires at its moment. The first item has the number `first`.
+fn is_due_under(items: &VecDeque<Item>, first: u32, key: u128) -> bool
+    ensures { (moment k : ℕ) → first + k < 2 ^ 32 → key ≡ pair_key moment (first + k) → result ≡ expires_as moment k items.now.items }
+{
+    let number = (key % (1 << 32)) as u32;
+    let Some(place) = number.checked_sub(first) else {
+        return false;
+    };
+    match items.get(place as usize) {
+        Some(item) => item.expiry() == key / (1 << 32),
+        None => false,
+    }
+}
+
 impl Expiries {
     ghost use Rattle.std.specs.Prelude.{◌∷◌, [], List};
     ghost use Rattle.std.specs.List.{All};
-    ghost use Rattle.sctp_tx_outstanding.specs.Item.{Item, NotBefore, expiry};
+    ghost use Rattle.sctp_tx_outstanding.specs.Item.{Item, NotBefore};
     ghost use Rattle.sctp_tx_outstanding.specs.Expiries.{Expects, FindsDue, Moves};
 
     /// No items. Takes no memory.
@@ -133,8 +149,8 @@ impl Expiries {
     }
 
     /// The item at the place expired at one moment, and does at another.
-    fn change(&mut self, place: usize, was: u128, will: u128)
-        ensures { (is js : List Item) → Moves place was will is js → Expects self.old is → Expects self.new js }
+    fn list(&mut self, place: usize, will: u128)
+        ensures { (was : ℕ) (is js : List Item) → Moves place was will is js → Expects self.old is → Expects self.new js }
     {
         if !self.is_known {
             return;
@@ -143,22 +159,21 @@ impl Expiries {
             self.forget();
             return;
         };
-        self.is_known = set(&mut self.keys, was, number, false)
-            && set(&mut self.keys, will, number, true);
+        self.is_known = set(&mut self.keys, will, number, true);
     }
 
     /// The item at the place expired at one moment, and does at another or at the same one.
     pub fn renew(&mut self, place: usize, was: u128, will: u128)
         ensures { (is js : List Item) → Moves place was will is js → Expects self.old is → Expects self.new js }
     {
-        if was != will {
-            self.change(place, was, will);
+        if was != will && will != u128::MAX {
+            self.list(place, will);
         }
     }
 
-    /// The first item leaves, which expires at this moment.
-    pub fn leave(&mut self, moment: u128)
-        ensures { (i : Item) (is : List Item) → expiry i ≡ moment → Expects self.old (i ∷ is) → Expects self.new is }
+    /// The first item leaves, whose lifetime ends at this moment.
+    pub fn leave(&mut self, deadline: u128)
+        ensures { (i : Item) (is : List Item) → Expects self.old (i ∷ is) → Expects self.new is }
     {
         if !self.is_known {
             return;
@@ -167,12 +182,39 @@ impl Expiries {
             self.forget();
             return;
         }
-        if moment == u128::MAX {
+        if deadline == u128::MAX || self.keys.is_empty() {
             self.first += 1;
             return;
         }
-        self.is_known = set(&mut self.keys, moment, self.first, false);
+        self.is_known = set(&mut self.keys, deadline, self.first, false);
         self.first += 1;
+    }
+
+    /// Drops the first key where no item expires under it. Says whether it did.
+    fn drop_first(&mut self, items: &VecDeque<Item>) -> bool
+        requires { Expects self.old items.now.items }
+        ensures { Expects self.new items.now.items }
+    {
+        let Some(key) = self.keys.first() else {
+            return false;
+        };
+        if is_due_under(items, self.first, *key) {
+            return false;
+        }
+        self.keys.pop_first();
+        true
+    }
+
+    /// Drops the first keys, up to one under which an item expires.
+    pub fn drop_stale(&mut self, items: &VecDeque<Item>)
+        requires { Expects self.old items.now.items }
+        ensures { Expects self.new items.now.items }
+    {
+        for _ in 0..self.keys.len() {
+            if !self.drop_first(items) {
+                return;
+            }
+        }
     }
 
     /// Before this moment no item expires, if that is known.

@@ -110,7 +110,7 @@ impl Indexes {
         self.last_blocks.pass();
         self.runs.pass();
         self.messages.leave(item.message_id());
-        self.expiries.leave(part.earliest);
+        self.expiries.leave(item.deadline());
         self.passed.leave();
     }
 

@@ -96,7 +96,7 @@ impl Model for Item {
 
 impl Item {
     ghost use Rattle.std.specs.Prelude.{Option, true};
-    ghost use Rattle.sctp_tx_outstanding.specs.Item.{is_outstanding, is_open, should_be_retransmitted, is_fast, is_nacked, is_acked, is_abandoned, has_been_retransmitted, has_expired, expiry, is_used_up, ack, uncover, is_lost, nack, mark_as_retransmitted, miss_fast, abandon, rtt_from};
+    ghost use Rattle.sctp_tx_outstanding.specs.Item.{is_outstanding, is_open, should_be_retransmitted, is_fast, is_nacked, is_acked, is_abandoned, has_been_retransmitted, has_expired, expiry, or_never, is_used_up, ack, uncover, is_lost, nack, mark_as_retransmitted, miss_fast, abandon, rtt_from};
 
     /// A fragment that is sent now for the first time.
     pub fn new(
@@ -228,6 +228,13 @@ impl Item {
         if !self.is_nacked() {
             return u128::MAX;
         }
+        self.deadline()
+    }
+
+    /// From which nanosecond on its message isn't worth sending; `u128::MAX` is never.
+    pub fn deadline(&self) -> u128
+        ensures { result ≡ or_never self.now.expires }
+    {
         match self.expires_at {
             Some(moment) => moment.as_nanos(),
             None => u128::MAX,

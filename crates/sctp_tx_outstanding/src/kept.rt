@@ -461,6 +461,7 @@ impl Kept {
         ensures { self.new ≡ self.old }
     {
         expect_all(&self.items, &mut self.indexes.expiries);
+        self.indexes.expiries.drop_stale(&self.items);
         self.indexes.totals.earliest = first_expiry(&self.items, &self.indexes.expiries);
     }
 

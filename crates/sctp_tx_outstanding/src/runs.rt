@@ -144,7 +144,7 @@ impl Run {
         }
     }
 
-    /// The bits of items that may be so.
+    /// The bits of items that may be so, or of which it is known that they were given up.
     #[inline(always)]
     fn bits(self, of: Bits) -> u64
         ensures { result ≡ bits_of of self }
@@ -216,7 +216,7 @@ impl Runs {
         }
     }
 
-    /// The bits of the run's items that may be so.
+    /// The bits of the run's items that may be so, or of which it is known that they were given up.
     #[inline(always)]
     fn bits(&self, of: Bits, run: usize) -> u64
         ensures { result ≡ bits_of of (known_of self.now.known.items run) }

@@ -132,9 +132,17 @@ fn place_of<K: Key>(list: &IntervalList<K>, key: K) -> usize {
     list.len().saturating_sub(1)
 }
 
+/// Whether a message that begins there has the number.
+fn is_message<K: Key>(first: Option<K>, number: u64) -> bool {
+    match first {
+        Some(first) => first.number() == number,
+        None => false,
+    }
+}
+
 fn is_in_turn<K: Key>(list: &IntervalList<K>, place: usize, number: u64) -> &'static str {
     match list.key_at(place) {
-        Some(key) => yes_or_no(list.is_in_turn_at(key, number as u128)),
+        Some(key) => yes_or_no(is_message(list.finished_at(key), number)),
         None => "refused",
     }
 }

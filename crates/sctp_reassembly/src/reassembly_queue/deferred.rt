@@ -28,7 +28,7 @@ pub(crate) struct Deferred {
 const MOST_ENTRIES: usize = 65_536;
 
 /// No more fragments wait.
-const MOST_FRAGMENTS: usize = 4_096;
+const MOST_FRAGMENTS: usize = 1_024;
 
 impl Model for Deferred {
     ghost use Rattle.std.specs.Prelude.{map};

@@ -91,7 +91,7 @@ pub struct Options {
     pub avoid_fragmentation_cwnd_mtus: usize,
     /// With a smaller congestion window the peer is asked not to delay its acknowledgement (RFC 7053). At most 65,535.
     pub immediate_sack_under_cwnd_mtus: usize,
-    /// How many packets are sent at once at most. 0 and less are valid, and then no COOKIE ECHO, SACK or message ever goes out.
+    /// How many packets are sent at once at most. 0 and less are valid, and then no COOKIE ECHO, COOKIE ACK, SACK or message ever goes out.
     pub max_burst: i32,
     /// How many errors in a row an association outlives, and how often a SHUTDOWN is sent again.
     pub max_retransmissions: Option<u32>,

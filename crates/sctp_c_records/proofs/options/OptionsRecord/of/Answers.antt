@@ -7,7 +7,7 @@ pub returns-clause-options : goal.returns-clause-options
 returns-clause-options c =
     let o = options_of c.args.options.now in
     let flags = has_flags o.enable_partial_reliability o.enable_message_interleaving o.disable_checksum_verification o.enable_handover_with_outstanding_data o.heartbeat_interval_include_rtt o.avoid_stalls in
-    rw (
+    simp (
       c.size_number.ensures,
       c.size_number-2.ensures,
       c.size_number-3.ensures,

@@ -17,6 +17,6 @@ returns c =
       last_blocks = c.pass.ensures (i ∷ is) c.requires.last_blocks;
       runs = c.pass-2.ensures i is c.requires.runs;
       messages = c.leave.ensures i is (sym c.message_id.ensures) c.requires.messages;
-      expiries = c.leave-2.ensures i is (sym (ap (λ (t : Totals). t.earliest) c.of-part.ensures.parts)) c.requires.expiries;
+      expiries = c.leave-2.ensures i is c.requires.expiries;
       passed = c.leave-3.ensures m i is c.requires.passed;
     }

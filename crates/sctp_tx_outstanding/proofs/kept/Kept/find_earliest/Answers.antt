@@ -17,6 +17,6 @@ invariant_of-self c =
       last_blocks = before.last_blocks;
       runs = before.runs;
       messages = before.messages;
-      expiries = c.expect_all.ensures;
+      expiries = c.drop_stale.ensures;
       passed = before.passed;
     }

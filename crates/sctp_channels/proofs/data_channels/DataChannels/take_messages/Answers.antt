@@ -1,0 +1,15 @@
+use Rattle.std.proofs.Common.{refl}
+use Rattle.sctp_channels.proofs.FollowsLemmas.{follows_same, follows_then, told_same, told_then}
+use Rattle.sctp_channels.proofs.data_channels.DataChannels.take_messages.Goals as goal
+
+pub loop-init : goal.loop-init
+loop-init g c = record { steps = follows_same c.args.self.now c.args.self.now refl; told = told_same c.args.self.now c.args.self.now refl }
+
+pub returns-in_err-take_message-in-Some-clause-told : goal.returns-in_err-take_message-in-Some-clause-told
+returns-in_err-take_message-in-Some-clause-told g c = told_then c.args.self.now c.loop.self c.take_message.new.self c.loop.invariant.told c.take_message.ensures.told
+
+pub loop-preserved : goal.loop-preserved
+loop-preserved g c = record {
+  steps = follows_then c.args.self.now c.loop.self c.take_message.new.self c.loop.invariant.steps c.in_ok-take_message-in-Some.ensures.steps;
+  told = told_then c.args.self.now c.loop.self c.take_message.new.self c.loop.invariant.told c.take_message.ensures.told;
+}
