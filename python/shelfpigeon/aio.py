@@ -14,7 +14,7 @@ import asyncio
 import logging
 import socket
 import time
-from collections import deque
+from collections import OrderedDict, deque
 from collections.abc import AsyncIterator, Callable, Iterator
 from contextlib import contextmanager, suppress
 from typing import Optional, Protocol, Union
@@ -30,6 +30,8 @@ logger = logging.getLogger(__name__)
 Address = tuple[str, int]
 LARGEST = 262144
 MOST_TO_ACCEPT = 1024
+# No more channels are asked in one turn how much they buffer.
+COUNTED_A_TURN = 64
 
 
 def options_for(max_message_size: int, /, **fields: int) -> Options:
@@ -227,7 +229,7 @@ class Channel:
         self._alive()
         while self._channel.buffered_amount >= self._connection.high_water:
             self._room.clear()
-            self._connection._held_back.add(self)
+            self._connection._held_back[self] = None
             await self._room.wait()
             self._alive()
         try:
@@ -325,8 +327,8 @@ class Connection:
         self._wire, self._paused, self._unread = wire, False, 0
         self._driver = Driver(channels, wire.send, self._handle, self._end, self._turned)
         self._channels: dict[PlainChannel, Channel] = {}
-        self._held_back: set[Channel] = set()
-        self._accepted: deque[Channel] = deque()
+        self._held_back: OrderedDict[Channel, None] = OrderedDict()  # those that are looked at next first
+        self._accepted: OrderedDict[Channel, None] = OrderedDict()
         self._news = asyncio.Event()
         self._connected, self._closed = asyncio.Event(), asyncio.Event()
 
@@ -371,7 +373,7 @@ class Connection:
             self._alive()
             self._news.clear()
             await self._news.wait()
-        channel = self._accepted.popleft()
+        channel, _ = self._accepted.popitem(last=False)
         self._read(channel._texts())
         return channel
 
@@ -456,14 +458,14 @@ class Connection:
                 channel.close()
             return
         mine = self._channel_of(channel)
-        self._accepted.append(mine)
+        self._accepted[mine] = None
         self._keep(mine._texts())
         self._news.set()
 
     def _withdraw(self, channel: Channel) -> None:
         """Has a channel that is closed, and by which nothing came, wait no more to be accepted."""
         if not channel._came and channel in self._accepted:
-            self._accepted.remove(channel)
+            del self._accepted[channel]
             self._read(channel._texts())
 
     def _keep(self, size: int) -> None:
@@ -473,11 +475,13 @@ class Connection:
             self._wire.pause_reading()
 
     def _turned(self) -> None:
-        """Where messages were given up no event says that there is room again."""
-        for channel in list(self._held_back):
+        """Where messages were given up no event says that there is room again. So many are asked a turn, in turn."""
+        for _ in range(min(len(self._held_back), COUNTED_A_TURN)):
+            channel, _ = self._held_back.popitem(last=False)
             if channel.buffered_amount <= self.high_water // 2:
-                self._held_back.discard(channel)
                 channel._room.set()
+            else:
+                self._held_back[channel] = None
 
     def _read(self, size: int) -> None:
         self._unread -= size

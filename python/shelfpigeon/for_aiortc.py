@@ -20,12 +20,11 @@ from aiortc.rtcdatachannel import RTCDataChannel, RTCDataChannelParameters  # ty
 from aiortc.rtcsctptransport import RTCSctpCapabilities, RTCSctpTransport  # type: ignore[import]
 
 from . import events
-from .aio import Driver, options_for, sent_at_most, tell
+from .aio import COUNTED_A_TURN, Driver, options_for, sent_at_most, tell
 from .channels import Channel, Channels, channel_options
 from .names import MessageTooLarge, NoChannel, PigeonError, QueueFull, Role, SocketFailed
 
 logger = logging.getLogger(__name__)
-COUNTED_A_TURN = 64
 
 
 @dataclass
