@@ -17,7 +17,7 @@ import time
 from collections import OrderedDict, deque
 from collections.abc import AsyncIterator, Callable, Iterator
 from contextlib import contextmanager, suppress
-from typing import Optional, Protocol, Union
+from typing import Optional, Protocol, TypeVar, Union
 
 from . import events
 from .channels import Channel as PlainChannel
@@ -28,6 +28,7 @@ from .sockets import Options
 
 logger = logging.getLogger(__name__)
 Address = tuple[str, int]
+T = TypeVar("T")
 LARGEST = 262144
 MOST_TO_ACCEPT = 1024
 # No more channels are asked in one turn how much they buffer.
@@ -58,6 +59,12 @@ def tell(loop: asyncio.AbstractEventLoop, what: str, owner: Callable[..., None],
         owner(*told)
     except Exception as fault:
         loop.call_exception_handler({"message": f"the owner failed at {what}", "exception": fault})
+
+
+def next_in_turn(waiting: OrderedDict[T, None]) -> Iterator[T]:
+    """Takes those out that are looked at in this turn, the first ones, which may be put back behind the others: where many wait a turn costs no more."""
+    for _ in range(min(len(waiting), COUNTED_A_TURN)):
+        yield waiting.popitem(last=False)[0]
 
 
 class Driver:
@@ -475,9 +482,8 @@ class Connection:
             self._wire.pause_reading()
 
     def _turned(self) -> None:
-        """Where messages were given up no event says that there is room again. So many are asked a turn, in turn."""
-        for _ in range(min(len(self._held_back), COUNTED_A_TURN)):
-            channel, _ = self._held_back.popitem(last=False)
+        """Where messages were given up no event says that there is room again."""
+        for channel in next_in_turn(self._held_back):
             if channel.buffered_amount <= self.high_water // 2:
                 channel._room.set()
             else:

@@ -20,7 +20,7 @@ from aiortc.rtcdatachannel import RTCDataChannel, RTCDataChannelParameters  # ty
 from aiortc.rtcsctptransport import RTCSctpCapabilities, RTCSctpTransport  # type: ignore[import]
 
 from . import events
-from .aio import COUNTED_A_TURN, Driver, options_for, sent_at_most, tell
+from .aio import Driver, next_in_turn, options_for, sent_at_most, tell
 from .channels import Channel, Channels, channel_options
 from .names import MessageTooLarge, NoChannel, PigeonError, QueueFull, Role, SocketFailed
 
@@ -226,9 +226,8 @@ class SctpTransport(RTCSctpTransport):
         mine._setId(channel.id)
 
     def _count(self) -> None:
-        """Recounts what channels buffer, in turn: where many do a turn costs no more for it. Which is low is told of each."""
-        for _ in range(min(len(self._buffering), COUNTED_A_TURN)):
-            mine, _ = self._buffering.popitem(last=False)
+        """Recounts what channels buffer, in turn. Which is low is told of each."""
+        for mine in next_in_turn(self._buffering):
             self._tell("bufferedamountlow", self._recount, mine)
 
     def _recount(self, mine: RTCDataChannel) -> None:
