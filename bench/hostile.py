@@ -7,6 +7,7 @@ RT = os.environ.get("RT", "rt")
 PROGRAM = f"{TOP}/crates/run_socket_script/out/run_socket_script"
 HEADER = 12
 SMALL, LARGE = 1500, 65532
+SACKS = 4  # a packet of more is refused
 # With COUNTS it counts what is on the heap, which takes time of its own. Of the function at WATCHED it tells, as each call begins and
 # ends, the processor time and the bytes there: an int3 stands at its first byte, and during a call at the one to which it returns.
 WATCH = r"""
@@ -152,16 +153,22 @@ def packet(tag, *chunks):
     return head + be32(sum(head) + sum(body)) + body
 
 
+def cut(chunks, size):
+    """As many of the chunks as a packet of this size has room for, without the SACKs that are too many."""
+    kept, room, sacks = [], size - HEADER, 0
+    for one in chunks:
+        if len(one) > room:
+            return kept
+        sacks += one[0] == 3
+        if one[0] != 3 or sacks <= SACKS:
+            kept.append(one)
+            room -= len(one)
+    return kept
+
+
 def fill(size, one):
-    """As many of one(0), one(1), .. as a packet of this size has room for."""
-    chunks, room, number = [], size - HEADER, 0
-    while True:
-        next_ = one(number)
-        room -= len(next_)
-        if room < 0:
-            return chunks
-        chunks.append(next_)
-        number += 1
+    """As many of one(0), one(1), .. as there may be in a packet of this size."""
+    return cut((one(number) for number in range(size)), size)
 
 
 # With these lines b is connected when the packet comes. Tags and first TSNs are those of the script's words.

@@ -239,8 +239,8 @@ uint32_t pigeon_shutdown(pigeon_socket *socket);
  * where the peer aborts: what it holds goes to the peer of the next association, a partly sent message from its start, but from its middle at an
  * end that answers the peer's COOKIE ECHO. With it each message is given up, as PIGEON_CAUSE_ENDED. */
 uint32_t pigeon_close(pigeon_socket *socket);
-/* Takes the bytes of a packet that came. What is no packet, or not one for this association, is emitted as an error. Advance the time first:
- * a round trip ends at the moment of the clock. */
+/* Takes the bytes of a packet that came. What is no packet, not one for this association, or one of more than 4 SACKs, is emitted as an error.
+ * Advance the time first: a round trip ends at the moment of the clock. */
 uint32_t pigeon_handle_input(pigeon_socket *socket, const uint8_t *bytes, size_t length);
 /* Advances the time, in nanoseconds since the socket was made, and expires timers. It comes before the other calls of a turn: with a clock that
  * is late they measure wrong round trips, and what was sent goes out again at once. An earlier moment than the last one changes nothing. */
@@ -256,7 +256,8 @@ uint32_t pigeon_clock(const pigeon_socket *socket, uint64_t *nanos);
 /* 1 where nothing is queued and nothing that was sent is kept (all is acknowledged, or its association is over): then pigeon_shutdown loses
  * nothing. Else 0. */
 uint32_t pigeon_is_at_rest(const pigeon_socket *socket, uint32_t *rest);
-/* Whether pigeon_handle_input would refuse these bytes, 1 or 0: they are no packet, or not one for this association. It takes no memory.
+/* Whether pigeon_handle_input would refuse these bytes, 1 or 0: they are no packet, not one for this association, or one of more than 4
+ * SACKs. It takes no memory.
  * PIGEON_FAILED: the socket has failed, and takes none. */
 uint32_t pigeon_refuses(const pigeon_socket *socket, const uint8_t *bytes, size_t length, uint32_t *refused);
 /* Sets the most bytes of a message that is sent. At 0 each is refused, where an a=max-message-size of 0 (RFC 8841) means any. With

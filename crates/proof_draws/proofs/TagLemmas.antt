@@ -1,10 +1,10 @@
 -- Tags are told apart as before: which packets are taken, and what becomes of a cookie that comes back.
-use Rattle.std.proofs.Common.{◌≡◌, ℕ, ◌==◌, ◌||◌, not, Bool, true, false, Option, Some, None, is_some, List, [], ◌∷◌, refl, sym, ap, ◌∙◌}
+use Rattle.std.proofs.Common.{◌≡◌, ℕ, zero, suc, ◌==◌, ◌||◌, not, Bool, true, false, Option, Some, None, is_some, List, [], ◌∷◌, refl, sym, ap, ◌∙◌}
 use Rattle.sctp_packet.specs.Chunk.{ChunkTree, data_chunk, init_chunk, init_ack_chunk, sack_chunk, heartbeat_request_chunk, heartbeat_ack_chunk, abort_chunk, shutdown_chunk, shutdown_ack_chunk, error_chunk, cookie_echo_chunk, cookie_ack_chunk, shutdown_complete_chunk, idata_chunk, re_config_chunk, forward_tsn_chunk, i_forward_tsn_chunk, unknown_chunk}
 use Rattle.sctp_capabilities.specs.StateCookie.{Cookie}
 use Rattle.spec_endpoint.specs.Association.{Identity, Tcb, Phase, CookieEchoed, Established, ShutdownPending, ShutdownSent, ShutdownReceived, ShutdownAckSent, State, Closed, CookieWait, Open}
 use Rattle.spec_endpoint.specs.Sending.{is_before_cookie_ack}
-use Rattle.spec_endpoint.specs.Input.{my_tag, has_tag_in, abort_flag, complete_flag, has_shutdown_ack, has_data_chunk, begins_with_cookie, is_single_init, is_early, unless, plain_refusal, packet_refusal_by, packet_refusal}
+use Rattle.spec_endpoint.specs.Input.{my_tag, has_tag_in, abort_flag, complete_flag, has_shutdown_ack, has_data_chunk, begins_with_cookie, is_single_init, is_early, unless, plain_refusal, has_more_sacks, unless_many, packet_refusal_by, packet_refusal}
 use Rattle.spec_endpoint.specs.Opening.{by_tags, new_if, resolve_by_tags, resolve_cookie}
 use Rattle.proof_draws.specs.NamedChunks.{Names, AreNames, named_chunks}
 use Rattle.proof_draws.specs.Names.{named_identity, named_phase, named_state, named_cookie}
@@ -75,6 +75,12 @@ module _ (n : Names) where
   shut_named (forward_tsn_chunk tsn skipped ∷ cs) = shut_named cs
   shut_named (i_forward_tsn_chunk tsn skipped ∷ cs) = shut_named cs
   shut_named (unknown_chunk typ flags value ∷ cs) = shut_named cs
+
+  pub sacks_named : (k : ℕ) (cs : List ChunkTree) → has_more_sacks k (named_chunks n cs) ≡ has_more_sacks k cs
+  sacks_named k [] = refl
+  sacks_named zero (sack_chunk s ∷ cs) = refl
+  sacks_named (suc k) (sack_chunk s ∷ cs) = sacks_named k cs
+  sacks_named k (c ∷ cs) = sacks_named k cs
 
   pub data_named : (cs : List ChunkTree) → has_data_chunk (named_chunks n cs) ≡ has_data_chunk cs
   data_named [] = refl
@@ -178,6 +184,10 @@ refused_plainly cookie none single own cookie' none' single' own' tag mine tag' 
     ∙ (ap (λ (x : Bool). is_some (plain_refusal cookie none x own' tag' mine')) c
     ∙ (ap (λ (x : Bool). is_some (plain_refusal cookie none single x tag' mine')) d ∙ same_plainly cookie none single own tag mine tag' mine')))
 
+many_alike : (is_many : Bool) (a b : Option (List ℕ)) → is_some a ≡ is_some b → is_some (unless_many is_many a) ≡ is_some (unless_many is_many b)
+many_alike true a b e = refl
+many_alike false a b e = e
+
 no_tie : (other same none same' none' : Bool) → by_tags false other same none ≡ by_tags false other same' none'
 no_tie true same none same' none' = refl
 no_tie false same none same' none' = refl
@@ -219,10 +229,13 @@ module _ (n : Names) (are : AreNames n) where
   refused_named m tag cs s =
       let ds : List ChunkTree = named_chunks m cs in
       let r : State = named_state n s in
-      ap (λ (o : Option Bool). is_some (packet_refusal_by o (complete_flag ds) (has_shutdown_ack ds) (n.tag tag) ds r)) (abort_named m cs)
+      let plain : Option (List ℕ) = packet_refusal_by (abort_flag cs) (complete_flag cs) (has_shutdown_ack cs) tag cs s in
+      many_alike (has_more_sacks 4 ds) (packet_refusal_by (abort_flag ds) (complete_flag ds) (has_shutdown_ack ds) (n.tag tag) ds r) plain
+      (ap (λ (o : Option Bool). is_some (packet_refusal_by o (complete_flag ds) (has_shutdown_ack ds) (n.tag tag) ds r)) (abort_named m cs)
       ∙ (ap (λ (o : Option Bool). is_some (packet_refusal_by (abort_flag cs) o (has_shutdown_ack ds) (n.tag tag) ds r)) (complete_named m cs)
       ∙ (ap (λ (b : Bool). is_some (packet_refusal_by (abort_flag cs) (complete_flag cs) b (n.tag tag) ds r)) (shut_named m cs)
-      ∙ refused_by_named m (abort_flag cs) (complete_flag cs) (has_shutdown_ack cs) tag cs s))
+      ∙ refused_by_named m (abort_flag cs) (complete_flag cs) (has_shutdown_ack cs) tag cs s)))
+      ∙ ap (λ (b : Bool). is_some (unless_many b plain)) (sacks_named m 4 cs)
 
   -- ---- a cookie that came back
 

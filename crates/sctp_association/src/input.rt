@@ -27,7 +27,7 @@ use sctp_endpoint::{Context, Phase, State, TransmissionControlBlock};
 use sctp_handshake::cookie_echo::{handle_cookie_ack, handle_cookie_echo};
 use sctp_handshake::judging::{packet_word, policy};
 use sctp_handshake::opening::{handle_init, handle_init_ack};
-use sctp_handshake::validation::{Outline, has_data, validate_packet};
+use sctp_handshake::validation::{has_data, refusal_of};
 use sctp_packet::{
     Chunk, DataView, HeartbeatAckChunk, IDataChunk, PacketView, RawChunk, SackChunk,
 };
@@ -458,8 +458,7 @@ pub(crate) fn handle_packet<R: Rng, C: Checksum>(
 {
     count_packet(context);
     let tag = view.header().verification_tag;
-    let outline = Outline::of(&view);
-    match validate_packet(state, tag, &outline) {
+    match refusal_of(state, &view) {
         None => handle_accepted_packet(state, context, rng, tag, view),
         Some(refusal) => {
             let text = refusal.text(context.alloc)?;

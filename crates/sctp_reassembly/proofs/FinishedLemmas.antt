@@ -16,7 +16,7 @@ use Rattle.sctp_fragments.specs.ReassemblyKey.{pair_rank, rank_at}
 use Rattle.sctp_fragments.specs.Interval.{held_of, run_of, lists_of}
 use Rattle.sctp_fragments.specs.Runs.{is_held}
 use Rattle.sctp_fragments.specs.Held.{Held, rank_of, intervals_of, is_complete, is_in_turn, NonePass, NoneInTurn, without_first_of, IsPlaced}
-use Rattle.sctp_reassembly.specs.Finished.{BeginsAt, IsNumbered, is_missed, is_earlier, NoneMissed, NoneEarlier}
+use Rattle.sctp_reassembly.specs.Finished.{IsNumbered, is_missed, is_earlier, NoneMissed, NoneEarlier}
 use Rattle.sctp_reassembly.proofs.DeliverLemmas.{NonePass_with}
 use Rattle.sctp_reassembly.proofs.NoteLemmas.{not_above}
 

@@ -1,13 +1,8 @@
 -- The run that has a rank.
-use Rattle.std.proofs.Common.{◌≡◌, ℕ, ◌<◌, ◌≤◌, ◌==◌, Bool, true, false, not, Option, Some, None, List, [], ◌∷◌, ◌++◌, refl, ap, sym, subst, ◌∙◌, arith, append-nil}
-use Rattle.std.specs.Prelude.{nat_lt, ◌&&◌, ◌||◌, option_map, IfSome, IfNone}
-use Rattle.std.specs.Borrow.{Bor}
+use Rattle.std.proofs.Common.{◌≡◌, ℕ, ◌<◌, ◌≤◌, ◌==◌, Bool, true, false, not, Option, Some, None, List, [], ◌∷◌, ◌++◌, refl, ap, sym, subst, ◌∙◌, arith, append-nil, append_assoc}
+use Rattle.std.specs.Prelude.{nat_lt, ◌&&◌, ◌||◌, IfSome, IfNone}
 use Rattle.std.specs.Option.{option_to_list}
 use Rattle.sctp_reassembly.proofs.PutLemmas.{runs_alone}
-use Rattle.std.proofs.Common.{Ordering}
-use Rattle.std.specs.Map.{lookup}
-use Rattle.std.specs.Ordering.{nat_cmp}
-use Rattle.std.specs.BTreeMap.{is_at}
 use Rattle.std.proofs.lemmas.Bool.Decides.{nat_tests}
 use Rattle.sctp_fragments.specs.declared.interval.Interval.{Interval}
 use Rattle.sctp_fragments.specs.ReassemblyKey.{rank_at}
@@ -16,9 +11,9 @@ use Rattle.sctp_fragments.specs.Held.{Held, rank_of, goes_on}
 use Rattle.sctp_fragments.specs.Interval.{held_of, run_of, lists_of, entries_of, starts_upto}
 use Rattle.sctp_fragments.proofs.PlaceLemmas.{cons, some_run}
 use Rattle.sctp_fragments.proofs.RunLemmas.{AreRuns_back, is_held_within, is_held_between, not_held_before, linked_rises}
-use Rattle.sctp_reassembly.specs.Places.{AreNamed, AreLow, AreHigh, IsSplit, IsWithin, IsAmong, IsLed, IsOut, Holds, all_of, runs_at, ends_from, is_from, first_key_of, last_key}
+use Rattle.sctp_reassembly.specs.Places.{AreNamed, AreLow, AreHigh, IsSplit, IsWithin, IsAmong, IsLed, IsOut, Holds, all_of, runs_at, ends_from, is_from}
 use Rattle.sctp_reassembly.proofs.HeldLemmas.{next_rank}
-use Rattle.sctp_reassembly.proofs.MapLemmas.{read_there, not_absent, runs_append, end_is, last_of_split, first_of_split}
+use Rattle.sctp_reassembly.proofs.MapLemmas.{runs_append, end_is, lows}
 use Rattle.sctp_reassembly.proofs.JoinedLemmas.{named_mid, low_mid, not_less, upto}
 
 pub some_then : {T : Type 0} {P Q : T → Type 0} (r : Option T) → ((x : T) → P x → Q x) → IfSome r P → IfSome r Q
@@ -175,23 +170,31 @@ module _ {K : Type 0} (is_key : K → Type 0) (number index : K → ℕ) where
         let linked = linked_mid front back k i c.head c.tail (subst (λ (t : List (K × Interval K)). AreRuns rank_of goes_on None (runs t)) is all) c.is in
         record { front = front; interval = i; back = back; is = is; low = low; held = subst (λ (t : List Held). is_held rank_of n t ≡ true) (sym c.is) (linked_held n c.head c.tail linked w.0 w.1) }
 
-    pub holds_below : (k : K) → ends_from n (runs ps) ≡ true → Some k ≡ last_key ps → Holds is_key number index n k es
-    holds_below k ends last =
-        let l = last_of_split is_key number index es ps qs n k s named all last in
-        let low = low_mid is_key number index n l.front k l.interval (subst (AreLow is_key (rank_at number index) n) l.ends s.low) in
-        let w = named_mid is_key number index l.front qs k l.interval (subst (AreNamed is_key number index) l.is named) in
-        holds l.front qs k l.interval l.is l.low
-        (λ h hs run. let v = subst (IsWithin (rank_at number index k)) run w in
-        (omega (arith, v.0, low), not_less is_key number index (rank_of (last_of h hs)) n (sym (ap (is_from n) (end_is is_key number index ps l.front k l.interval h hs l.ends run)) ∙ ends)))
+    pub holds_below : (front : List (K × Interval K)) (k : K) (i : Interval K) → ps ≡ front ++ (k, i) ∷ [] → ends_from n (runs ps) ≡ true → (h : Holds is_key number index n k es) × (i ≡ h.interval)
+    unfolding holds
+    holds_below front k i at_end ends =
+        let is : es ≡ front ++ (k, i) ∷ qs = s.is ∙ (ap (λ (z : List (K × Interval K)). z ++ qs) at_end ∙ append_assoc front ((k, i) ∷ []) qs) in
+        let apart = lows is_key number index None front qs (k, i) (subst (AreNamed is_key number index) is named) (subst (λ (z : List (K × Interval K)). AreRuns rank_of goes_on None (runs z)) is all) in
+        let low = low_mid is_key number index n front k i (subst (AreLow is_key (rank_at number index) n) at_end s.low) in
+        let w = named_mid is_key number index front qs k i (subst (AreNamed is_key number index) is named) in (
+          holds front qs k i is apart
+              (λ h hs run. let v = subst (IsWithin (rank_at number index k)) run w in
+              (omega (arith, v.0, low), not_less is_key number index (rank_of (last_of h hs)) n (sym (ap (is_from n) (end_is is_key number index ps front k i h hs at_end run)) ∙ ends))),
+          refl,
+        )
 
-    pub holds_from : (k : K) → starts_upto n (runs qs) ≡ true → Some k ≡ first_key_of qs → Holds is_key number index n k es
-    holds_from k starts first =
-        let l = first_of_split is_key number index es ps qs n k s named all first in
-        let high = subst (AreHigh is_key (rank_at number index) n) l.begins s.high in
-        let w = named_mid is_key number index ps l.back k l.interval (subst (AreNamed is_key number index) l.is named) in
-        holds ps l.back k l.interval l.is l.low
-        (λ h hs run. let v = subst (IsWithin (rank_at number index k)) run w in
-        (upto is_key number index n (rank_of h) (sym (ap (starts_upto n) (ap runs l.begins ∙ ap (λ (t : List Held). t ∷ runs l.back) run)) ∙ starts), omega (arith, v.1, high.1.0)))
+    pub holds_from : (back : List (K × Interval K)) (k : K) (i : Interval K) → qs ≡ (k, i) ∷ back → starts_upto n (runs qs) ≡ true → (h : Holds is_key number index n k es) × (i ≡ h.interval)
+    unfolding holds
+    holds_from back k i begins starts =
+        let is : es ≡ ps ++ (k, i) ∷ back = s.is ∙ ap (λ (z : List (K × Interval K)). ps ++ z) begins in
+        let apart = lows is_key number index None ps back (k, i) (subst (AreNamed is_key number index) is named) (subst (λ (z : List (K × Interval K)). AreRuns rank_of goes_on None (runs z)) is all) in
+        let high = subst (AreHigh is_key (rank_at number index) n) begins s.high in
+        let w = named_mid is_key number index ps back k i (subst (AreNamed is_key number index) is named) in (
+          holds ps back k i is apart
+              (λ h hs run. let v = subst (IsWithin (rank_at number index k)) run w in
+              (upto is_key number index n (rank_of h) (sym (ap (starts_upto n) (ap runs begins ∙ ap (λ (t : List Held). t ∷ runs back) run)) ∙ starts), omega (arith, v.1, high.1.0))),
+          refl,
+        )
 
     pub none_holds_it : IsBelow rank_of n (end_of None (runs ps)) → LeadsTo rank_of n (runs qs) → is_held rank_of n (flat (runs es)) ≡ false
     none_holds_it below leads =
@@ -229,11 +232,6 @@ module _ {K : Type 0} (is_key : K → Type 0) (number index : K → ℕ) where
     is = ap (λ (o : Option (Interval K)). lists_of (held_of number index) (all_of o later)) is ∙ ap (lists_of (held_of number index)) others;
     left = refl;
   }
-
-  -- what the map has under the key
-  pub among_got : (cmp : K → K → Ordering) (by_rank : (x y : K) → is_key x → is_key y → cmp x y ≡ nat_cmp (rank_at number index x) (rank_at number index y)) (n : ℕ) (first : List Held) (es : List (K × Interval K)) (k : K) (p : is_key k) (j : Holds is_key number index n k es) (i : Interval K)
-      → Some i ≡ lookup (is_at (cmp k)) es → IsAmong n (run_of (held_of number index) i) (first ∷ runs es)
-  among_got cmp by_rank n first es k p j i found = among_later n first es k i j (read_there cmp is_key number index by_rank k p es j.front j.back j.interval j.is j.low i found)
 
   -- with the first one
   pub later_runs : (first : Option (Interval K)) (later : List (K × Interval K)) → IsLed first later → AreRuns rank_of goes_on None (lists_of (held_of number index) (all_of first later)) → AreRuns rank_of goes_on None (runs later)
@@ -277,15 +275,6 @@ module _ {K : Type 0} (is_key : K → Type 0) (number index : K → ℕ) where
         is = lists_are ∙ among_is n (run_of (held_of number index) i) later k d j same;
         left = ap (λ (t : List (List Held)). run_of (held_of number index) i ∷ t) (ap runs left ∙ runs_append is_key number index j.front j.back);
       }
-
-      pub got : (cmp : K → K → Ordering) (by_rank : (x y : K) → is_key x → is_key y → cmp x y ≡ nat_cmp (rank_at number index x) (rank_at number index y)) (p : is_key k) (r : Option (Bor (Interval K))) → option_map (λ b. b.now) r ≡ lookup (is_at (cmp k)) later
-          → IfSome r (λ b. IsAmong n (run_of (held_of number index) b.now) (lists_of (held_of number index) (all_of first later)))
-      got cmp by_rank p None found = tt
-      got cmp by_rank p (Some b) found = subst (IsAmong n (run_of (held_of number index) b.now)) (sym lists_are) (among_got cmp by_rank n (run_of (held_of number index) i) later k p j b.now found)
-
-      pub got_one : (P : Type 0) (cmp : K → K → Ordering) (by_rank : (x y : K) → is_key x → is_key y → cmp x y ≡ nat_cmp (rank_at number index x) (rank_at number index y)) (p : is_key k) (r : Option (Bor (Interval K))) → option_map (λ b. b.now) r ≡ lookup (is_at (cmp k)) later → IfNone r P
-      got_one P cmp by_rank p None found = not_absent cmp is_key number index by_rank k p later j.front j.back j.interval j.is j.low found
-      got_one P cmp by_rank p (Some b) found = tt
 
   pub named_without : (front back : List (K × Interval K)) (k : K) (i : Interval K) → AreNamed is_key number index (front ++ (k, i) ∷ back) → AreNamed is_key number index (front ++ back)
   named_without [] back k i h = h.1.1

@@ -1,6 +1,6 @@
 -- Entries of a map by the ranks of their keys.
 use Rattle.std.proofs.Common.{◌≡◌, ℕ, suc, ◌<◌, ◌≤◌, true, cond, ◌&&◌, not, Option, Some, None, List, [], ◌∷◌, ◌++◌, refl, ap, sym, subst, ◌∙◌, inl, inr, arith, append_assoc}
-use Rattle.std.specs.Prelude.{map, IfSome}
+use Rattle.std.specs.Prelude.{IfNone, map, IfSome}
 use Rattle.std.proofs.lemmas.List.{map-append}
 use Rattle.sctp_fragments.specs.declared.interval.Entry.{Entry}
 use Rattle.std.proofs.Common.{Ordering, Equal, Greater, Less}
@@ -232,6 +232,12 @@ pub taken_at : {K : Type 0} (cmp : K → K → Ordering) (is_key : K → Type 0)
     → IfSome r (λ i. (ps qs : List (K × Interval K)) (d : Interval K) → es ≡ ps ++ (k, d) ∷ qs → AreLow is_key (rank_at number index) (rank_at number index k) ps → (i ≡ d) × (new ≡ ps ++ qs))
 taken_at cmp is_key number index by_rank k p es None new found out = tt
 taken_at cmp is_key number index by_rank k p es (Some i) new found out = λ ps qs d is low. (read_there cmp is_key number index by_rank k p es ps qs d is low i found, removed_at cmp is_key number index by_rank k p es ps qs d is low new out)
+
+-- one that is there goes
+pub taken_there : {K : Type 0} (P : Type 0) (cmp : K → K → Ordering) (is_key : K → Type 0) (number index : K → ℕ) (by_rank : (x y : K) → is_key x → is_key y → cmp x y ≡ nat_cmp (rank_at number index x) (rank_at number index y)) (k : K) (p : is_key k)
+    (es ps qs : List (K × Interval K)) (d : Interval K) (r : Option (Interval K)) → es ≡ ps ++ (k, d) ∷ qs → AreLow is_key (rank_at number index) (rank_at number index k) ps → r ≡ lookup (is_at (cmp k)) es → IfNone r P
+taken_there P cmp is_key number index by_rank k p es ps qs d None is low found = not_absent cmp is_key number index by_rank k p es ps qs d is low found
+taken_there P cmp is_key number index by_rank k p es ps qs d (Some i) is low found = tt
 
 -- the entries that are read at a split
 module _ {K : Type 0} (is_key : K → Type 0) (number index : K → ℕ) where

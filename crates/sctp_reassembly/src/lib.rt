@@ -24,6 +24,7 @@ mod unordered_stream;
 mod unordered_streams;
 
 pub use interval_list::IntervalList;
+pub use ordered_fragments::is_message;
 pub use ordered_stream::OrderedStream;
 pub use ready_messages::ReadyMessages;
 pub use reassembly_queue::ReassemblyQueue;

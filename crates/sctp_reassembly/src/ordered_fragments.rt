@@ -97,7 +97,7 @@ fn deliver<K: ReassemblyKey>(
 }
 
 /// Of so many intervals the complete ones are noted. Fewer are looked through.
-const MANY: usize = 64;
+const MANY: usize = 16;
 
 /// Notes the interval with the key where it is complete, and says where it begins then. Where intervals become many, notes all that are.
 fn note_in<K: ReassemblyKey>(
@@ -123,7 +123,7 @@ fn note_in<K: ReassemblyKey>(
 }
 
 /// Whether a message that begins there has the number.
-fn is_message<K: ReassemblyKey>(first: Option<K>, number: u128) -> bool
+pub fn is_message<K: ReassemblyKey>(first: Option<K>, number: u128) -> bool
     ensures some { IfSome first (λ k. result ≡ (K.number k == number)) }
     ensures none { IfNone first (result ≡ false) }
 {

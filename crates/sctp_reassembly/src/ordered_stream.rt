@@ -269,8 +269,9 @@ impl<K: ReassemblyKey> ReassemblyStream for OrderedStream<K> {
         }
     }
 
-    /// Adds a fragment, unless its message is below the next one; what is in turn then becomes ready. Takes a search by
-    /// halves, unless the fragment completes the next message. One that is all of it, where nothing is held, is handed on.
+    /// Adds a fragment, unless its message is below the next one; what is in turn then becomes ready. Takes a few
+    /// searches of the map of intervals, and some more for each message that becomes ready. A fragment that is all of the next
+    /// message, where nothing is held, is handed on.
     ///
     /// Without memory the fragment, or a message that was in turn, may be lost; what was ready stays ready.
     #[tactic(auto, using(crate::proofs::ExtendsLemmas::extends_none))]

@@ -97,57 +97,65 @@ fn first_from<K: ReassemblyKey>(
     }
 }
 
-/// The key in the map of the interval that has the key, where that is below it.
-fn place_below<K: ReassemblyKey>(later: &BTreeMap<K, Interval<K>>, key: K) -> Option<K>
-    ensures some { IfSome result (λ place. (ps qs : List (K × Interval K)) → IsSplit K.is_key (rank_at K.number K.index) (rank_at K.number K.index key) later.now.entries ps qs → (ends_from (rank_at K.number K.index key) (runs_at K.number K.index ps) ≡ true) × (Some place ≡ last_key ps)) }
+/// The interval that has the key, and its key in the map, where that is below it.
+fn below_with<K: ReassemblyKey>(
+    later: &BTreeMap<K, Interval<K>>,
+    key: K,
+) -> Option<(K, &Interval<K>)>
+    ensures some { IfSome result (λ e. (ps qs : List (K × Interval K)) → IsSplit K.is_key (rank_at K.number K.index) (rank_at K.number K.index key) later.now.entries ps qs → (ends_from (rank_at K.number K.index key) (runs_at K.number K.index ps) ≡ true) × ((front : List (K × Interval K)) × (ps ≡ front ++ (e.0, e.1.now) ∷ []))) }
     ensures none { IfNone result ((ps qs : List (K × Interval K)) → IsSplit K.is_key (rank_at K.number K.index) (rank_at K.number K.index key) later.now.entries ps qs → IsBelow rank_of (rank_at K.number K.index key) (end_of None (runs_at K.number K.index ps))) }
 {
-    let Some((place, interval)) = last_below(later, key) else {
-        return None;
-    };
-    if is_before(interval.last().key, key) {
+    let found = last_below(later, key)?;
+    if is_before(found.1.last().key, key) {
         return None;
     }
-    Some(place)
+    Some(found)
 }
 
 /// The same, where it is the key or above it.
-fn place_from<K: ReassemblyKey>(later: &BTreeMap<K, Interval<K>>, key: K) -> Option<K>
-    ensures some { IfSome result (λ place. (ps qs : List (K × Interval K)) → IsSplit K.is_key (rank_at K.number K.index) (rank_at K.number K.index key) later.now.entries ps qs → (starts_upto (rank_at K.number K.index key) (runs_at K.number K.index qs) ≡ true) × (Some place ≡ first_key_of qs)) }
+fn from_with<K: ReassemblyKey>(
+    later: &BTreeMap<K, Interval<K>>,
+    key: K,
+) -> Option<(K, &Interval<K>)>
+    ensures some { IfSome result (λ e. (ps qs : List (K × Interval K)) → IsSplit K.is_key (rank_at K.number K.index) (rank_at K.number K.index key) later.now.entries ps qs → (starts_upto (rank_at K.number K.index key) (runs_at K.number K.index qs) ≡ true) × ((back : List (K × Interval K)) × (qs ≡ (e.0, e.1.now) ∷ back))) }
     ensures none { IfNone result ((ps qs : List (K × Interval K)) → IsSplit K.is_key (rank_at K.number K.index) (rank_at K.number K.index key) later.now.entries ps qs → LeadsTo rank_of (rank_at K.number K.index key) (runs_at K.number K.index qs)) }
 {
-    let Some((place, interval)) = first_from(later, key) else {
-        return None;
-    };
-    if is_before(key, interval.first().key) {
+    let found = first_from(later, key)?;
+    if is_before(key, found.1.first().key) {
         return None;
     }
-    Some(place)
+    Some(found)
 }
 
-/// The key in the map of the interval that has the key.
-fn place_with<K: ReassemblyKey>(later: &BTreeMap<K, Interval<K>>, key: K) -> Option<K>
+/// The later interval that has the key, and its key in the map.
+fn found_with<K: ReassemblyKey>(
+    later: &BTreeMap<K, Interval<K>>,
+    key: K,
+) -> Option<(K, &Interval<K>)>
     requires runs { IsInRuns (runs_at K.number K.index later.now.entries) }
     requires named { AreNamed K.is_key K.number K.index later.now.entries }
-    ensures some { IfSome result (λ place. Holds K.is_key K.number K.index (rank_at K.number K.index key) place later.now.entries) }
+    ensures some { IfSome result (λ e. (h : Holds K.is_key K.number K.index (rank_at K.number K.index key) e.0 later.now.entries) × (e.1.now ≡ h.interval)) }
     ensures none { IfNone result (is_held rank_of (rank_at K.number K.index key) (flat (runs_at K.number K.index later.now.entries)) ≡ false) }
 {
     if let Some(found) = last_with(later, key) {
-        return Some(found.0);
+        return Some(found);
     }
-    place_amid(later, key)
+    amid_with(later, key)
 }
 
 /// The same, without a look at the last interval first.
-fn place_amid<K: ReassemblyKey>(later: &BTreeMap<K, Interval<K>>, key: K) -> Option<K>
+fn amid_with<K: ReassemblyKey>(
+    later: &BTreeMap<K, Interval<K>>,
+    key: K,
+) -> Option<(K, &Interval<K>)>
     requires runs { IsInRuns (runs_at K.number K.index later.now.entries) }
     requires named { AreNamed K.is_key K.number K.index later.now.entries }
-    ensures some { IfSome result (λ place. Holds K.is_key K.number K.index (rank_at K.number K.index key) place later.now.entries) }
+    ensures some { IfSome result (λ e. (h : Holds K.is_key K.number K.index (rank_at K.number K.index key) e.0 later.now.entries) × (e.1.now ≡ h.interval)) }
     ensures none { IfNone result (is_held rank_of (rank_at K.number K.index key) (flat (runs_at K.number K.index later.now.entries)) ≡ false) }
 {
-    match place_below(later, key) {
-        Some(place) => Some(place),
-        None => place_from(later, key),
+    match below_with(later, key) {
+        Some(found) => Some(found),
+        None => from_with(later, key),
     }
 }
 
@@ -194,14 +202,10 @@ pub(crate) fn interval_with<'a, K: ReassemblyKey>(
     if has_key(interval, key) {
         return Some(interval);
     }
-    if let Some((_, interval)) = last_with(later, key) {
-        return Some(interval);
+    match found_with(later, key) {
+        Some((_, interval)) => Some(interval),
+        None => None,
     }
-    let Some(place) = place_amid(later, key) else {
-        return None;
-    };
-    place.known();
-    later.get(&place)
 }
 
 /// Takes the interval that has the key out where it is a complete message.
@@ -230,29 +234,12 @@ pub(crate) fn take_if_complete<K: ReassemblyKey>(
         }
         return take_first(first, later);
     }
-    let Some(place) = place_with(later, key) else {
-        return None;
-    };
-    take_complete(later, place)
-}
-
-/// Takes out the interval at the place where it is a complete message.
-fn take_complete<K: ReassemblyKey>(
-    later: &mut BTreeMap<K, Interval<K>>,
-    place: K,
-) -> Option<Interval<K>>
-    ensures taken { IfSome result (λ i. (ps qs : List (K × Interval K)) (d : Interval K) → later.old.entries ≡ ps ++ (place, d) ∷ qs → AreLow K.is_key (rank_at K.number K.index) (rank_at K.number K.index place) ps → (i ≡ d) × (later.new.entries ≡ ps ++ qs)) }
-    ensures complete { IfSome result (λ i. is_complete (run_of (held_of K.number K.index) i) ≡ true) }
-    ensures none { IfNone result (later.new.entries ≡ later.old.entries) }
-    ensures incomplete { IfNone result ((ps qs : List (K × Interval K)) (d : Interval K) → later.old.entries ≡ ps ++ (place, d) ∷ qs → AreLow K.is_key (rank_at K.number K.index) (rank_at K.number K.index place) ps → is_complete (run_of (held_of K.number K.index) d) ≡ false) }
-{
-    place.known();
-    let Some(interval) = later.get(&place) else {
-        return None;
-    };
-    if !interval.is_complete() {
+    let found = found_with(later, key)?;
+    if !found.1.is_complete() {
         return None;
     }
+    let place = found.0;
+    place.known();
     later.remove(&place)
 }
 

@@ -280,8 +280,8 @@ impl UnorderedByTsn {
         self.streams.forget(ids);
     }
 
-    /// Drops the fragments of all streams before the key. Takes a search by halves for each stream that holds one of them,
-    /// where there was memory for the notes.
+    /// Drops the fragments of all streams before the key. Looks up each stream that holds one of them, and no other,
+    /// where all have their notes.
     pub fn forward_all(&mut self, first: TraditionalKey)
         ensures value { self.new ≡ map (λ e. (e.0, held_from (pair_rank first.number first.index) e.1)) self.old }
         ensures bytes { unordered_bytes self.new ≤ unordered_bytes self.old }

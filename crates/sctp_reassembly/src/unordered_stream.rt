@@ -232,8 +232,8 @@ impl<K: ReassemblyKey> ReassemblyStream for UnorderedStream<K> {
         }
     }
 
-    /// Adds a fragment, unless a forward point passed its message; a message that it completes becomes ready. Takes a search
-    /// by halves, unless it does complete one. One that is all of it, where nothing is held, is handed on.
+    /// Adds a fragment, unless a forward point passed its message; a message that it completes becomes ready. Takes a few
+    /// searches of the map of intervals. A fragment that is all of its message, where nothing is held, is handed on.
     ///
     /// Without memory the fragment, or the message that it completes, may be lost; what was ready stays ready.
     #[tactic(auto, using(crate::proofs::ExtendsLemmas::extends_none))]

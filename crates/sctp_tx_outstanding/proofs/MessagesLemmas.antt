@@ -1,16 +1,17 @@
 -- The items of each message, as items come, change and leave.
-use Rattle.std.proofs.Common.{◌≡◌, ℕ, zero, suc, ◌+◌, ◌-◌, ◌^◌, ◌<◌, ◌≤◌, ◌==◌, Bool, true, false, cond, List, [], ◌∷◌, ◌++◌, Option, Some, length, take, drop, slice_index_or, refl, ap, sym, subst, ◌∙◌, inl, inr, arith}
+use Rattle.std.proofs.Common.{◌≡◌, ℕ, zero, suc, ◌+◌, ◌-◌, ◌^◌, ◌<◌, ◌≤◌, ◌==◌, Bool, true, false, cond, List, [], ◌∷◌, ◌++◌, Option, Some, None, length, take, drop, slice_index_or, refl, ap, sym, subst, ◌∙◌, inl, inr, arith}
 use Rattle.std.specs.Prelude.{◌&&◌, map}
-use Rattle.std.proofs.lemmas.Bool.{cases_lt}
-use Rattle.std.proofs.lemmas.List.{take_all, take_more, length-take-le}
+use Rattle.std.proofs.lemmas.Bool.{cases_lt, and_from, and_parts, false≢true}
+use Rattle.std.proofs.lemmas.List.{append-nil, take_all, take_more, length-take-le}
 use Rattle.sctp_chunk.specs.Chunk.{FragmentTree}
 use Rattle.sctp_tx_outstanding.specs.declared.kept.Change.{Change}
 use Rattle.sctp_tx_outstanding.specs.declared.kept.Change.TheVariants as changes
 use Rattle.sctp_tx_outstanding.specs.Item.{Item, is_of, abandon}
 use Rattle.sctp_tx_outstanding.specs.Change.{apply_change}
-use Rattle.sctp_tx_outstanding.specs.OutstandingData.{change_at, abandon_if_of, is_of_at, later_of, later_at, without_payload}
+use Rattle.sctp_tx_outstanding.specs.OutstandingData.{Items, Discard, change_at, abandon_if_of, is_of_at, last_of, later_of, later_at, without_payload}
+use Rattle.sctp_tx_outstanding.specs.Losses.{placeholder, placeholders, discards_of, abandon_message}
 use Rattle.sctp_tx_outstanding.specs.Numbers.{by_number, is_listed}
-use Rattle.sctp_tx_outstanding.specs.Messages.{NoneIsOf, is_of_as, pair_key, AreKeys, Finds}
+use Rattle.sctp_tx_outstanding.specs.Messages.{NoneIsOf, IsWhole, is_end_at, is_of_as, pair_key, AreKeys, Finds}
 use Rattle.sctp_tx_outstanding.specs.declared.messages.Messages.{Messages}
 use Rattle.sctp_tx_outstanding.proofs.AbandonedItemsLemmas.{laid}
 use Rattle.sctp_tx_outstanding.proofs.NumbersLemmas.{as_below, as_at, as_never, as_next, as_alike, as_turned, here, ahead, behind, further, not_below, is_same_lem, equal}
@@ -167,7 +168,7 @@ none_of keys first message from to is known few none = λ k above below.
 pub none_here : (message place : ℕ) (is : List Item) → NoneIsOf message place place is
 none_here message place is = λ k above below. absurd (omega (arith, above, below))
 
-none_less : (message from to less : ℕ) (is : List Item) → less ≤ to → NoneIsOf message from to is → NoneIsOf message from less is
+pub none_less : (message from to less : ℕ) (is : List Item) → less ≤ to → NoneIsOf message from to is → NoneIsOf message from less is
 none_less message from to less is le h = λ k above below. h k above (omega (arith, below, le))
 
 -- ---- a message is laid down
@@ -299,3 +300,56 @@ later_done number p n found is le all h = sym (ap (λ (xs : List Item). later_of
     past [] (suc n) h = refl
     past (i ∷ is) zero h = absurd (omega (arith, h))
     past (i ∷ is) (suc n) h = past is n (omega (arith, h))
+
+-- ---- a message of one item
+
+pub end_here : (number k : ℕ) (is : List Item) (i : Item) → k < length is → i ≡ slice_index_or is k i → is_of number i ≡ true → i.fragment.is_end ≡ true → is_end_at number k is ≡ true
+end_here number k [] i h at of ends = absurd (omega (arith, h))
+end_here number zero (x ∷ is) i h at of ends = ap (λ (y : Item). is_of number y && y.fragment.is_end) (sym at) ∙ and_from (is_of number i) i.fragment.is_end of ends
+end_here number (suc k) (x ∷ is) i h at of ends = end_here number k is i (omega (arith, h)) at of ends
+
+end_parts : (number : ℕ) (i : Item) → (is_of number i && i.fragment.is_end) ≡ true → (is_of number i ≡ true) × (i.fragment.is_end ≡ true)
+end_parts number i h = and_parts (is_of number i) i.fragment.is_end h
+
+end_is_of : (number k : ℕ) (is : List Item) → is_end_at number k is ≡ true → is_of_at number k is ≡ true
+end_is_of number k [] h = h
+end_is_of number zero (i ∷ is) h = (end_parts number i h).0
+end_is_of number (suc k) (i ∷ is) h = end_is_of number k is h
+
+end_within : (number k : ℕ) (is : List Item) → is_end_at number k is ≡ true → k + 1 ≤ length is
+end_within number k [] h = absurd (false≢true h)
+end_within number zero (i ∷ is) h = omega arith
+end_within number (suc k) (i ∷ is) h = omega (arith, end_within number k is h)
+
+end_found : (number k : ℕ) (is : List Item) → is_end_at number k is ≡ true → (placeholders number (later_at number k None is) ≡ []) × (discards_of number (later_at number k None is) ≡ [])
+end_found number k [] h = absurd (false≢true h)
+end_found number zero (i ∷ is) h = by_parts (is_of number i) i.fragment (end_parts number i h)
+  where
+    by_parts : (b : Bool) (f : FragmentTree) → (b ≡ true) × (f.is_end ≡ true) → (placeholders number (cond b (Some (without_payload f)) None) ≡ []) × (discards_of number (cond b (Some (without_payload f)) None) ≡ [])
+    by_parts true f h = (ap (λ e. cond e [] (placeholder number (without_payload f) ∷ [])) h.1, ap (λ e. cond e [] (record { stream = f.stream_id; number = number } ∷ [])) h.1)
+    by_parts false f h = absurd (false≢true h.0)
+end_found number (suc k) (i ∷ is) h = end_found number k is h
+
+whole_last : (number k : ℕ) (is : List Item) → IsWhole number k is → later_at number k None is ≡ last_of number is
+whole_last number k is whole =
+    let found = later_at number k None is in
+    later_done number (k + 1) (length is) found is (end_within number k is whole.ends) (omega arith) whole.behind
+    ∙ later_step number 0 k None found (last_of number is) is (omega arith) whole.before refl refl
+
+pub whole_laid : (number k : ℕ) (is : List Item) → IsWhole number k is → change_at k (λ i. abandon i) is ≡ map (abandon_if_of number) is
+whole_laid number k is whole =
+    let after = change_at k (abandon_if_of number) is in
+    let e : after ≡ laid (k + 1) number is = laid_next number k is is after (laid_on number 0 k is is refl (omega arith) whole.before) refl in
+    laid_of number k is (end_is_of number k is whole.ends)
+    ∙ laid_done number (k + 1) (length is) is after e (omega arith) (end_within number k is whole.ends) (λ j above below. ap (λ js. is_of_at number j js) e ∙ (of_laid number (k + 1) number is j ∙ whole.behind j above below))
+
+pub whole_given_up : (number k : ℕ) (s : Items) → IsWhole number k s.kept → record s { kept = change_at k (λ i. abandon i) s.kept } ≡ abandon_message number s
+whole_given_up number k s whole =
+    let e = whole_last number k s.kept whole in
+    let found = end_found number k s.kept whole.ends in
+    let none : placeholders number (last_of number s.kept) ≡ [] = ap (λ f. placeholders number f) (sym e) ∙ found.0 in
+    let no : discards_of number (last_of number s.kept) ≡ [] = ap (λ f. discards_of number f) (sym e) ∙ found.1 in
+    let kept : s.kept ≡ s.kept ++ placeholders number (last_of number s.kept) = sym (ap (λ js. s.kept ++ js) none ∙ append-nil s.kept) in
+    let discards : s.discards ≡ s.discards ++ discards_of number (last_of number s.kept) = sym (ap (λ ds. s.discards ++ ds) no ∙ append-nil s.discards) in
+    ap (λ (js : List Item). record s { kept = js }) (whole_laid number k s.kept whole ∙ ap (λ js. map (abandon_if_of number) js) kept)
+    ∙ ap (λ (ds : List Discard). record s { kept = map (abandon_if_of number) (s.kept ++ placeholders number (last_of number s.kept)); discards = ds }) discards

@@ -1,8 +1,8 @@
 -- The moments at which items expire, so that those that don't aren't looked at as some do.
-use Rattle.std.specs.Prelude.{◌≡◌, ℕ, zero, suc, ◌+◌, ◌-◌, ◌%◌, ◌^◌, ◌<◌, ◌≤◌, ◌==◌, ◌&&◌, Bool, true, false, if◌then◌else◌, List, [], ◌∷◌}
+use Rattle.std.specs.Prelude.{◌≡◌, ◌⊎◌, ℕ, zero, suc, ◌+◌, ◌-◌, ◌%◌, ◌^◌, ◌<◌, ◌≤◌, ◌==◌, ◌&&◌, ◌||◌, nat_lt, Bool, true, false, List, [], ◌∷◌}
 use Rattle.sctp_tx_outstanding.specs.declared.expiries.Expiries.{Expiries}
 use Rattle.sctp_tx_outstanding.specs.declared.expiries.Due.{Due}
-use Rattle.sctp_tx_outstanding.specs.Item.{Item, expiry, never}
+use Rattle.sctp_tx_outstanding.specs.Item.{Item, expiry, has_nack, never, or_never}
 use Rattle.sctp_tx_outstanding.specs.Losses.{expires}
 use Rattle.sctp_tx_outstanding.specs.Messages.{pair_key}
 use Rattle.sctp_tx_outstanding.specs.Numbers.{is_listed}
@@ -13,25 +13,33 @@ expires_as moment k [] = false
 expires_as moment zero (i ∷ is) = expiry i == moment
 expires_as moment (suc k) (i ∷ is) = expires_as moment k is
 
--- each item that expires at some moment has its key among these. The first item's number is `first`
-pub record AreMoments (keys : List ℕ) (first : ℕ) (is : List Item) : Type 0 where
-  pub fits : (moment k : ℕ) → moment < never → expires_as moment k is ≡ true → first + k < 2 ^ 32
-  pub listed : (moment k : ℕ) → moment < never → expires_as moment k is ≡ true → is_listed keys (pair_key moment (first + k)) ≡ true
+-- it has this deadline, which lies behind the moment up to which keys were dropped, or it is missing or lost
+abbrev pub is_expected : (dropped moment : ℕ) → Item → Bool
+is_expected dropped moment i = (or_never i.expires == moment) && (has_nack i.state || nat_lt dropped moment)
+
+abbrev pub expected_at : (dropped moment k : ℕ) → List Item → Bool
+expected_at dropped moment k [] = false
+expected_at dropped moment zero (i ∷ is) = is_expected dropped moment i
+expected_at dropped moment (suc k) (i ∷ is) = expected_at dropped moment k is
+
+-- each such item has its key among these. The first item's number is `first`
+pub record AreMoments (keys : List ℕ) (first dropped : ℕ) (is : List Item) : Type 0 where
+  pub fits : (moment k : ℕ) → moment < never → expected_at dropped moment k is ≡ true → first + k < 2 ^ 32
+  pub listed : (moment k : ℕ) → moment < never → expected_at dropped moment k is ≡ true → is_listed keys (pair_key moment (first + k)) ≡ true
 
 abbrev pub Expects : Expiries → List Item → Type 0
-Expects x is = x.is_known ≡ true → AreMoments x.keys.keys x.first is
+Expects x is = x.is_known ≡ true → AreMoments x.keys.keys x.first x.dropped is
 
--- ---- an item changes
+-- ---- an item comes or changes
 
--- when the item at the place expires, before and after it
+-- no other key than that of the place and the moment has to come
+abbrev pub Gains : (place moment : ℕ) → (is js : List Item) → Type 0
+Gains place moment is js = (dropped m k : ℕ) → m < never → expected_at dropped m k js ≡ true → (expected_at dropped m k is ≡ true) ⊎ ((k ≡ place) × (m ≡ moment))
+
+-- the item at the place expired at one moment, and does at another. Its deadline stays
 pub record Moves (place was will : ℕ) (is js : List Item) : Type 0 where
-  pub before : (moment k : ℕ) → moment < never → expires_as moment k is ≡ (if k == place then was == moment else expires_as moment k is)
-  pub after : (moment k : ℕ) → moment < never → expires_as moment k js ≡ (if k == place then will == moment else expires_as moment k is)
-
--- an item is listed under the moment, or no longer is
-abbrev pub Sets : (moment number : ℕ) → Bool → (old new : List ℕ) → Type 0
-Sets moment number is_there old new = (m n : ℕ) → m < never → n < 2 ^ 32
-    → is_listed new (pair_key m n) ≡ (if (m == moment) && (n == number) then is_there else is_listed old (pair_key m n))
+  pub gains : Gains place will is js
+  pub stands : (dropped : ℕ) → will < never → (was ≡ will) ⊎ (dropped < will) → expected_at dropped will place is ≡ true
 
 -- ---- what expires now
 

@@ -1,13 +1,25 @@
 -- The items of each message, by their numbers, so that those of other messages aren't looked at as one is given up.
-use Rattle.std.specs.Prelude.{◌≡◌, ℕ, ◌+◌, ◌*◌, ◌^◌, ◌<◌, ◌≤◌, Bool, true, false, List}
+use Rattle.std.specs.Prelude.{◌≡◌, ℕ, zero, suc, ◌+◌, ◌*◌, ◌^◌, ◌<◌, ◌≤◌, ◌&&◌, Bool, true, false, List, [], ◌∷◌, length}
 use Rattle.sctp_tx_outstanding.specs.declared.messages.Messages.{Messages}
-use Rattle.sctp_tx_outstanding.specs.Item.{Item}
+use Rattle.sctp_tx_outstanding.specs.Item.{Item, is_of}
 use Rattle.sctp_tx_outstanding.specs.OutstandingData.{is_of_at}
 use Rattle.sctp_tx_outstanding.specs.Numbers.{by_number, is_listed}
 
 -- none from one place up to another is of the message
 abbrev pub NoneIsOf : (message from to : ℕ) → List Item → Type 0
 NoneIsOf message from to is = (k : ℕ) → from ≤ k → k < to → is_of_at message k is ≡ false
+
+-- whether the item at the place is one of the message, and its end
+abbrev pub is_end_at : (message k : ℕ) → List Item → Bool
+is_end_at message k [] = false
+is_end_at message zero (i ∷ is) = is_of message i && i.fragment.is_end
+is_end_at message (suc k) (i ∷ is) = is_end_at message k is
+
+-- no other is
+pub record IsWhole (message place : ℕ) (is : List Item) : Type 0 where
+  pub before : NoneIsOf message 0 place is
+  pub behind : NoneIsOf message (place + 1) (length is) is
+  pub ends : is_end_at message place is ≡ true
 
 -- whether the item of number n is of the message. The first item's number is `first`
 abbrev pub is_of_as : (first message n : ℕ) → List Item → Bool

@@ -3,7 +3,7 @@
 ghost use Rattle.std.specs.Prelude.{◌≡◌, ℕ, ◌+◌, ◌^◌, ◌<◌, ◌≤◌, ◌==◌, true, false, IfSome};
 ghost use Rattle.sctp_tx_outstanding.specs.Messages.{pair_key};
 ghost use Rattle.sctp_tx_outstanding.specs.Numbers.{is_listed};
-ghost use Rattle.sctp_tx_outstanding.specs.Expiries.{ListsUpTo, Sets, expires_as};
+ghost use Rattle.sctp_tx_outstanding.specs.Expiries.{ListsUpTo, expires_as};
 
 use crate::item::Item;
 use crate::messages::number_at;
@@ -12,14 +12,17 @@ use sctp_serial::SocketTime;
 use std::alloc::Global;
 use std::collections::{BTreeSet, VecDeque};
 
-/// Which items expire when: those that are missing or lost and have a lifetime, each under its moment and its number. One that is
-/// acknowledged keeps its key, so that SACKs which take it back and forth cost no more: it goes as the item leaves, or comes first of
-/// all. What has no lifetime isn't listed, and costs a test. Where memory was missing it isn't known, until all items are looked at.
+/// Which items expire when, each under its deadline and its number, if it is known: from the first lifetime that ends on, up to which
+/// one costs a test. Then an item has its key as long as it is kept, so that SACKs which acknowledge it and take it back cost no more.
+/// Keys go too once their moment has passed: up to the last one of these, those that are missing or lost alone have theirs. Where
+/// memory was missing it isn't known, until all items are looked at.
 #[derive(Drop)]
 pub struct Expiries {
     pub keys: BTreeSet<u128>,
     /// The first item's number.
     pub first: u32,
+    /// The moment up to which keys were dropped.
+    pub dropped: u128,
     pub is_known: bool,
 }
 
@@ -51,23 +54,6 @@ fn least_below(keys: &BTreeSet<u128>, from: u128, end: u128) -> u128
         Some(key) => (*key).min(end),
         None => end,
     }
-}
-
-/// An item expires at the moment, or no longer does. Says whether that could be listed.
-fn set(keys: &mut BTreeSet<u128>, moment: u128, number: u32, is_there: bool) -> bool
-    ensures { result ≡ true → Sets moment number is_there keys.old.keys keys.new.keys }
-{
-    if moment == u128::MAX {
-        return true;
-    }
-    let Some(key) = key_of(moment, number) else {
-        return false;
-    };
-    if is_there {
-        return keys.insert(key).is_ok();
-    }
-    keys.remove(&key);
-    true
 }
 
 /// Lists the places of the keys below the end, at most so many. Says whether these are all, and there was memory.
@@ -118,25 +104,18 @@ impl Expiries {
     ghost use Rattle.std.specs.Prelude.{◌∷◌, [], List};
     ghost use Rattle.std.specs.List.{All};
     ghost use Rattle.sctp_tx_outstanding.specs.Item.{Item, NotBefore};
-    ghost use Rattle.sctp_tx_outstanding.specs.Expiries.{Expects, FindsDue, Moves};
+    ghost use Rattle.sctp_tx_outstanding.specs.Expiries.{Expects, FindsDue, Gains, Moves};
 
-    /// No items. Takes no memory.
+    /// Nothing is known. Takes no memory.
     pub fn new(alloc: Global) -> Expiries
-        ensures { Expects result [] }
+        ensures { (is : List Item) → Expects result is }
     {
         Expiries {
             keys: BTreeSet::new(alloc),
             first: 0,
-            is_known: true,
+            dropped: 0,
+            is_known: false,
         }
-    }
-
-    /// Nothing is known any more.
-    fn forget(&mut self)
-        ensures { (is : List Item) → Expects self.new is }
-    {
-        self.keys.clear();
-        self.is_known = false;
     }
 
     /// It is known of no item.
@@ -145,28 +124,33 @@ impl Expiries {
     {
         self.keys.clear();
         self.first = 0;
+        self.dropped = 0;
         self.is_known = true;
     }
 
-    /// The item at the place expired at one moment, and does at another.
-    fn list(&mut self, place: usize, will: u128)
-        ensures { (was : ℕ) (is js : List Item) → Moves place was will is js → Expects self.old is → Expects self.new js }
+    /// The item at the place gets a key of this moment.
+    pub fn list(&mut self, place: usize, moment: u128)
+        ensures { (is js : List Item) → Gains place moment is js → Expects self.old is → Expects self.new js }
     {
-        if !self.is_known {
+        if !self.is_known || moment == u128::MAX {
             return;
         }
         let Some(number) = number_at(self.first, place) else {
-            self.forget();
+            self.is_known = false;
             return;
         };
-        self.is_known = set(&mut self.keys, will, number, true);
+        let Some(key) = key_of(moment, number) else {
+            self.is_known = false;
+            return;
+        };
+        self.is_known = self.keys.insert(key).is_ok();
     }
 
     /// The item at the place expired at one moment, and does at another or at the same one.
     pub fn renew(&mut self, place: usize, was: u128, will: u128)
         ensures { (is js : List Item) → Moves place was will is js → Expects self.old is → Expects self.new js }
     {
-        if was != will && will != u128::MAX {
+        if was != will && will <= self.dropped {
             self.list(place, will);
         }
     }
@@ -175,43 +159,46 @@ impl Expiries {
     pub fn leave(&mut self, deadline: u128)
         ensures { (i : Item) (is : List Item) → Expects self.old (i ∷ is) → Expects self.new is }
     {
-        if !self.is_known {
+        let number = self.first;
+        let Some(next) = number.checked_add(1) else {
+            self.is_known = false;
+            return;
+        };
+        self.first = next;
+        if !self.is_known || deadline == u128::MAX {
             return;
         }
-        if self.first == u32::MAX {
-            self.forget();
+        let Some(key) = key_of(deadline, number) else {
             return;
-        }
-        if deadline == u128::MAX || self.keys.is_empty() {
-            self.first += 1;
-            return;
-        }
-        self.is_known = set(&mut self.keys, deadline, self.first, false);
-        self.first += 1;
+        };
+        self.keys.remove(&key);
     }
 
-    /// Drops the first key where no item expires under it. Says whether it did.
-    fn drop_first(&mut self, items: &VecDeque<Item>) -> bool
+    /// Drops the first key where its moment has passed and no item expires under it. Says whether it did.
+    fn drop_first(&mut self, items: &VecDeque<Item>, now: u128) -> bool
         requires { Expects self.old items.now.items }
         ensures { Expects self.new items.now.items }
     {
-        let Some(key) = self.keys.first() else {
+        let Some(first) = self.keys.first() else {
             return false;
         };
-        if is_due_under(items, self.first, *key) {
+        let key = *first;
+        let moment = key / (1 << 32);
+        if now < moment || is_due_under(items, self.first, key) {
             return false;
         }
         self.keys.pop_first();
+        self.dropped = self.dropped.max(moment);
         true
     }
 
-    /// Drops the first keys, up to one under which an item expires.
-    pub fn drop_stale(&mut self, items: &VecDeque<Item>)
+    /// Drops the first keys whose moment has passed, up to one under which an item expires.
+    pub fn drop_stale(&mut self, items: &VecDeque<Item>, now: SocketTime)
         requires { Expects self.old items.now.items }
         ensures { Expects self.new items.now.items }
     {
         for _ in 0..self.keys.len() {
-            if !self.drop_first(items) {
+            if !self.drop_first(items, now.as_nanos()) {
                 return;
             }
         }

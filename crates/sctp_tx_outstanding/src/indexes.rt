@@ -95,7 +95,7 @@ impl Indexes {
         self.runs.begin(place);
         self.runs.see(items, place, self.totals.queued);
         self.messages.add(item.message_id(), place);
-        self.expiries.renew(place, u128::MAX, part.earliest);
+        self.expiries.list(place, item.deadline());
     }
 
     /// The first item has left, before the others.

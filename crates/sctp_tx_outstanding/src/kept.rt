@@ -12,7 +12,7 @@ ghost use Rattle.sctp_tx_outstanding.specs.Passed.{BeginsPoint};
 ghost use Rattle.sctp_tx_outstanding.specs.Views.{last_tree, point_of};
 ghost use Rattle.sctp_tx_outstanding.specs.LastBlocks.{Rest, Knows};
 ghost use Rattle.sctp_tx_outstanding.specs.Sack.{all_leaving_events, open_size};
-ghost use Rattle.sctp_tx_outstanding.specs.Messages.{Finds, NoneIsOf};
+ghost use Rattle.sctp_tx_outstanding.specs.Messages.{Finds, IsWhole, NoneIsOf};
 ghost use Rattle.sctp_tx_outstanding.specs.Flights.{NoneFlies};
 ghost use Rattle.sctp_tx_outstanding.specs.Runs.{AreGivenUp};
 ghost use Rattle.sctp_tx_outstanding.specs.Waiting.{NoneWaits};
@@ -173,7 +173,7 @@ fn expect_at(items: &VecDeque<Item>, expiries: &mut Expiries, place: usize)
     let Some(item) = items.get(place) else {
         return;
     };
-    expiries.renew(place, u128::MAX, item.expiry());
+    expiries.list(place, item.deadline());
 }
 
 /// Makes known which items expire when, if there is memory for that.
@@ -457,11 +457,11 @@ impl Kept {
     }
 
     /// Looks up when the first item expires, so that none is looked at before.
-    pub(crate) fn find_earliest(&mut self)
+    pub(crate) fn find_earliest(&mut self, now: SocketTime)
         ensures { self.new ≡ self.old }
     {
         expect_all(&self.items, &mut self.indexes.expiries);
-        self.indexes.expiries.drop_stale(&self.items);
+        self.indexes.expiries.drop_stale(&self.items, now);
         self.indexes.totals.earliest = first_expiry(&self.items, &self.indexes.expiries);
     }
 
@@ -529,6 +529,22 @@ impl Kept {
     {
         list_all(&self.items, &mut self.indexes.messages);
         self.indexes.messages.hold(self.items.len());
+    }
+
+    /// Whether the item at the place is all that is kept of the message, and its end.
+    pub(crate) fn is_whole_at(&self, place: usize, message_id: OutgoingMessageId) -> bool
+        ensures { result ≡ true → IsWhole message_id.0 place self.now.items }
+    {
+        let Some(item) = self.items.get(place) else {
+            return false;
+        };
+        if item.message_id().0 != message_id.0 || !item.data().is_end {
+            return false;
+        }
+        if self.next_of(message_id, 0) < place {
+            return false;
+        }
+        self.items.len() <= self.next_of(message_id, place + 1)
     }
 
     /// Looks up how far a forward point goes, up to this place at most, in a chunk of this size.

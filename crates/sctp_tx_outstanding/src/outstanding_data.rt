@@ -286,9 +286,10 @@ impl OutstandingData {
         Ok(())
     }
 
-    /// Gives up all that is kept of a message, with a record. Without memory nothing changes.
+    /// Gives up all that is kept of a message, an item of which is at the place, with a record. Without memory nothing changes.
     fn give_up(
         &mut self,
+        place: usize,
         message_id: OutgoingMessageId,
         cause: GivenUpCause,
         events: &mut Events,
@@ -302,6 +303,10 @@ impl OutstandingData {
         let number = message_id;
         events.add_given_up(GivenUp { number, cause })?;
         self.kept.find_messages();
+        if self.kept.is_whole_at(place, message_id) {
+            self.kept.change(place, Change::Abandon);
+            return Ok(());
+        }
         if self.close(message_id).is_err() {
             events.roll_back(mark);
             return Err(AllocError);
@@ -348,7 +353,7 @@ impl OutstandingData {
         };
         if loss.gives_up {
             let cause = GivenUpCause::Retransmissions(loss.resendings);
-            self.give_up(loss.message_id, cause, events)?;
+            self.give_up(place, loss.message_id, cause, events)?;
             return Ok(true);
         }
         self.kept.change(place, Change::Nack(at_once, fast));
@@ -452,7 +457,7 @@ impl OutstandingData {
         ensures silent { OnErr result (events.new ≡ events.old) }
     {
         if let Some(message_id) = self.expired_at(place, now) {
-            self.give_up(message_id, GivenUpCause::Lifetime, events)?;
+            self.give_up(place, message_id, GivenUpCause::Lifetime, events)?;
         }
         Ok(())
     }
@@ -499,7 +504,7 @@ impl OutstandingData {
         }
         let due = self.kept.due(self.alloc, now);
         let outcome = self.expire_due(&due, now, events);
-        self.kept.find_earliest();
+        self.kept.find_earliest(now);
         outcome
     }
 

@@ -17,7 +17,7 @@ use Rattle.sctp_tx_queue.specs.declared.send_queue.message.MessageNumbers.{Messa
 use Rattle.sctp_tx_queue.specs.declared.send_queue.stream.ResetStep.{ResetStep}
 use Rattle.sctp_tx_queue.specs.declared.send_queue.stream.ResetStep.TheVariants.{Requested, Performed, Refused}
 use Rattle.sctp_tx_queue.specs.declared.send_queue.stream.StreamChange.{StreamChange}
-use Rattle.sctp_tx_queue.specs.declared.send_queue.stream.StreamChange.TheVariants.{Stale, Threshold, Priority, Discard, Prepare, Step, Restart, Empty}
+use Rattle.sctp_tx_queue.specs.declared.send_queue.stream.StreamChange.TheVariants.{Threshold, Priority, Discard, Prepare, Step, Restart, Empty}
 use Rattle.sctp_tx_queue.specs.SendQueue.{Queued, Stream, Entries, remaining_bytes, amount_of, total_of, blank_stream, push, has_nothing}
 use Rattle.sctp_tx_queue.specs.Produced.{is_stale, fresh, moved_front, move_past, ends, pause_if_pending}
 use Rattle.sctp_tx_queue.specs.Settings.{without_front}
@@ -274,7 +274,6 @@ few_first id es after w s m sorted is_after is_w none small room h =
 -- ---- a change of one stream
 
 pub keeps_changed : (change : StreamChange) (s : Stream) → Keeps s.messages (changed change s).messages
-keeps_changed (Stale now) s = keeps_fresh now s.messages
 keeps_changed (Threshold bytes) s = keeps_same s.messages
 keeps_changed (Priority priority) s = keeps_same s.messages
 keeps_changed (Discard message_id) s = keeps_without message_id.0 s.messages s refl

@@ -13,6 +13,7 @@ pub mod RestLemmas
 pub mod RestartLemmas
 pub mod RestoreLemmas
 pub mod SettledLemmas
+pub mod StaleLemmas
 pub mod StaysBegunLemmas
 pub mod StreamLemmas
 pub mod StreamsLemmas

@@ -7,12 +7,11 @@ use Rattle.std.specs.BTreeMap.{is_at}
 use Rattle.std.proofs.lemmas.Bool.Decides.{nat_tests}
 use Rattle.std.proofs.lemmas.List.{take_all}
 use Rattle.std.proofs.lemmas.Bool.{and_parts}
-use Rattle.sctp_state.specs.Events.{Emitted, emit_events, emit_given_up, expired_events}
-use Rattle.sctp_state.specs.declared.api.GivenUpCause.TheVariants.{Lifetime}
+use Rattle.sctp_state.specs.Events.{Emitted, emit_events}
 use Rattle.sctp_stream_scheduler.specs.StreamScheduler.{Scheduler, accept, is_active, enter, finish_now, set_bytes_remaining}
 use Rattle.sctp_tx_queue.specs.declared.send_queue.message.MessageNumbers.{MessageNumbers}
 use Rattle.sctp_tx_queue.specs.SendQueue.{Queued, Stream, Streams, stream, sendable}
-use Rattle.sctp_tx_queue.specs.Produced.{is_front_stale, fresh, emit_expired, streams_without_stale, without_stale, ends, front_made, in_line, next_fragment, production, streams_after, advance, emitted_made}
+use Rattle.sctp_tx_queue.specs.Produced.{is_front_stale, fresh, streams_without_stale, without_stale, ends, front_made, in_line, next_fragment, production, streams_after, advance, emitted_made}
 use Rattle.sctp_tx_queue.specs.Whole.{is_whole, is_front_whole, front_lifecycle}
 use Rattle.sctp_tx_queue.proofs.StreamLemmas.{advanced_priority}
 use Rattle.sctp_tx_queue.proofs.StreamsLemmas.{put_nowhere, put_same, stream_there, stream_nowhere, changed_there}
@@ -66,10 +65,6 @@ none_made id size ss none = sym (ap (λ (t : Stream). next_fragment id size t) (
 pub fresh_same : (now : ℕ) (ms : List Queued) → is_front_stale now ms ≡ false → fresh now ms ≡ ms
 fresh_same now [] h = refl
 fresh_same now (m ∷ rest) h = ap (λ b. cond b (fresh now rest) (m ∷ rest)) h
-
-pub emit_expired_none : {P : Type 0} → (now : ℕ) (ms : List Queued) (emitted : Emitted P) → is_front_stale now ms ≡ false → emitted ≡ emit_expired now ms emitted
-emit_expired_none now [] emitted h = refl
-emit_expired_none now (m ∷ rest) emitted h = sym (ap (λ b. cond b (emit_expired now rest (emit_events (expired_events m.lifecycle) (emit_given_up m.number Lifetime emitted))) emitted) h)
 
 pub streams_fresh : (now id : ℕ) (ss : Streams) → is_front_stale now (stream id ss).messages ≡ false → ss ≡ streams_without_stale now id ss
 streams_fresh now id ss h = go (lookup (is_at (nat_cmp id)) ss.entries) refl

@@ -16,6 +16,12 @@ pub record Freed {P : Type 0} (now id : ℕ) (q : Queue) (emitted : Emitted P) (
   pub queue : after ≡ record q { streams = streams_without_stale now id q.streams }
   pub events : later ≡ emit_expired now (stream id q.streams).messages emitted
 
+-- a stream had its turn, and gave no fragment
+pub record TurnOver {P : Type 0} (now id size : ℕ) (q : Queue) (emitted : Emitted P) (after : Queue) (later : Emitted P) : Type 0 where
+  pub queue : after ≡ (turn now id size q emitted).queue
+  pub events : later ≡ (turn now id size q emitted).emitted
+  pub none : (turn now id size q emitted).made ≡ None
+
 -- so many streams had their turn and gave no fragment: all their messages had expired
 abbrev pub Passed : {P : Type 0} → ℕ → ℕ → ℕ → Queue → Emitted P → Queue → Emitted P → Type 0
 Passed zero now size q emitted after later = Same q emitted after later

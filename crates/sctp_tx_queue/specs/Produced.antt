@@ -44,6 +44,10 @@ abbrev pub emit_expired : {P : Type 0} → ℕ → List Queued → Emitted P →
 emit_expired now [] emitted = emitted
 emit_expired now (m ∷ rest) emitted = if is_stale now m then emit_expired now rest (emit_events (expired_events m.lifecycle) (emit_given_up m.number Lifetime emitted)) else emitted
 
+-- whether no message is left then, where some were dropped
+abbrev pub left_empty : ℕ → List Queued → Option Bool
+left_empty now ms = if is_front_stale now ms then Some (length (fresh now ms) == 0) else None
+
 abbrev pub without_stale : ℕ → Stream → Stream
 without_stale now s = record s { messages = fresh now s.messages }
 

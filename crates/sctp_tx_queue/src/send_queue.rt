@@ -15,7 +15,7 @@ ghost use Rattle.sctp_tx_queue.specs.Produced.{begun_by, turn, turn_from, produc
 ghost use Rattle.sctp_tx_queue.specs.Settings.{set_low_threshold, set_priority, set_mode, discard, begun_without};
 ghost use Rattle.sctp_tx_queue.specs.Resets.{prepare_reset, emit_unsent, is_ready, streams_to_request, request_resets, commit_resets, roll_back_resets, apply_reset_step, each_stepped};
 ghost use Rattle.sctp_tx_queue.specs.Begun.{Begins, GoesOn};
-ghost use Rattle.sctp_tx_queue.specs.Interrupted.{Same, Freed, Stopped, Interrupted, SomeStepped};
+ghost use Rattle.sctp_tx_queue.specs.Interrupted.{Same, Freed, TurnOver, Stopped, Interrupted, SomeStepped};
 ghost use Rattle.sctp_state.specs.Handover.{handover_state_of};
 ghost use Rattle.sctp_tx_queue.specs.Handover.{write_handover};
 ghost use Rattle.sctp_tx_queue.specs.Readiness.{readiness};
@@ -195,27 +195,31 @@ impl SendQueue {
         self.scheduler.peek()
     }
 
-    /// Drops the messages at the front of a stream that expired before they were begun. Without memory nothing changes.
+    /// Drops the messages at the front of a stream that expired before they were begun. Where no other is left, its turn is
+    /// over: it leaves the scheduler, and the answer says so. Without memory nothing changes.
     fn drop_stale(
         &mut self,
         now: SocketTime,
-        id: StreamId,
+        next: StreamTurn,
         events: &mut Events,
-    ) -> Result<(), AllocError>
-        ensures ok { OnOk result (Freed now id.0 self.old events.old self.new events.new) }
+    ) -> Result<bool, AllocError>
+        ensures freed { IfOk result (λ is_over. is_over ≡ false → Freed now next.id.0 self.old events.old self.new events.new) }
+        ensures over { IfOk result (λ is_over. is_over ≡ true → TurnOver now next.id.0 next.size self.old events.old self.new events.new) }
         ensures err { OnErr result (Same self.old events.old self.new events.new) }
     {
+        let id = next.id;
         if !self.streams.is_stale(id, now) {
-            return Ok(());
+            return Ok(false);
         }
+        let Some(is_empty) = self.streams.drop_stale(id, now, events)? else {
+            return Ok(false);
+        };
         self.changed.add(id);
-        let mark = events.mark();
-        if self.streams.emit_stale(id, now, events).is_err() {
-            events.roll_back(mark);
-            return Err(AllocError);
+        if is_empty {
+            self.scheduler.leave(id);
+            self.begun = None;
         }
-        self.streams.change(id, StreamChange::Stale(now));
-        Ok(())
+        Ok(is_empty)
     }
 
     /// The next fragment of a stream. Without memory nothing changes.
@@ -252,7 +256,9 @@ impl SendQueue {
         ensures made { IfOk result (λ found. option_map produced_of found ≡ (turn now next.id.0 next.size self.old events.old).made) }
         ensures err { OnErr result (Stopped now next.id.0 self.old events.old self.new events.new) }
     {
-        self.drop_stale(now, next.id, events)?;
+        if self.drop_stale(now, next, events)? {
+            return Ok(None);
+        }
         self.send_front(next, spares, events)
     }
 
@@ -518,8 +524,9 @@ impl SendQueue {
     }
 
     /// A new association begins: messages that are partly sent are whole again, each stream sends, and its numbers begin
-    /// again. Numbers of messages go on. It takes time by the streams that changed since the last one. Without memory this is
-    /// done for the first streams alone, or for none.
+    /// again. Numbers of messages go on. It takes time by the streams that changed since the last one, or by all that
+    /// were named where 4,096 or more did, or memory lacked for their ids. Without memory this is done for the first streams
+    /// alone, or for none.
     pub fn reset(&mut self) -> Result<(), AllocError>
         ensures ok { OnOk result (self.new ≡ reset self.old) }
         ensures numbers { NumbersGoOn self.old self.new }

@@ -1,5 +1,5 @@
 -- How an end takes a packet: whether it is for this association, then chunk by chunk, then what is due.
-use Rattle.std.specs.Prelude.{ℕ, ◌-◌, ◌/◌, ◌%◌, ◌==◌, ◌||◌, not, Bool, true, false, Option, Some, None, List, [], ◌∷◌, ◌++◌, codes, take}
+use Rattle.std.specs.Prelude.{ℕ, zero, suc, ◌-◌, ◌/◌, ◌%◌, ◌==◌, ◌||◌, not, Bool, true, false, Option, Some, None, List, [], ◌∷◌, ◌++◌, codes, take}
 use Rattle.sctp_wire.specs.Item.{item_bytes}
 use Rattle.hex.specs.Hex.{encode_lower}
 use Rattle.std.specs.Int.{w32, to_be_bytes}
@@ -86,7 +86,18 @@ plain_refusal false true is_init is_own tag own =
     unless is_init (codes "Only a single INIT chunk can be present in packets sent on verification_tag = 0")
 plain_refusal false false is_init is_own tag own = unless is_own (wrong_tag_text tag own)
 
--- the first rule that applies
+-- A rule of ours: nobody puts more than one SACK into a packet (RFC 9260 section 6.2), and each costs as much as is in flight.
+abbrev pub has_more_sacks : ℕ → List ChunkTree → Bool
+has_more_sacks n [] = false
+has_more_sacks zero (sack_chunk k ∷ chunks) = true
+has_more_sacks (suc n) (sack_chunk k ∷ chunks) = has_more_sacks n chunks
+has_more_sacks n (chunk ∷ chunks) = has_more_sacks n chunks
+
+abbrev pub unless_many : (is_many : Bool) → Option (List ℕ) → Option (List ℕ)
+unless_many true refusal = Some (codes "More than 4 SACK chunks present in packet")
+unless_many false refusal = refusal
+
+-- the first rule of RFC 9260 that applies
 abbrev pub packet_refusal_by : (abort complete : Option Bool) → (is_shutdown_ack : Bool) → (tag : ℕ) → List ChunkTree → State → Option (List ℕ)
 packet_refusal_by (Some reflected) complete is_shutdown_ack tag chunks s = unless (has_tag_in s reflected tag) (codes "ABORT chunk verification tag was wrong")
 packet_refusal_by None (Some reflected) is_shutdown_ack tag chunks s = unless (has_tag_in s reflected tag) (codes "SHUTDOWN_COMPLETE chunk verification tag was wrong")
@@ -96,7 +107,8 @@ packet_refusal_by None None false tag chunks s =
 
 -- why a packet is refused
 abbrev pub packet_refusal : (tag : ℕ) → List ChunkTree → State → Option (List ℕ)
-packet_refusal tag chunks s = packet_refusal_by (abort_flag chunks) (complete_flag chunks) (has_shutdown_ack chunks) tag chunks s
+packet_refusal tag chunks s =
+    unless_many (has_more_sacks 4 chunks) (packet_refusal_by (abort_flag chunks) (complete_flag chunks) (has_shutdown_ack chunks) tag chunks s)
 
 -- ---- chunks that what was negotiated forbids
 

@@ -5,6 +5,7 @@ use crate::receiver::pieces::piece;
 use crate::receiver::player::{Player, play_each};
 use crate::words::{Line, yes_or_no};
 use sctp_packet::Data;
+use sctp_reassembly::is_message;
 use sctp_rx::{
     InterleavedKey, Interval, IntervalList, ReassemblyKey, TraditionalKey, UnorderedInterleavedKey,
     is_before,
@@ -132,17 +133,9 @@ fn place_of<K: Key>(list: &IntervalList<K>, key: K) -> usize {
     list.len().saturating_sub(1)
 }
 
-/// Whether a message that begins there has the number.
-fn is_message<K: Key>(first: Option<K>, number: u64) -> bool {
-    match first {
-        Some(first) => first.number() == number,
-        None => false,
-    }
-}
-
 fn is_in_turn<K: Key>(list: &IntervalList<K>, place: usize, number: u64) -> &'static str {
     match list.key_at(place) {
-        Some(key) => yes_or_no(is_message(list.finished_at(key), number)),
+        Some(key) => yes_or_no(is_message(list.finished_at(key), number as u128)),
         None => "refused",
     }
 }

@@ -4,7 +4,7 @@ ghost use Rattle.std.specs.Prelude.{◌≡◌, ◌+◌, ◌-◌, ◌<◌, ◌≤
 ghost use Rattle.sctp_state.specs.Events.{Grown};
 ghost use Rattle.sctp_state.specs.ThresholdWatcher.{crosses};
 ghost use Rattle.sctp_tx_queue.specs.SendQueue.{remaining_bytes, amount_of, watched_amount, blank_stream, sendable, push, is_stopped, has_nothing};
-ghost use Rattle.sctp_tx_queue.specs.Produced.{is_front_stale, emit_expired, without_stale, front_numbers, front_took, next_fragment, advance, pause_after, pause_if_pending, front_needs_room};
+ghost use Rattle.sctp_tx_queue.specs.Produced.{is_front_stale, emit_expired, left_empty, without_stale, front_numbers, front_took, next_fragment, advance, pause_after, pause_if_pending, front_needs_room};
 ghost use Rattle.sctp_tx_queue.specs.Settings.{with_threshold, without_front, front_discarded};
 ghost use Rattle.sctp_tx_queue.specs.Resets.{is_ready, after_step, emit_unsent, prepare_stream, pause_for_reset};
 ghost use Rattle.sctp_tx_queue.specs.Emptied.{emptied, emit_ended};
@@ -55,8 +55,6 @@ pub enum ResetStep {
 /// What is changed of a stream.
 #[derive(Clone, Copy)]
 pub enum StreamChange {
-    /// The messages at its front that expired before they were begun are dropped.
-    Stale(SocketTime),
     /// It has this low threshold.
     Threshold(usize),
     /// It has this priority.
@@ -275,19 +273,30 @@ impl Stream {
         Ok(())
     }
 
-    /// Emits the events of the messages at the front that expired before they were begun.
-    pub(crate) fn emit_stale(&self, now: SocketTime, events: &mut Events) -> Result<(), AllocError>
-        ensures ok { OnOk result (events.new ≡ emit_expired now self.now.messages events.old) }
-        ensures err { OnErr result (Grown events.old events.new) }
+    /// Drops the messages at the front that expired before they were begun, with their events. The answer is whether none
+    /// is left, where some were dropped. Without memory nothing changes.
+    pub(crate) fn drop_stale(
+        &mut self,
+        now: SocketTime,
+        events: &mut Events,
+    ) -> Result<Option<bool>, AllocError>
+        ensures ok { OnOk result (self.new ≡ without_stale now self.old) }
+        ensures emitted { OnOk result (events.new ≡ emit_expired now self.old.messages events.old) }
+        ensures left { IfOk result (λ left. left ≡ left_empty now self.old.messages) }
+        ensures less { amount_of self.new ≤ amount_of self.old }
+        ensures err { OnErr result (self.new ≡ self.old) }
+        ensures silent { OnErr result (events.new ≡ events.old) }
     {
-        self.messages.emit_stale_front(now, events)
-    }
-
-    /// Drops these messages.
-    fn drop_stale(&mut self, now: SocketTime)
-        ensures { self.new ≡ without_stale now self.old }
-    {
+        if !self.messages.is_front_stale(now) {
+            return Ok(None);
+        }
+        let mark = events.mark();
+        if self.messages.emit_stale_front(now, events).is_err() {
+            events.roll_back(mark);
+            return Err(AllocError);
+        }
         self.messages.drop_stale_front(&mut self.buffered, now);
+        Ok(Some(self.messages.is_empty()))
     }
 
     fn front_numbers(&self) -> MessageNumbers
@@ -593,7 +602,6 @@ impl Stream {
         ensures { self.new ≡ changed change self.old }
     {
         match change {
-            StreamChange::Stale(now) => self.drop_stale(now),
             StreamChange::Threshold(bytes) => self.set_low_threshold(bytes),
             StreamChange::Priority(priority) => self.priority = priority,
             StreamChange::Discard(message_id) => self.discard(message_id),

@@ -10,7 +10,7 @@ ghost use Rattle.sctp_state.specs.Events.{Grown};
 ghost use Rattle.sctp_state.specs.Options.{options_of};
 ghost use Rattle.sctp_state.specs.ThresholdWatcher.{crosses};
 ghost use Rattle.sctp_tx_queue.specs.SendQueue.{amount_of, total_of, watched_amount, no_streams, stream, with_stream, put_stream, push, sendable, has_nothing};
-ghost use Rattle.sctp_tx_queue.specs.Produced.{is_front_stale, emit_expired, streams_after, next_fragment, emitted_of, in_line};
+ghost use Rattle.sctp_tx_queue.specs.Produced.{is_front_stale, emit_expired, left_empty, streams_without_stale, streams_after, next_fragment, emitted_of, in_line};
 ghost use Rattle.sctp_tx_queue.specs.Settings.{with_threshold, streams_discarded, front_discarded};
 ghost use Rattle.sctp_tx_queue.specs.Resets.{is_ready, after_step, ready, prepare_stream, emit_unsent};
 ghost use Rattle.sctp_state.specs.Handover.{stream_message_of};
@@ -252,20 +252,27 @@ impl Streams {
         }
     }
 
-    /// Emits the events of the messages at the front of a stream that expired before they were begun.
-    pub(crate) fn emit_stale(
-        &self,
+    /// Drops the messages at the front of a stream that expired before they were begun, with their events. The answer is
+    /// whether none is left, where some were dropped. Without memory nothing changes.
+    pub(crate) fn drop_stale(
+        &mut self,
         id: StreamId,
         now: SocketTime,
         events: &mut Events,
-    ) -> Result<(), AllocError>
-        ensures ok { OnOk result (events.new ≡ emit_expired now (stream id.0 self.now).messages events.old) }
-        ensures err { OnErr result (Grown events.old events.new) }
+    ) -> Result<Option<bool>, AllocError>
+        ensures ok { OnOk result (self.new ≡ streams_without_stale now id.0 self.old) }
+        ensures emitted { OnOk result (events.new ≡ emit_expired now (stream id.0 self.old).messages events.old) }
+        ensures left { IfOk result (λ left. left ≡ left_empty now (stream id.0 self.old).messages) }
+        ensures err { OnErr result (self.new ≡ self.old) }
+        ensures silent { OnErr result (events.new ≡ events.old) }
     {
-        match self.streams.get(&id.0) {
-            Some(stream) => stream.emit_stale(now, events),
-            None => Ok(()),
-        }
+        let Some(stream) = self.streams.get_mut(&id.0) else {
+            return Ok(None);
+        };
+        let before = stream.amount();
+        let left = stream.drop_stale(now, events)?;
+        self.total.decrease(before - stream.amount());
+        Ok(left)
     }
 
     /// A stream sends its next fragment, of at most `size` bytes, with its events: the stream goes in line for the one after

@@ -7,4 +7,4 @@ returns-in_default c = expects_past c.args.expiries.now c.args.items.now.items c
 
 pub returns : goal.returns
 returns c =
-    expects_next c.args.expiries.now c.renew.new.self c.args.place c.expiry.result c.args.items.now.items c.in-Some.item.now (search rules) c.in-Some.ensures.lookup c.expiry.ensures c.renew.ensures c.requires
+    expects_next c.args.expiries.now c.list.new.self c.args.place c.deadline.result c.args.items.now.items c.in-Some.item.now (search rules) c.in-Some.ensures.lookup c.deadline.ensures c.list.ensures c.requires

@@ -11,6 +11,6 @@ returns c = λ is known yes k h.
     elim c.if-self.branch [
       | then-self w ↦
           let listed : ListsUpTo end old.first old.keys.keys c.if-self.places.keys = search rules in
-          found_due old.keys.keys c.if-self.places.keys old.first c.args.now end is (omega (arith, c.as_nanos.ensures.value, c.as_nanos.ensures.small)) (ap (λ n. (n + 1) * 2 ^ 32) c.as_nanos.ensures.value) listed (known (search rules)) k h
+          found_due old.keys.keys c.if-self.places.keys old.first old.dropped c.args.now end is (omega (arith, c.as_nanos.ensures.value, c.as_nanos.ensures.small)) (ap (λ n. (n + 1) * 2 ^ 32) c.as_nanos.ensures.value) listed (known (search rules)) k h
       | else-self w ↦ search rules
     ]

@@ -2,13 +2,13 @@ use Rattle.std.proofs.Common.{◌<◌, ◌^◌, ◌≡◌, ◌≤◌, ◌+◌, �
 use Rattle.std.specs.List.{sum_by}
 use Rattle.std.proofs.lemmas.List.{take_all, take_more, length-take-le}
 use Rattle.sctp_tx_outstanding.specs.declared.totals.Totals.{Totals}
-use Rattle.sctp_tx_outstanding.specs.Item.{Item, never}
+use Rattle.sctp_tx_outstanding.specs.Item.{Item}
 use Rattle.sctp_tx_outstanding.specs.Indexes.{AreIndexes}
 use Rattle.sctp_tx_outstanding.specs.OutstandingData.{queued_part}
 use Rattle.sctp_tx_outstanding.specs.Totals.{AreTotals, replace_part, nothing, parts}
 use Rattle.sctp_tx_outstanding.proofs.TotalsLemmas.{totals_pushed, totals_as}
 use Rattle.sctp_tx_outstanding.specs.Runs.{SameBut, HasRuns}
-use Rattle.sctp_tx_outstanding.proofs.ExpiriesLemmas.{moves_pushed}
+use Rattle.sctp_tx_outstanding.proofs.ExpiriesLemmas.{gains_pushed}
 use Rattle.sctp_tx_outstanding.proofs.PassedLemmas.{passed_before}
 use Rattle.sctp_tx_outstanding.proofs.RunsLemmas.{same_pushed}
 use Rattle.sctp_tx_outstanding.proofs.indexes.Indexes.insert.Goals as goal
@@ -37,17 +37,16 @@ returns c =
     let count : length is ≡ place = length-take-le place items (omega (arith, within)) in
     let few : length (is ++ i ∷ []) < 2 ^ 64 = omega (arith, len, ap (λ (js : List Item). length js) all) in
     let same : SameBut place is (is ++ i ∷ []) = same_pushed is i place count in
-    let earliest = ap (λ (t : Totals). t.earliest) c.of-part.ensures.parts in
     let exchanged : c.with_part-self.result ≡ replace_part nothing (parts m i) old.totals =
     c.with_part-self.ensures ∙ ap (λ (t : Totals). replace_part nothing t old.totals) c.of-part.ensures.parts in
     let totals : AreTotals m (is ++ i ∷ []) c.with_part-self.result =
     totals_as m (is ++ i ∷ []) (is ++ i ∷ []) (replace_part nothing (parts m i) old.totals) c.with_part-self.result (totals_pushed m is i old.totals before.totals few c.of-part.ensures.small) refl exchanged in
-    subst (λ (js : List Item). AreIndexes m js (record { totals = c.with_part-self.result; last_blocks = c.take.new.self; runs = c.see.new.self; messages = c.add.new.self; expiries = c.renew.new.self; passed = old.passed })) (sym all)
+    subst (λ (js : List Item). AreIndexes m js (record { totals = c.with_part-self.result; last_blocks = c.take.new.self; runs = c.see.new.self; messages = c.add.new.self; expiries = c.list.new.self; passed = old.passed })) (sym all)
     (record {
       totals = totals;
       last_blocks = c.take.ensures is i (sym c.is_acked.ensures) before.last_blocks;
       runs = subst (λ (js : List Item). HasRuns c.see.new.self js) all (c.see.ensures is (subst (λ (js : List Item). SameBut place is js) (sym all) same) (subst (λ (js : List Item). c.with_part-self.result.queued ≡ sum_by queued_part js) (sym all) totals.queued) (c.begin.ensures is count before.runs));
       messages = c.add.ensures is i count (sym c.message_id.ensures) before.messages;
-      expiries = c.renew.ensures is (is ++ i ∷ []) (moves_pushed place never c.of-part.result.earliest is i count refl earliest) before.expiries;
+      expiries = c.list.ensures is (is ++ i ∷ []) (gains_pushed place c.deadline.result is i count c.deadline.ensures) before.expiries;
       passed = passed_before m is (i ∷ []) old.passed.count old.passed.left old.passed.touched.items before.passed;
     })
