@@ -1,6 +1,6 @@
 """Packets for run_socket_script, whose checksum is the sum of a packet's bytes, and what one costs its socket b: the processor time and
 the instructions of the call, and the bytes that are on the heap behind it and weren't before. For `attack` and `fuzz`."""
-import os, re, struct, subprocess, sys, tempfile
+import itertools, os, re, struct, subprocess, sys, tempfile
 
 TOP = os.path.dirname(os.path.dirname(os.path.abspath(__file__)))
 RT = os.environ.get("RT", "rt")
@@ -154,21 +154,20 @@ def packet(tag, *chunks):
 
 
 def cut(chunks, size):
-    """As many of the chunks as a packet of this size has room for, without the SACKs that are too many."""
+    """The first of the chunks, as many as there may be in a packet of this size."""
     kept, room, sacks = [], size - HEADER, 0
     for one in chunks:
-        if len(one) > room:
-            return kept
+        room -= len(one)
         sacks += one[0] == 3
-        if one[0] != 3 or sacks <= SACKS:
-            kept.append(one)
-            room -= len(one)
+        if room < 0 or sacks > SACKS:
+            return kept
+        kept.append(one)
     return kept
 
 
 def fill(size, one):
     """As many of one(0), one(1), .. as there may be in a packet of this size."""
-    return cut((one(number) for number in range(size)), size)
+    return cut(map(one, itertools.count()), size)
 
 
 # With these lines b is connected when the packet comes. Tags and first TSNs are those of the script's words.
