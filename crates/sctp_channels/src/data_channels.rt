@@ -26,7 +26,7 @@ use std::marker::Model;
 const MANY: u32 = 1_000_000;
 
 /// So many closing streams are looked at in a row at most, from where the last look ended; behind the last one comes the first.
-const IN_TURN: usize = 64;
+const IN_TURN: usize = 8;
 
 /// The channels of an association.
 ///
@@ -562,8 +562,8 @@ impl DataChannels {
         self.carry_out(socket)
     }
 
-    /// Asks for the resets that are due, up to where of the streams that are next in turn none is: a call costs no more than what it asks for,
-    /// however many streams wait for a peer that takes nothing.
+    /// Asks for the resets that are due, up to where of the streams that are next in turn none is: a call looks at no more than `IN_TURN` for
+    /// each that it asks for and as many beside, however many streams wait for a peer that takes nothing.
     fn settle_in_turn<S: DcSctpSocket>(&mut self, socket: &S) -> Result<(), AllocError>
         ensures steps { OnOk result (Follows self.old self.new) }
         ensures told { StaysTold self.old self.new }

@@ -1,6 +1,6 @@
 //! Packets written: chunks one after the other behind a common header, up to a limit.
 
-ghost use Rattle.std.specs.Prelude.{◌≡◌, ◌≢◌, ◌<◌, ◌≤◌, ◌&&◌, nat_le, max, true, List, [], ◌∷◌, ◌++◌, length, take, drop, IsOk, OnOk, OnErr, IsTrue, ◌↔◌, vec_capacity};
+ghost use Rattle.std.specs.Prelude.{◌≡◌, ◌≢◌, ◌<◌, ◌≤◌, ◌+◌, ◌&&◌, nat_le, max, true, List, [], ◌∷◌, ◌++◌, length, take, drop, IsOk, OnOk, OnErr, IsTrue, ◌↔◌, vec_len, vec_capacity};
 ghost use Rattle.sctp_wire.specs.Field.{be32};
 ghost use Rattle.sctp_wire.specs.Serialize.{IsEncodable, is_encodable};
 ghost use Rattle.sctp_wire.specs.Room.{Fills};
@@ -173,7 +173,8 @@ fn has_room(chunk: &Chunk, room: usize) -> bool
     size <= room
 }
 
-/// Appends a chunk, behind a header where there are no bytes yet.
+/// Appends a chunk, behind a header where there are no bytes yet: then it asks for no more than the limit, so that it fails only
+/// where the capacity was below that, or too small for header and chunk.
 #[tactic(auto, unfolding(sctp_chunk::specs::Written::chunk_bytes))]
 fn push_chunk(
     bytes: &mut Vec<u8>,
@@ -184,6 +185,7 @@ fn push_chunk(
     requires encodable { IsEncodable (chunk_item (chunk_tree chunk.now)) }
     requires whole { chunk_is_whole (chunk_tree chunk.now) ≡ true }
     ensures reserved { bytes.old.items ≡ [] → OnOk result (limit ≤ vec_capacity bytes.new) }
+    ensures full { bytes.old.items ≡ [] → OnErr result (vec_capacity bytes.old < max limit (12 + length (chunk_bytes (chunk_tree chunk.now)))) }
     ensures room { 0 < length bytes.old.items → Fills bytes.old bytes.new (length (chunk_bytes (chunk_tree chunk.now))) result }
     ensures first { bytes.old.items ≡ [] → OnOk result (bytes.new.items ≡ unsummed_bytes (header_tree header) (chunk_bytes (chunk_tree chunk.now))) }
     ensures more { 0 < length bytes.old.items → OnOk result (bytes.new.items ≡ bytes.old.items ++ chunk_bytes (chunk_tree chunk.now)) }
@@ -198,6 +200,7 @@ fn push_chunk(
 /// Reserves what the longest packet takes, and no more.
 fn reserve_packet(bytes: &mut Vec<u8>, limit: usize) -> Result<(), AllocError>
     ensures reserved { bytes.old.items ≡ [] → OnOk result (vec_capacity bytes.new ≡ max (vec_capacity bytes.old) limit) }
+    ensures full { OnErr result (vec_capacity bytes.old < vec_len bytes.old + limit) }
     ensures items { bytes.new.items ≡ bytes.old.items }
     ensures err { OnErr result (vec_capacity bytes.new ≡ vec_capacity bytes.old) }
 {

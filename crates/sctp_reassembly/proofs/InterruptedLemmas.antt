@@ -1,11 +1,11 @@
 -- What a call on one stream leaves where memory runs out before its end.
-use Rattle.std.proofs.Common.{◌≡◌, ℕ, suc, ◌⊎◌, Option, Some, List, [], ◌∷◌, ◌++◌, refl, ap, sym, ◌∙◌, append_assoc, append-nil, inr}
+use Rattle.std.proofs.Common.{◌≡◌, ℕ, suc, ◌⊎◌, Bool, false, cond, nat_lt, Option, Some, List, [], ◌∷◌, ◌++◌, refl, ap, sym, ◌∙◌, append_assoc, append-nil, inr}
 use Rattle.std.specs.List.{find}
 use Rattle.std.specs.Prelude.{Result, Ok, Err, OnErr}
 use Rattle.sctp_serial.specs.Messages.{Message}
 use Rattle.sctp_fragments.specs.Runs.{with_item}
 use Rattle.sctp_fragments.specs.Held.{Held, rank_of, intervals_of, is_in_turn, left_by, message_of_run}
-use Rattle.sctp_reassembly.specs.Delivery.{OrderedStream, OrderedDelivery, delivering, deliver_within, preceded_by}
+use Rattle.sctp_reassembly.specs.Delivery.{OrderedStream, OrderedDelivery, at_rest, delivering, deliver_within, preceded_by}
 use Rattle.sctp_reassembly.specs.ReassemblyStreams.{Entries, stream_at, with_stream, put_stream, set_stream}
 use Rattle.sctp_reassembly.specs.InterruptedStreams.{losing_next, deliver_in_part, ordered_arrival_in_part}
 use Rattle.sctp_reassembly.proofs.EntriesLemmas.{set_opened}
@@ -61,11 +61,14 @@ turns_end n hs new ready pushed first all before left made h = go (h 0)
     go (total, (streams, messages)) = (total, (ap state left ∙ streams, made ∙ (sym (append-nil ready) ∙ messages)))
 
 -- a fragment that is held by now
-pub arrived_in_part : (x : Held) (s t new : OrderedStream) (hs : List Held) (before ready : List Message) → t ≡ s → hs ≡ with_item rank_of x t.held
+pub arrived_in_part : (x : Held) (s t new : OrderedStream) (hs : List Held) (before ready : List Message) → nat_lt x.number s.next ≡ false → t ≡ s → hs ≡ with_item rank_of x t.held
     → (count : ℕ) × ((new ≡ (deliver_in_part count t.next hs).stream) × (ready ≡ before ++ (deliver_in_part count t.next hs).messages))
     → (steps : ℕ) × ((new ≡ (ordered_arrival_in_part steps x s).stream) × (ready ≡ before ++ (ordered_arrival_in_part steps x s).messages))
-arrived_in_part x s t new hs before ready same held (count, (stream, messages)) =
-    let whole : deliver_in_part count t.next hs ≡ ordered_arrival_in_part (suc count) x s = ap (deliver_in_part count t.next) held ∙ ap (ordered_arrival_in_part (suc count) x) same in
+arrived_in_part x s t new hs before ready due same held (count, (stream, messages)) =
+    let whole : deliver_in_part count t.next hs ≡ ordered_arrival_in_part (suc count) x s =
+    ap (deliver_in_part count t.next) held
+    ∙ (ap (λ (q : OrderedStream). deliver_in_part count q.next (with_item rank_of x q.held)) same
+    ∙ sym (ap (λ (b : Bool). cond b (at_rest s.next s.held) (deliver_in_part count s.next (with_item rank_of x s.held))) due)) in
     (suc count, (stream ∙ ap (λ (d : OrderedDelivery). d.stream) whole, messages ∙ ap (λ (d : OrderedDelivery). before ++ d.messages) whole))
 
 -- ---- one stream of a map

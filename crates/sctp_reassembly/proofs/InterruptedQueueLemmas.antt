@@ -1,15 +1,16 @@
 -- What a call on the queue leaves where memory runs out before its end.
 use Rattle.std.proofs.Common.{◌≡◌, ℕ, suc, ◌-◌, ◌<◌, ◌^◌, Bool, true, false, cond, Option, None, List, length, ap, sym, subst, ◌∙◌}
+use Rattle.std.proofs.lemmas.Bool.{lt-leb}
 use Rattle.sctp_serial.specs.Messages.{Message}
 use Rattle.sctp_chunk.specs.Chunk.{FragmentTree}
 use Rattle.sctp_chunk.specs.declared.forward_tsn.SkippedStream.{SkippedStream}
 use Rattle.sctp_serial.specs.declared.api.StreamId.{StreamId}
-use Rattle.sctp_reassembly.specs.ReassemblyStreams.{Streams, Outcome, by_stream, dropped_to, entries_in}
+use Rattle.sctp_reassembly.specs.ReassemblyStreams.{Streams, Outcome, limit, is_far, by_stream, dropped_to, entries_in}
 use Rattle.sctp_reassembly.specs.ReassemblyStreams as whole
 use Rattle.sctp_reassembly.specs.ReassemblyQueue.{Reassembly, Deferred, Waiting, waiting_in, Added, Forwarded, number_of, came, is_kept_back, point_waits, resetting, forward_now, saturating_sum}
 use Rattle.sctp_reassembly.specs.InterruptedStreams as streams
 use Rattle.sctp_reassembly.specs.InterruptedStreams.{Stands}
-use Rattle.sctp_reassembly.specs.InterruptedQueue.{add_now_in_part, forward_now_in_part, add_or_lose, add_in_part, forward_in_part, apply_in_part, apply_each_in_part, reset_in_part}
+use Rattle.sctp_reassembly.specs.InterruptedQueue.{add_now_in_part, forward_now_in_part, add_or_lose, add_in_part, entries_at_once, forward_in_part, apply_in_part, apply_each_in_part, reset_in_part}
 use Rattle.sctp_reassembly.proofs.StandsLemmas.{applied_in_part, nothing_applied, wholly_forwarded}
 
 module _ (n : ℕ) (old now new : Reassembly) (ss : Streams) (ready : List Message) (before : ℕ) (same : old ≡ now) (is : new ≡ record old { streams = ss; ready = ready; ready_count = saturating_sum old.ready_count (length ready - before) }) (counted : before ≡ length old.ready) where
@@ -38,11 +39,17 @@ passes_in_part tsn es entries ss mid after before ready is dropped (taken, steps
 
 -- ---- a TSN came
 
-module _ (tsn n : ℕ) (r mid new : Reassembly) (is : mid ≡ came tsn r) (number : n ≡ number_of r tsn) where
+module _ (tsn n : ℕ) (r mid new : Reassembly) (is : mid ≡ came tsn r) (number : n ≡ number_of r tsn) (near : n < limit) where
+  abbrev told : ℕ
+  told = number_of r tsn
+
+  none_far : is_far told ≡ false
+  none_far = ap is_far (sym number) ∙ lt-leb limit n near
+
   lost_or_added : (f : FragmentTree) (steps : ℕ) (b : Bool) → b ≡ is_kept_back n f.stream_id mid.deferred → cond b mid (add_now_in_part steps n f mid) ≡ add_in_part steps tsn f r
   lost_or_added f steps b kept =
       ap (λ (t : Bool). cond t mid (add_now_in_part steps n f mid)) kept
-      ∙ (ap (λ (k : ℕ). add_or_lose steps k f mid) number ∙ ap (add_or_lose steps (number_of r tsn) f) is)
+      ∙ (ap (λ (k : ℕ). add_or_lose steps k f mid) number ∙ (ap (add_or_lose steps told f) is ∙ sym (ap (λ (b : Bool). cond b r (add_or_lose steps told f (came tsn r))) none_far)))
 
   pub fragment_lost : (f : FragmentTree) → true ≡ is_kept_back n f.stream_id mid.deferred → new ≡ mid → (steps : ℕ) × (new ≡ add_in_part steps tsn f r)
   fragment_lost f kept same = (0, same ∙ lost_or_added f 0 true kept)
@@ -55,7 +62,8 @@ module _ (tsn n : ℕ) (r mid new : Reassembly) (is : mid ≡ came tsn r) (numbe
     at_once taken steps b waits =
         ap (λ (t : Bool). forward_now_in_part taken steps n (cond t (entries_in false (resetting mid.deferred) es) es) mid) waits
         ∙ (ap (λ (k : ℕ). forward_now_in_part taken steps k (cond (point_waits k mid.deferred) (entries_in false (resetting mid.deferred) es) es) mid) number
-        ∙ ap (λ (q : Reassembly). forward_now_in_part taken steps (number_of r tsn) (cond (point_waits (number_of r tsn) q.deferred) (entries_in false (resetting q.deferred) es) es) q) is)
+        ∙ (ap (λ (q : Reassembly). forward_now_in_part taken steps told (entries_at_once told es q.deferred) q) is
+        ∙ sym (ap (λ (b : Bool). cond b r (forward_now_in_part taken steps told (entries_at_once told es r.deferred) (came tsn r))) none_far)))
 
     pub point_comes_in_parts : true ≡ point_waits n mid.deferred → (taken steps : ℕ) × (new ≡ forward_now_in_part taken steps n (entries_in false (resetting mid.deferred) es) mid) → (taken steps : ℕ) × (new ≡ forward_in_part taken steps tsn es r)
     point_comes_in_parts waits (taken, steps, made) = (taken, steps, made ∙ at_once taken steps true waits)

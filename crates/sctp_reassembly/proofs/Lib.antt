@@ -32,3 +32,4 @@ pub mod TurnLemmas
 mod FinishedLemmas
 pub mod MapLemmas
 pub mod PutLemmas
+pub mod WireNumberLemmas

@@ -21,7 +21,7 @@ use Rattle.sctp_fragments.specs.Entries.{items_of}
 use Rattle.sctp_fragments.specs.declared.interval.entries.Entries.{Entries}
 use Rattle.sctp_reassembly.specs.Places.{AreNamed, AreLow, AreHigh, IsSplit, IsWithin, IsChanged, HasRoom, runs_at, last_key, first_key_of}
 
-nat_cmp_same : (k a : ℕ) → k ≡ a → nat_cmp k a ≡ Equal
+pub nat_cmp_same : (k a : ℕ) → k ≡ a → nat_cmp k a ≡ Equal
 nat_cmp_same k a e = rw (le-ltb k a (omega (arith, e)), eq-eqb k a e) refl
 
 nat_cmp_more : (k a : ℕ) → a < k → nat_cmp k a ≡ Greater

@@ -1,15 +1,14 @@
 -- What a call on all streams, or on the queue, leaves where memory runs out before its end.
-use Rattle.std.proofs.Common.{◌≡◌, ℕ, suc, ◌+◌, ◌-◌, ◌<◌, ◌^◌, ◌⊎◌, Bool, true, false, cond, Some, List, [], ◌∷◌, ◌++◌, length, drop, get_or, refl, ap, sym, ◌∙◌, arith, append_assoc, append-nil, inl, inr, length-append, drop-cons}
+use Rattle.std.proofs.Common.{◌≡◌, ℕ, suc, ◌+◌, ◌-◌, ◌<◌, ◌^◌, ◌⊎◌, Bool, true, false, cond, List, [], ◌∷◌, ◌++◌, length, drop, get_or, refl, ap, sym, ◌∙◌, arith, append_assoc, append-nil, inl, inr, length-append, drop-cons}
 use Rattle.sctp_serial.specs.Messages.{Message}
 use Rattle.sctp_chunk.specs.Chunk.{FragmentTree}
 use Rattle.sctp_chunk.specs.declared.forward_tsn.SkippedStream.{SkippedStream}
 use Rattle.sctp_fragments.specs.Held.{Held}
 use Rattle.sctp_reassembly.specs.Delivery.{OrderedStream, OrderedDelivery, UnorderedStream, UnorderedDelivery, fresh_ordered, fresh_unordered, unordered_forward}
-use Rattle.sctp_reassembly.specs.ReassemblyStreams.{Entries, stream_at, set_stream, Streams, Outcome, number_unless_far, place_of, held_as, ordered_number, unordered_number, with_ordered, with_unordered, unchanged, skip_unordered, followed_by, skip, skip_each, by_stream, dropped_to}
+use Rattle.sctp_reassembly.specs.ReassemblyStreams.{Entries, stream_at, set_stream, Streams, Outcome, is_far, held_as, ordered_number, unordered_number, with_ordered, with_unordered, unchanged, skip_unordered, followed_by, skip, skip_each, by_stream, dropped_to}
 use Rattle.sctp_reassembly.specs.ReassemblyQueue.{Reassembly, Waiting, apply, apply_outcome, forward_now, saturating_sum}
-use Rattle.sctp_reassembly.specs.InterruptedStreams.{ordered_arrival_in_part, ordered_forward_in_part, unordered_arrival_in_part, Stands, add_to_stream_in_part, add_in_part, skip_ordered_in_part, skip_in_part, skip_each_in_part}
+use Rattle.sctp_reassembly.specs.InterruptedStreams.{ordered_arrival_in_part, ordered_forward_in_part, unordered_arrival_in_part, Stands, add_ordered_in_part, add_unordered_in_part, add_to_stream_in_part, add_in_part, skip_ordered_in_part, skip_in_part, skip_each_in_part}
 use Rattle.sctp_reassembly.specs.InterruptedQueue.{apply_in_part, apply_each_in_part, forward_now_in_part}
-use Rattle.sctp_reassembly.proofs.SkipLemmas.{near_from, same_from}
 
 -- ---- the streams of an association, where one of a map changed
 
@@ -56,31 +55,28 @@ stands_unordered ss outcome id d new before ready none some left =
     ]
 
 module _ (ss : Streams) (tsn id : ℕ) (f : FragmentTree) (x : Held) (stream : f.stream_id ≡ id) (steps : ℕ) where
-  pub arrives_ordered : f.is_unordered ≡ false → x ≡ held_as ss.is_interleaved (ordered_number ss.is_interleaved f (stream_at fresh_ordered id ss.ordered)) tsn f
+  pub arrives_ordered : f.is_unordered ≡ false → is_far (ordered_number ss.is_interleaved f (stream_at fresh_ordered id ss.ordered)) ≡ false → x ≡ held_as ss.is_interleaved (ordered_number ss.is_interleaved f (stream_at fresh_ordered id ss.ordered)) tsn f
       → add_in_part (suc steps) tsn f ss ≡ with_ordered id (ordered_arrival_in_part steps x (stream_at fresh_ordered id ss.ordered)) ss
-  arrives_ordered kind is =
+  arrives_ordered kind near is =
       ap (λ (b : Bool). add_to_stream_in_part b steps tsn f ss) kind
-      ∙ (ap (λ (i : ℕ). with_ordered i (ordered_arrival_in_part steps (held_as ss.is_interleaved (ordered_number ss.is_interleaved f (stream_at fresh_ordered i ss.ordered)) tsn f) (stream_at fresh_ordered i ss.ordered)) ss) stream
-      ∙ ap (λ (h : Held). with_ordered id (ordered_arrival_in_part steps h (stream_at fresh_ordered id ss.ordered)) ss) (sym is))
+      ∙ (ap (λ (i : ℕ). add_ordered_in_part steps i (held_as ss.is_interleaved (ordered_number ss.is_interleaved f (stream_at fresh_ordered i ss.ordered)) tsn f) ss) stream
+      ∙ (ap (λ (b : Bool). cond b (unchanged ss) (with_ordered id (ordered_arrival_in_part steps (held_as ss.is_interleaved (ordered_number ss.is_interleaved f (stream_at fresh_ordered id ss.ordered)) tsn f) (stream_at fresh_ordered id ss.ordered)) ss)) near
+      ∙ ap (λ (h : Held). with_ordered id (ordered_arrival_in_part steps h (stream_at fresh_ordered id ss.ordered)) ss) (sym is)))
 
-  pub arrives_unordered : f.is_unordered ≡ true → x ≡ held_as ss.is_interleaved (unordered_number ss.is_interleaved f (stream_at fresh_unordered id ss.unordered)) tsn f
+  pub arrives_unordered : f.is_unordered ≡ true → is_far (unordered_number ss.is_interleaved f (stream_at fresh_unordered id ss.unordered)) ≡ false → x ≡ held_as ss.is_interleaved (unordered_number ss.is_interleaved f (stream_at fresh_unordered id ss.unordered)) tsn f
       → add_in_part (suc steps) tsn f ss ≡ with_unordered id (unordered_arrival_in_part steps x (stream_at fresh_unordered id ss.unordered)) ss
-  arrives_unordered kind is =
+  arrives_unordered kind near is =
       ap (λ (b : Bool). add_to_stream_in_part b steps tsn f ss) kind
-      ∙ (ap (λ (i : ℕ). with_unordered i (unordered_arrival_in_part steps (held_as ss.is_interleaved (unordered_number ss.is_interleaved f (stream_at fresh_unordered i ss.unordered)) tsn f) (stream_at fresh_unordered i ss.unordered)) ss) stream
-      ∙ ap (λ (h : Held). with_unordered id (unordered_arrival_in_part steps h (stream_at fresh_unordered id ss.unordered)) ss) (sym is))
+      ∙ (ap (λ (i : ℕ). add_unordered_in_part steps i (held_as ss.is_interleaved (unordered_number ss.is_interleaved f (stream_at fresh_unordered i ss.unordered)) tsn f) ss) stream
+      ∙ (ap (λ (b : Bool). cond b (unchanged ss) (with_unordered id (unordered_arrival_in_part steps (held_as ss.is_interleaved (unordered_number ss.is_interleaved f (stream_at fresh_unordered id ss.unordered)) tsn f) (stream_at fresh_unordered id ss.unordered)) ss)) near
+      ∙ ap (λ (h : Held). with_unordered id (unordered_arrival_in_part steps h (stream_at fresh_unordered id ss.unordered)) ss) (sym is)))
 
-pub numbered : (is_interleaved : Bool) (tsn n m index : ℕ) (f : FragmentTree) → number_unless_far n ≡ Some m → index ≡ place_of is_interleaved tsn f → (let h : Held = record { number = m; index = index; fragment = f } in h) ≡ held_as is_interleaved n tsn f
-numbered is_interleaved tsn n m index f some place =
-    ap (λ (k : ℕ). let h : Held = record { number = k; index = index; fragment = f } in h) (sym (same_from n m some)) ∙ ap (λ (i : ℕ). let h : Held = record { number = n; index = i; fragment = f } in h) place
+pub forwards : (ss : Streams) (id n steps : ℕ) → is_far n ≡ false → skip_ordered_in_part steps id n ss ≡ with_ordered id (ordered_forward_in_part steps n (stream_at fresh_ordered id ss.ordered)) ss
+forwards ss id n steps near = ap (λ (b : Bool). cond b (unchanged ss) (with_ordered id (ordered_forward_in_part steps n (stream_at fresh_ordered id ss.ordered)) ss)) near
 
-pub forwards : (ss : Streams) (id n m steps : ℕ) → number_unless_far n ≡ Some m → skip_ordered_in_part steps id n ss ≡ with_ordered id (ordered_forward_in_part steps m (stream_at fresh_ordered id ss.ordered)) ss
-forwards ss id n m steps some = ap (λ (k : ℕ). with_ordered id (ordered_forward_in_part steps k (stream_at fresh_ordered id ss.ordered)) ss) (same_from n m some)
-
-pub forwards_unordered : (ss : Streams) (id n m : ℕ) → number_unless_far n ≡ Some m → skip_unordered id n ss ≡ with_unordered id (record { stream = unordered_forward m (stream_at fresh_unordered id ss.unordered); messages = [] }) ss
-forwards_unordered ss id n m some =
-    ap (λ (b : Bool). cond b (unchanged ss) (record { streams = record ss { unordered = set_stream fresh_unordered id (unordered_forward n (stream_at fresh_unordered id ss.unordered)) ss.unordered }; messages = [] })) (near_from n m some)
-    ∙ ap (λ (k : ℕ). with_unordered id (record { stream = unordered_forward k (stream_at fresh_unordered id ss.unordered); messages = [] }) ss) (same_from n m some)
+pub forwards_unordered : (ss : Streams) (id n : ℕ) → is_far n ≡ false → skip_unordered id n ss ≡ with_unordered id (record { stream = unordered_forward n (stream_at fresh_unordered id ss.unordered); messages = [] }) ss
+forwards_unordered ss id n near =
+    ap (λ (b : Bool). cond b (unchanged ss) (record { streams = record ss { unordered = set_stream fresh_unordered id (unordered_forward n (stream_at fresh_unordered id ss.unordered)) ss.unordered }; messages = [] })) near
 
 -- what became ready is counted
 pub applied_in_part : (o : Outcome) (r : Reassembly) (ss : Streams) (ready : List Message) (n : ℕ) → n ≡ saturating_sum r.ready_count (length ready - length r.ready) → Stands o r.ready ss ready → record r { streams = ss; ready = ready; ready_count = n } ≡ apply_outcome o r

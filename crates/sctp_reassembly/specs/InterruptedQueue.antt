@@ -5,7 +5,7 @@ use Rattle.sctp_serial.specs.declared.api.StreamId.{StreamId}
 use Rattle.sctp_chunk.specs.Chunk.{FragmentTree}
 use Rattle.sctp_chunk.specs.declared.forward_tsn.SkippedStream.{SkippedStream}
 use Rattle.sctp_reassembly.specs.ReassemblyStreams as streams
-use Rattle.sctp_reassembly.specs.ReassemblyStreams.{entries_in}
+use Rattle.sctp_reassembly.specs.ReassemblyStreams.{is_far, entries_in}
 use Rattle.sctp_reassembly.specs.InterruptedStreams as interrupted
 use Rattle.sctp_reassembly.specs.ReassemblyQueue.{Waiting, Added, Forwarded, Deferred, Reassembly, number_of, came, apply_outcome, is_kept_back, point_waits, resetting, waiting_in, apply}
 
@@ -22,7 +22,7 @@ add_or_lose steps n f r = if is_kept_back n f.stream_id r.deferred then r else a
 
 -- a fragment with this TSN
 abbrev pub add_in_part : ℕ → ℕ → FragmentTree → Reassembly → Reassembly
-add_in_part steps tsn f r = add_or_lose steps (number_of r tsn) f (came tsn r)
+add_in_part steps tsn f r = if is_far (number_of r tsn) then r else add_or_lose steps (number_of r tsn) f (came tsn r)
 
 -- entries that should wait are lost
 abbrev pub entries_at_once : ℕ → List SkippedStream → Option Deferred → List SkippedStream
@@ -30,7 +30,8 @@ entries_at_once n es d = if point_waits n d then entries_in false (resetting d) 
 
 -- a forward point to this TSN
 abbrev pub forward_in_part : ℕ → ℕ → ℕ → List SkippedStream → Reassembly → Reassembly
-forward_in_part taken steps tsn es r = forward_now_in_part taken steps (number_of r tsn) (entries_at_once (number_of r tsn) es r.deferred) (came tsn r)
+forward_in_part taken steps tsn es r =
+    if is_far (number_of r tsn) then r else forward_now_in_part taken steps (number_of r tsn) (entries_at_once (number_of r tsn) es r.deferred) (came tsn r)
 
 abbrev pub apply_in_part : ℕ → ℕ → Waiting → Reassembly → Reassembly
 apply_in_part taken steps (Added n f) r = add_now_in_part steps n f r

@@ -16,3 +16,5 @@ pub mod ReassemblyHandover
 pub mod UnorderedByTsn
 pub mod KeyAt
 pub mod Finished
+pub mod WireNumber
+pub mod NoneForwarded

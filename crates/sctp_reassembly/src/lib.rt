@@ -4,6 +4,7 @@
 mod counted;
 mod dropped;
 mod finished;
+mod from_parts;
 pub mod interval_list;
 mod interval_map;
 mod near;

@@ -222,12 +222,15 @@ impl<K: ReassemblyKey> ReassemblyStream for OrderedStream<K> {
     ghost use Rattle.std.proofs.Common.{refl};
     ghost use Rattle.sctp_reassembly.specs.Delivery.{fresh_ordered, ordered_arrival, ordered_forward};
     ghost use Rattle.sctp_reassembly.specs.InterruptedStreams.{ordered_arrival_in_part, ordered_forward_in_part};
+    ghost use Rattle.sctp_reassembly.specs.NoneForwarded.{none_forwarded};
 
     type Key = K;
 
     ghost held = { λ s. s.held };
 
     ghost fresh = { fresh_ordered };
+
+    ghost reading_point = { λ s. s.next };
 
     ghost after_arrival = { λ h s. (ordered_arrival h s).stream };
 
@@ -269,6 +272,11 @@ impl<K: ReassemblyKey> ReassemblyStream for OrderedStream<K> {
         }
     }
 
+    /// The number of the message that becomes ready next.
+    fn reading_point(&self) -> u128 {
+        self.next()
+    }
+
     /// Adds a fragment, unless its message is below the next one; what is in turn then becomes ready. Takes a few
     /// searches of the map of intervals, and some more for each message that becomes ready. A fragment that is all of the next
     /// message, where nothing is held, is handed on.
@@ -294,4 +302,10 @@ impl<K: ReassemblyKey> ReassemblyStream for OrderedStream<K> {
     }
 
     ghost is_blank = { refl };
+
+    ghost begins = { refl };
+
+    ghost forwards_none = { λ n. refl };
+
+    ghost forwards_none_in_part = { λ steps n. none_forwarded steps n };
 }

@@ -1,16 +1,14 @@
 //! Streams with ordered messages, by their ids.
 
-ghost use Rattle.std.specs.Prelude.{◌≡◌, ◌≤◌, true, IfOk};
-ghost use Rattle.sctp_serial.specs.Unwrapped.{origin, wire};
+ghost use Rattle.std.specs.Prelude.{◌≡◌, true, IfOk};
+ghost use Rattle.sctp_serial.specs.Unwrapped.{wire};
 ghost use Rattle.sctp_state.specs.Validity.{rises_from, ordered_ids};
-ghost use Rattle.sctp_reassembly.specs.Delivery.{fresh_ordered};
 ghost use Rattle.sctp_reassembly.specs.ReassemblyHandover.{ordered_records, ordered_entries, space_of};
-ghost use Rattle.sctp_reassembly.specs.ReassemblyStreams.{stream_at};
 
 use crate::ordered_stream::{FIRST, OrderedStream};
 use crate::stream_map::StreamMap;
 use sctp_fragments::ReassemblyKey;
-use sctp_serial::{Mid, SerialNumber, Ssn, StreamId};
+use sctp_serial::{Mid, SerialNumber, Ssn};
 use sctp_state::api::handover::HandoverOrderedStream;
 use std::alloc::{AllocError, Global};
 use std::collections::BTreeMap;
@@ -45,17 +43,6 @@ impl<K: ReassemblyKey> StreamMap<OrderedStream<K>> {
         ensures rises { IfOk result (λ records. rises_from 0 (ordered_ids records.items) ≡ true) }
     {
         records(alloc, &self.streams, is_interleaved)
-    }
-
-    /// The number of the stream's message that becomes ready next.
-    pub fn next(&self, id: StreamId) -> u128
-        ensures value { result ≡ (stream_at fresh_ordered id.0 self.now).next }
-        ensures range { origin ≤ result }
-    {
-        match self.streams.get(&id.0) {
-            Some(stream) => stream.next(),
-            None => FIRST as u128,
-        }
     }
 }
 

@@ -2,6 +2,7 @@
 
 ghost use Rattle.std.specs.Prelude.{◌≡◌, ℕ, suc, ◌+◌, ◌<◌, ◌≤◌, ◌^◌, ◌++◌, [], List, length, OnOk, OnErr};
 ghost use Rattle.sctp_serial.specs.Messages.{Message};
+ghost use Rattle.sctp_serial.specs.Unwrapped.{origin};
 ghost use Rattle.sctp_fragments.specs.Held.{Held, bytes_of};
 ghost use Rattle.sctp_fragments.specs.Interval.{as_held};
 ghost use Rattle.sctp_reassembly.specs.Delivery.{ready_bytes, Extends};
@@ -22,6 +23,9 @@ pub trait ReassemblyStream: Drop {
     ghost held: { Self → List Held };
 
     ghost fresh: { Self };
+
+    // What the numbers of its messages are read near to.
+    ghost reading_point: { Self → ℕ };
 
     // The stream after a fragment, and what that makes ready.
     ghost after_arrival: { Held → Self → Self };
@@ -54,6 +58,11 @@ pub trait ReassemblyStream: Drop {
     fn held_fragments(&self) -> usize
         ensures { result ≡ length (held self.now) };
 
+    /// The number that those of messages are read near to.
+    fn reading_point(&self) -> u128
+        ensures value { result ≡ reading_point self.now }
+        ensures least { origin ≤ result };
+
     /// Adds a fragment, unless its message is late; what is then in turn, or complete, becomes ready.
     fn add(
         &mut self,
@@ -84,4 +93,11 @@ pub trait ReassemblyStream: Drop {
         ensures fragments { length (held self.new) ≤ length (held self.old) };
 
     ghost is_blank: { held fresh ≡ [] };
+
+    ghost begins: { reading_point fresh ≡ origin };
+
+    // A stream of which nothing came has nothing that a forward point makes ready.
+    ghost forwards_none: { (n : ℕ) → forwarded n fresh ≡ [] };
+
+    ghost forwards_none_in_part: { (steps n : ℕ) → forwarded_in_part steps n fresh ≡ [] };
 }

@@ -10,7 +10,7 @@ ghost use Rattle.sctp_reassembly.specs.ReassemblyHandover.{streams_readiness, st
 ghost use Rattle.sctp_reassembly.specs.ReassemblyStreams.{place_of, no_streams, held_bytes, fragments_of, add, skip, skip_each, dropped_to, forward, reset};
 ghost use Rattle.sctp_reassembly.specs.InterruptedStreams.{Stands, add_in_part, skip_in_part, skip_each_in_part, forward_in_part};
 
-use crate::near::{mid_near, ssn_near};
+use crate::near::WireNumber;
 use crate::ordered_stream::FIRST;
 use crate::ordered_streams::OrderedStreams;
 use crate::ready_messages::ReadyMessages;
@@ -326,19 +326,10 @@ fn add_traditional(
     ensures fragments { fragments_of (streams_of (ReassemblyMode.Traditional ordered.new unordered.new)) ≤ fragments_of (streams_of (ReassemblyMode.Traditional ordered.old unordered.old)) + 1 }
 {
     match fragment.stream_key {
-        StreamKey::Unordered(id) => {
-            let key = TraditionalKey {
-                number: FIRST,
-                index: tsn,
-            };
-            unordered.add(id, key, fragment, ready)
-        }
+        StreamKey::Unordered(id) => { unordered.add(id, tsn, fragment, ready) }
         StreamKey::Ordered(id) => {
-            let Some(number) = ssn_near(ordered.next(id), fragment.ssn) else {
-                return Ok(());
-            };
-            let key = TraditionalKey { number, index: tsn };
-            ordered.add(id, key, fragment, ready)
+            let number = WireNumber::Ssn(fragment.ssn);
+            ordered.add(id, number, tsn, fragment, ready)
         }
     }
 }
@@ -363,21 +354,10 @@ fn add_interleaved(
     ensures fragments { fragments_of (streams_of (ReassemblyMode.Interleaved ordered.new unordered.new)) ≤ fragments_of (streams_of (ReassemblyMode.Interleaved ordered.old unordered.old)) + 1 }
 {
     let index = place_of(&fragment);
+    let number = WireNumber::Mid(fragment.mid);
     match fragment.stream_key {
-        StreamKey::Unordered(id) => {
-            let Some(number) = mid_near(unordered.near(id) as u128, fragment.mid) else {
-                return Ok(());
-            };
-            let key = UnorderedInterleavedKey { number, index };
-            unordered.add(id, key, fragment, ready)
-        }
-        StreamKey::Ordered(id) => {
-            let Some(number) = mid_near(ordered.next(id), fragment.mid) else {
-                return Ok(());
-            };
-            let key = InterleavedKey { number, index };
-            ordered.add(id, key, fragment, ready)
-        }
+        StreamKey::Unordered(id) => { unordered.add(id, number, index, fragment, ready) }
+        StreamKey::Ordered(id) => { ordered.add(id, number, index, fragment, ready) }
     }
 }
 
@@ -400,14 +380,7 @@ fn skip_traditional(
     let SkippedStream::ForwardTsn(id, ssn) = entry else {
         return Ok(());
     };
-    let Some(number) = ssn_near(ordered.next(id), ssn) else {
-        return Ok(());
-    };
-    let first = TraditionalKey {
-        number: number + 1,
-        index: 0,
-    };
-    ordered.forward(id, first, ready)
+    ordered.forward(id, WireNumber::Ssn(ssn), ready)
 }
 
 /// Takes an entry that names a MID.
@@ -430,25 +403,7 @@ fn skip_interleaved(
         return Ok(());
     };
     match key {
-        StreamKey::Unordered(id) => {
-            let Some(number) = mid_near(unordered.near(id) as u128, mid) else {
-                return Ok(());
-            };
-            let first = UnorderedInterleavedKey {
-                number: number + 1,
-                index: 0,
-            };
-            unordered.forward(id, first, ready)
-        }
-        StreamKey::Ordered(id) => {
-            let Some(number) = mid_near(ordered.next(id), mid) else {
-                return Ok(());
-            };
-            let first = InterleavedKey {
-                number: number + 1,
-                index: 0,
-            };
-            ordered.forward(id, first, ready)
-        }
+        StreamKey::Unordered(id) => { unordered.forward(id, WireNumber::Mid(mid), ready) }
+        StreamKey::Ordered(id) => { ordered.forward(id, WireNumber::Mid(mid), ready) }
     }
 }

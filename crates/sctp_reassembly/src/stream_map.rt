@@ -1,17 +1,22 @@
 //! Streams of one kind, by their ids.
 
-ghost use Rattle.std.specs.Prelude.{◌≡◌, ◌==◌, ℕ, suc, ◌+◌, ◌<◌, ◌≤◌, ◌^◌, ◌++◌, ◌⊎◌, [], not, filter, length, IsSome, OnOk, OnErr};
+ghost use Rattle.std.specs.Prelude.{◌≡◌, ◌==◌, ℕ, ◌+◌, ◌<◌, ◌≤◌, ◌^◌, ◌++◌, ◌⊎◌, [], false, if◌then◌else◌, not, filter, length, IsSome, OnOk, OnErr};
 ghost use Rattle.std.specs.List.{list_any};
 ghost use Rattle.std.specs.Map.{lookup};
 ghost use Rattle.std.specs.Ordering.{nat_cmp};
 ghost use Rattle.std.specs.BTreeMap.{is_at};
+ghost use Rattle.sctp_fragments.specs.Held.{bytes_of};
 ghost use Rattle.sctp_fragments.specs.Interval.{as_held};
 ghost use Rattle.sctp_reassembly.specs.Delivery.{ready_bytes, Extends};
-ghost use Rattle.sctp_reassembly.specs.ReassemblyStreams.{bytes_held, fragments_held, AreCounted, stream_at, with_stream, set_stream, forget};
+ghost use Rattle.sctp_reassembly.specs.ReassemblyStreams.{bytes_held, fragments_held, AreCounted, is_far, stream_at, with_stream, set_stream, forget};
+ghost use Rattle.sctp_reassembly.specs.WireNumber.{nearest_of, number_on};
 
+use crate::from_parts::FromParts;
+use crate::near::WireNumber;
 use crate::ready_messages::ReadyMessages;
 use crate::reassembly_stream::ReassemblyStream;
 use sctp_chunk::Data;
+use sctp_fragments::ReassemblyKey;
 use sctp_serial::StreamId;
 use std::alloc::{AllocError, Global};
 use std::collections::BTreeMap;
@@ -78,31 +83,33 @@ impl<S: ReassemblyStream> StreamMap<S> {
         Ok(())
     }
 
-    /// Adds a fragment to its stream.
+    /// Adds a fragment to its stream, which it looks up once. Where the number is too far, nothing changes.
     #[tactic(auto, using(crate::proofs::ExtendsLemmas::extends_none))]
     pub fn add(
         &mut self,
         id: StreamId,
-        key: S::Key,
+        number: WireNumber,
+        index: u64,
         fragment: Data,
         ready: &mut ReadyMessages,
     ) -> Result<(), AllocError>
+    where
+        S::Key: FromParts,
         requires room { bytes_held S.held self.old + ready_bytes ready.old + length fragment.payload.items < 2 ^ 64 }
         requires fragments { fragments_held S.held self.old + 1 < 2 ^ 64 }
-        requires small { S.Key.number key < 2 ^ 63 }
-        ensures ok { OnOk result (self.new ≡ set_stream S.fresh id.0 (S.after_arrival (as_held (S.Key.number key) (S.Key.index key) fragment) (stream_at S.fresh id.0 self.old)) self.old) }
-        ensures ready { OnOk result (ready.new ≡ ready.old ++ S.made_ready (as_held (S.Key.number key) (S.Key.index key) fragment) (stream_at S.fresh id.0 self.old)) }
-        ensures err { OnErr result (((self.new ≡ self.old) × (ready.new ≡ ready.old)) ⊎ ((steps : ℕ) × ((self.new ≡ set_stream S.fresh id.0 (S.arrival_in_part steps (as_held (S.Key.number key) (S.Key.index key) fragment) (stream_at S.fresh id.0 self.old)) self.old) × (ready.new ≡ ready.old ++ S.ready_in_part steps (as_held (S.Key.number key) (S.Key.index key) fragment) (stream_at S.fresh id.0 self.old))))) }
+        ensures ok { OnOk result (self.new ≡ (if is_far (number_on S.reading_point S.fresh id.0 self.old number) then self.old else set_stream S.fresh id.0 (S.after_arrival (as_held (number_on S.reading_point S.fresh id.0 self.old number) index fragment) (stream_at S.fresh id.0 self.old)) self.old)) }
+        ensures ready { OnOk result (ready.new ≡ ready.old ++ (if is_far (number_on S.reading_point S.fresh id.0 self.old number) then [] else S.made_ready (as_held (number_on S.reading_point S.fresh id.0 self.old number) index fragment) (stream_at S.fresh id.0 self.old))) }
+        ensures err { OnErr result ((is_far (number_on S.reading_point S.fresh id.0 self.old number) ≡ false) × (((self.new ≡ self.old) × (ready.new ≡ ready.old)) ⊎ ((steps : ℕ) × ((self.new ≡ set_stream S.fresh id.0 (S.arrival_in_part steps (as_held (number_on S.reading_point S.fresh id.0 self.old number) index fragment) (stream_at S.fresh id.0 self.old)) self.old) × (ready.new ≡ ready.old ++ S.ready_in_part steps (as_held (number_on S.reading_point S.fresh id.0 self.old number) index fragment) (stream_at S.fresh id.0 self.old)))))) }
         ensures kept { Extends ready.old ready.new }
         ensures bytes { bytes_held S.held self.new + ready_bytes ready.new ≤ bytes_held S.held self.old + ready_bytes ready.old + length fragment.payload.items }
         ensures fragments { fragments_held S.held self.new ≤ fragments_held S.held self.old + 1 }
     {
         let Some(stream) = self.streams.get_mut(&id.0) else {
-            return self.add_first(id, key, fragment, ready);
+            return self.add_first(id, number, index, fragment, ready);
         };
         let before = stream.queued_bytes();
         let fragments_before = stream.held_fragments();
-        let added = stream.add(key, fragment, ready);
+        let added = add_to(stream, number, index, fragment, ready);
         self.bytes = self.bytes - before + stream.queued_bytes();
         self.fragments = self.fragments - fragments_before + stream.held_fragments();
         added
@@ -113,17 +120,19 @@ impl<S: ReassemblyStream> StreamMap<S> {
     fn add_first(
         &mut self,
         id: StreamId,
-        key: S::Key,
+        number: WireNumber,
+        index: u64,
         fragment: Data,
         ready: &mut ReadyMessages,
     ) -> Result<(), AllocError>
+    where
+        S::Key: FromParts,
         requires absent { None ≡ lookup (is_at (nat_cmp id.0)) self.old }
         requires room { bytes_held S.held self.old + ready_bytes ready.old + length fragment.payload.items < 2 ^ 64 }
         requires fragments { fragments_held S.held self.old + 1 < 2 ^ 64 }
-        requires small { S.Key.number key < 2 ^ 63 }
-        ensures ok { OnOk result (self.new ≡ set_stream S.fresh id.0 (S.after_arrival (as_held (S.Key.number key) (S.Key.index key) fragment) (stream_at S.fresh id.0 self.old)) self.old) }
-        ensures ready { OnOk result (ready.new ≡ ready.old ++ S.made_ready (as_held (S.Key.number key) (S.Key.index key) fragment) (stream_at S.fresh id.0 self.old)) }
-        ensures err { OnErr result (((self.new ≡ self.old) × (ready.new ≡ ready.old)) ⊎ ((steps : ℕ) × ((self.new ≡ set_stream S.fresh id.0 (S.arrival_in_part steps (as_held (S.Key.number key) (S.Key.index key) fragment) (stream_at S.fresh id.0 self.old)) self.old) × (ready.new ≡ ready.old ++ S.ready_in_part steps (as_held (S.Key.number key) (S.Key.index key) fragment) (stream_at S.fresh id.0 self.old))))) }
+        ensures ok { OnOk result (self.new ≡ (if is_far (number_on S.reading_point S.fresh id.0 self.old number) then self.old else set_stream S.fresh id.0 (S.after_arrival (as_held (number_on S.reading_point S.fresh id.0 self.old number) index fragment) (stream_at S.fresh id.0 self.old)) self.old)) }
+        ensures ready { OnOk result (ready.new ≡ ready.old ++ (if is_far (number_on S.reading_point S.fresh id.0 self.old number) then [] else S.made_ready (as_held (number_on S.reading_point S.fresh id.0 self.old number) index fragment) (stream_at S.fresh id.0 self.old))) }
+        ensures err { OnErr result ((is_far (number_on S.reading_point S.fresh id.0 self.old number) ≡ false) × (((self.new ≡ self.old) × (ready.new ≡ ready.old)) ⊎ ((steps : ℕ) × ((self.new ≡ set_stream S.fresh id.0 (S.arrival_in_part steps (as_held (number_on S.reading_point S.fresh id.0 self.old number) index fragment) (stream_at S.fresh id.0 self.old)) self.old) × (ready.new ≡ ready.old ++ S.ready_in_part steps (as_held (number_on S.reading_point S.fresh id.0 self.old number) index fragment) (stream_at S.fresh id.0 self.old)))))) }
         ensures kept { Extends ready.old ready.new }
         ensures bytes { bytes_held S.held self.new + ready_bytes ready.new ≤ bytes_held S.held self.old + ready_bytes ready.old + length fragment.payload.items }
         ensures fragments { fragments_held S.held self.new ≤ fragments_held S.held self.old + 1 }
@@ -132,68 +141,61 @@ impl<S: ReassemblyStream> StreamMap<S> {
         let Some(stream) = self.streams.get_mut(&id.0) else {
             return Err(AllocError);
         };
-        let added = stream.add(key, fragment, ready);
+        let added = add_to(stream, number, index, fragment, ready);
         self.bytes += stream.queued_bytes();
         self.fragments += stream.held_fragments();
         added
     }
 
-    /// A forward point names the message before that of the key: its stream drops it and those before it.
+    /// A forward point names a message: its stream, which it looks up once, drops it and those before it. Where the number
+    /// is too far, nothing changes.
     #[tactic(auto, using(crate::proofs::ExtendsLemmas::extends_none))]
     pub fn forward(
         &mut self,
         id: StreamId,
-        first: S::Key,
+        number: WireNumber,
         ready: &mut ReadyMessages,
     ) -> Result<(), AllocError>
         requires room { bytes_held S.held self.old + ready_bytes ready.old < 2 ^ 64 }
-        requires some { 0 < S.Key.number first }
-        requires small { S.Key.number first < 2 ^ 63 }
-        ensures ok { (n : ℕ) → S.Key.number first ≡ suc n → S.Key.index first ≡ 0 → OnOk result (self.new ≡ set_stream S.fresh id.0 (S.after_forward n (stream_at S.fresh id.0 self.old)) self.old) }
-        ensures ready { (n : ℕ) → S.Key.number first ≡ suc n → S.Key.index first ≡ 0 → OnOk result (ready.new ≡ ready.old ++ S.forwarded n (stream_at S.fresh id.0 self.old)) }
-        ensures err { (n : ℕ) → S.Key.number first ≡ suc n → S.Key.index first ≡ 0 → OnErr result (((self.new ≡ self.old) × (ready.new ≡ ready.old)) ⊎ ((steps : ℕ) × ((self.new ≡ set_stream S.fresh id.0 (S.forward_in_part steps n (stream_at S.fresh id.0 self.old)) self.old) × (ready.new ≡ ready.old ++ S.forwarded_in_part steps n (stream_at S.fresh id.0 self.old))))) }
+        ensures ok { OnOk result (self.new ≡ (if is_far (number_on S.reading_point S.fresh id.0 self.old number) then self.old else set_stream S.fresh id.0 (S.after_forward (number_on S.reading_point S.fresh id.0 self.old number) (stream_at S.fresh id.0 self.old)) self.old)) }
+        ensures ready { OnOk result (ready.new ≡ ready.old ++ (if is_far (number_on S.reading_point S.fresh id.0 self.old number) then [] else S.forwarded (number_on S.reading_point S.fresh id.0 self.old number) (stream_at S.fresh id.0 self.old))) }
+        ensures err { OnErr result ((is_far (number_on S.reading_point S.fresh id.0 self.old number) ≡ false) × (((self.new ≡ self.old) × (ready.new ≡ ready.old)) ⊎ ((steps : ℕ) × ((self.new ≡ set_stream S.fresh id.0 (S.forward_in_part steps (number_on S.reading_point S.fresh id.0 self.old number) (stream_at S.fresh id.0 self.old)) self.old) × (ready.new ≡ ready.old ++ S.forwarded_in_part steps (number_on S.reading_point S.fresh id.0 self.old number) (stream_at S.fresh id.0 self.old)))))) }
         ensures kept { Extends ready.old ready.new }
         ensures bytes { bytes_held S.held self.new + ready_bytes ready.new ≤ bytes_held S.held self.old + ready_bytes ready.old }
         ensures fragments { fragments_held S.held self.new ≤ fragments_held S.held self.old }
     {
         let Some(stream) = self.streams.get_mut(&id.0) else {
-            return self.forward_first(id, first, ready);
+            return self.forward_first(id, number, ready);
         };
         let before = stream.queued_bytes();
         let fragments_before = stream.held_fragments();
-        let forwarded = stream.forward(first, ready);
+        let forwarded = forward_behind(stream, number, ready);
         self.bytes = self.bytes - before + stream.queued_bytes();
         self.fragments = self.fragments - fragments_before + stream.held_fragments();
         forwarded
     }
 
-    /// The same for a stream of which nothing came, which it makes.
+    /// The same for a stream of which nothing came: it is put in once it was forwarded.
     #[tactic(auto, using(crate::proofs::ExtendsLemmas::extends_none))]
     fn forward_first(
         &mut self,
         id: StreamId,
-        first: S::Key,
+        number: WireNumber,
         ready: &mut ReadyMessages,
     ) -> Result<(), AllocError>
         requires absent { None ≡ lookup (is_at (nat_cmp id.0)) self.old }
         requires room { bytes_held S.held self.old + ready_bytes ready.old < 2 ^ 64 }
-        requires some { 0 < S.Key.number first }
-        requires small { S.Key.number first < 2 ^ 63 }
-        ensures ok { (n : ℕ) → S.Key.number first ≡ suc n → S.Key.index first ≡ 0 → OnOk result (self.new ≡ set_stream S.fresh id.0 (S.after_forward n (stream_at S.fresh id.0 self.old)) self.old) }
-        ensures ready { (n : ℕ) → S.Key.number first ≡ suc n → S.Key.index first ≡ 0 → OnOk result (ready.new ≡ ready.old ++ S.forwarded n (stream_at S.fresh id.0 self.old)) }
-        ensures err { (n : ℕ) → S.Key.number first ≡ suc n → S.Key.index first ≡ 0 → OnErr result (((self.new ≡ self.old) × (ready.new ≡ ready.old)) ⊎ ((steps : ℕ) × ((self.new ≡ set_stream S.fresh id.0 (S.forward_in_part steps n (stream_at S.fresh id.0 self.old)) self.old) × (ready.new ≡ ready.old ++ S.forwarded_in_part steps n (stream_at S.fresh id.0 self.old))))) }
+        ensures ok { OnOk result (self.new ≡ (if is_far (number_on S.reading_point S.fresh id.0 self.old number) then self.old else set_stream S.fresh id.0 (S.after_forward (number_on S.reading_point S.fresh id.0 self.old number) (stream_at S.fresh id.0 self.old)) self.old)) }
+        ensures ready { OnOk result (ready.new ≡ ready.old ++ (if is_far (number_on S.reading_point S.fresh id.0 self.old number) then [] else S.forwarded (number_on S.reading_point S.fresh id.0 self.old number) (stream_at S.fresh id.0 self.old))) }
+        ensures err { OnErr result ((is_far (number_on S.reading_point S.fresh id.0 self.old number) ≡ false) × (((self.new ≡ self.old) × (ready.new ≡ ready.old)) ⊎ ((steps : ℕ) × ((self.new ≡ set_stream S.fresh id.0 (S.forward_in_part steps (number_on S.reading_point S.fresh id.0 self.old number) (stream_at S.fresh id.0 self.old)) self.old) × (ready.new ≡ ready.old ++ S.forwarded_in_part steps (number_on S.reading_point S.fresh id.0 self.old number) (stream_at S.fresh id.0 self.old)))))) }
         ensures kept { Extends ready.old ready.new }
         ensures bytes { bytes_held S.held self.new + ready_bytes ready.new ≤ bytes_held S.held self.old + ready_bytes ready.old }
         ensures fragments { fragments_held S.held self.new ≤ fragments_held S.held self.old }
     {
-        self.open(id)?;
-        let Some(stream) = self.streams.get_mut(&id.0) else {
-            return Err(AllocError);
-        };
-        let forwarded = stream.forward(first, ready);
-        self.bytes += stream.queued_bytes();
-        self.fragments += stream.held_fragments();
-        forwarded
+        let mut stream = S::new(self.alloc);
+        forward_behind(&mut stream, number, ready)?;
+        self.streams.insert(id.0, stream)?;
+        Ok(())
     }
 
     /// Forgets the streams that are named, or all where none is.
@@ -210,6 +212,55 @@ impl<S: ReassemblyStream> StreamMap<S> {
         }
         remove_each(&mut self.streams, &mut self.bytes, &mut self.fragments, ids);
     }
+}
+
+/// Adds a fragment to its stream, unless the number is too far.
+#[tactic(auto, using(crate::proofs::ExtendsLemmas::extends_none))]
+fn add_to<S: ReassemblyStream>(
+    stream: &mut S,
+    number: WireNumber,
+    index: u64,
+    fragment: Data,
+    ready: &mut ReadyMessages,
+) -> Result<(), AllocError>
+where
+    S::Key: FromParts,
+    requires room { bytes_of (S.held stream.old) + ready_bytes ready.old + length fragment.payload.items < 2 ^ 64 }
+    requires fragments { length (S.held stream.old) + 1 < 2 ^ 64 }
+    ensures ok { OnOk result (stream.new ≡ (if is_far (nearest_of number (S.reading_point stream.old)) then stream.old else S.after_arrival (as_held (nearest_of number (S.reading_point stream.old)) index fragment) stream.old)) }
+    ensures ready { OnOk result (ready.new ≡ ready.old ++ (if is_far (nearest_of number (S.reading_point stream.old)) then [] else S.made_ready (as_held (nearest_of number (S.reading_point stream.old)) index fragment) stream.old)) }
+    ensures near { OnErr result (is_far (nearest_of number (S.reading_point stream.old)) ≡ false) }
+    ensures err { OnErr result ((steps : ℕ) × ((stream.new ≡ S.arrival_in_part steps (as_held (nearest_of number (S.reading_point stream.old)) index fragment) stream.old) × (ready.new ≡ ready.old ++ S.ready_in_part steps (as_held (nearest_of number (S.reading_point stream.old)) index fragment) stream.old))) }
+    ensures kept { Extends ready.old ready.new }
+    ensures bytes { bytes_of (S.held stream.new) + ready_bytes ready.new ≤ bytes_of (S.held stream.old) + ready_bytes ready.old + length fragment.payload.items }
+    ensures fragments { length (S.held stream.new) ≤ length (S.held stream.old) + 1 }
+{
+    let Some(number) = number.near(stream.reading_point()) else {
+        return Ok(());
+    };
+    stream.add(S::Key::from_parts(number, index), fragment, ready)
+}
+
+/// Drops the message with the number and those before it, unless the number is too far.
+#[tactic(auto, using(crate::proofs::ExtendsLemmas::extends_none))]
+fn forward_behind<S: ReassemblyStream>(
+    stream: &mut S,
+    number: WireNumber,
+    ready: &mut ReadyMessages,
+) -> Result<(), AllocError>
+    requires room { bytes_of (S.held stream.old) + ready_bytes ready.old < 2 ^ 64 }
+    ensures ok { OnOk result (stream.new ≡ (if is_far (nearest_of number (S.reading_point stream.old)) then stream.old else S.after_forward (nearest_of number (S.reading_point stream.old)) stream.old)) }
+    ensures ready { OnOk result (ready.new ≡ ready.old ++ (if is_far (nearest_of number (S.reading_point stream.old)) then [] else S.forwarded (nearest_of number (S.reading_point stream.old)) stream.old)) }
+    ensures near { OnErr result (is_far (nearest_of number (S.reading_point stream.old)) ≡ false) }
+    ensures err { OnErr result ((steps : ℕ) × ((stream.new ≡ S.forward_in_part steps (nearest_of number (S.reading_point stream.old)) stream.old) × (ready.new ≡ ready.old ++ S.forwarded_in_part steps (nearest_of number (S.reading_point stream.old)) stream.old))) }
+    ensures kept { Extends ready.old ready.new }
+    ensures bytes { bytes_of (S.held stream.new) + ready_bytes ready.new ≤ bytes_of (S.held stream.old) + ready_bytes ready.old }
+    ensures fragments { length (S.held stream.new) ≤ length (S.held stream.old) }
+{
+    let Some(number) = number.near(stream.reading_point()) else {
+        return Ok(());
+    };
+    stream.forward(S::Key::least(number + 1), ready)
 }
 
 /// Takes out the streams that are named, each by a look-up, and what they held off the bytes and the count of fragments.

@@ -10,6 +10,7 @@ ghost use Rattle.sctp_reassembly.specs.ReassemblyHandover.{unordered_records, un
 ghost use Rattle.sctp_reassembly.specs.ReassemblyStreams.{unordered_bytes, unordered_fragments, is_named, stream_at};
 ghost use Rattle.sctp_state.specs.Validity.{rises_from, unordered_ids};
 
+use crate::near::WireNumber;
 use crate::ordered_stream::FIRST;
 use crate::ready_messages::ReadyMessages;
 use crate::unordered_stream::UnorderedStream;
@@ -248,16 +249,15 @@ impl UnorderedByTsn {
     pub fn add(
         &mut self,
         id: StreamId,
-        key: TraditionalKey,
+        tsn: u64,
         fragment: Data,
         ready: &mut ReadyMessages,
     ) -> Result<(), AllocError>
         requires room { unordered_bytes self.old + ready_bytes ready.old + length fragment.payload.items < 2 ^ 64 }
         requires fragments { unordered_fragments self.old + 1 < 2 ^ 64 }
-        requires small { key.number < 2 ^ 63 }
-        ensures ok { OnOk result (self.new ≡ set_stream fresh_unordered id.0 (unordered_arrival (as_held key.number key.index fragment) (stream_at fresh_unordered id.0 self.old)).stream self.old) }
-        ensures ready { OnOk result (ready.new ≡ ready.old ++ (unordered_arrival (as_held key.number key.index fragment) (stream_at fresh_unordered id.0 self.old)).messages) }
-        ensures err { OnErr result (((self.new ≡ self.old) × (ready.new ≡ ready.old)) ⊎ ((steps : ℕ) × ((self.new ≡ set_stream fresh_unordered id.0 (unordered_arrival_in_part steps (as_held key.number key.index fragment) (stream_at fresh_unordered id.0 self.old)).stream self.old) × (ready.new ≡ ready.old ++ (unordered_arrival_in_part steps (as_held key.number key.index fragment) (stream_at fresh_unordered id.0 self.old)).messages)))) }
+        ensures ok { OnOk result (self.new ≡ set_stream fresh_unordered id.0 (unordered_arrival (as_held origin tsn fragment) (stream_at fresh_unordered id.0 self.old)).stream self.old) }
+        ensures ready { OnOk result (ready.new ≡ ready.old ++ (unordered_arrival (as_held origin tsn fragment) (stream_at fresh_unordered id.0 self.old)).messages) }
+        ensures err { OnErr result (((self.new ≡ self.old) × (ready.new ≡ ready.old)) ⊎ ((steps : ℕ) × ((self.new ≡ set_stream fresh_unordered id.0 (unordered_arrival_in_part steps (as_held origin tsn fragment) (stream_at fresh_unordered id.0 self.old)).stream self.old) × (ready.new ≡ ready.old ++ (unordered_arrival_in_part steps (as_held origin tsn fragment) (stream_at fresh_unordered id.0 self.old)).messages)))) }
         ensures kept { Extends ready.old ready.new }
         ensures bytes { unordered_bytes self.new + ready_bytes ready.new ≤ unordered_bytes self.old + ready_bytes ready.old + length fragment.payload.items }
         ensures fragments { unordered_fragments self.new ≤ unordered_fragments self.old + 1 }
@@ -265,7 +265,8 @@ impl UnorderedByTsn {
         let is_noted = self.is_noted;
         let first = self.streams.first(id);
         self.is_noted = false;
-        self.streams.add(id, key, fragment, ready)?;
+        self.streams
+            .add(id, WireNumber::First, tsn, fragment, ready)?;
         self.is_noted = renew_note(is_noted, &self.streams, &mut self.notes, id, first);
         Ok(())
     }

@@ -192,6 +192,8 @@ impl<K: ReassemblyKey> ReassemblyStream for UnorderedStream<K> {
 
     ghost fresh = { fresh_unordered };
 
+    ghost reading_point = { λ s. s.near };
+
     ghost after_arrival = { λ h s. (unordered_arrival h s).stream };
 
     ghost made_ready = { λ h s. (unordered_arrival h s).messages };
@@ -232,6 +234,11 @@ impl<K: ReassemblyKey> ReassemblyStream for UnorderedStream<K> {
         }
     }
 
+    /// The last number that came.
+    fn reading_point(&self) -> u128 {
+        self.near() as u128
+    }
+
     /// Adds a fragment, unless a forward point passed its message; a message that it completes becomes ready. Takes a few
     /// searches of the map of intervals. A fragment that is all of its message, where nothing is held, is handed on.
     ///
@@ -252,4 +259,10 @@ impl<K: ReassemblyKey> ReassemblyStream for UnorderedStream<K> {
     }
 
     ghost is_blank = { refl };
+
+    ghost begins = { refl };
+
+    ghost forwards_none = { λ n. refl };
+
+    ghost forwards_none_in_part = { λ steps n. refl };
 }

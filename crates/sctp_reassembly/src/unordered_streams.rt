@@ -4,7 +4,6 @@ ghost use Rattle.std.specs.Prelude.{◌≡◌, ◌<◌, ◌≤◌, ◌^◌, [], 
 ghost use Rattle.std.specs.List.Sorted.{IsStrictlySortedBy};
 ghost use Rattle.std.specs.Map.{keys_of};
 ghost use Rattle.std.specs.Ordering.{nat_cmp};
-ghost use Rattle.sctp_serial.specs.Unwrapped.{origin};
 ghost use Rattle.sctp_state.specs.Validity.{rises_from, unordered_ids};
 ghost use Rattle.sctp_fragments.specs.ReassemblyKey.{rank_at};
 ghost use Rattle.sctp_reassembly.specs.Delivery.{fresh_unordered, held_from};
@@ -12,7 +11,6 @@ ghost use Rattle.sctp_reassembly.specs.UnorderedByTsn.{BeginsFrom};
 ghost use Rattle.sctp_reassembly.specs.ReassemblyHandover.{unordered_records, unordered_entries};
 ghost use Rattle.sctp_reassembly.specs.ReassemblyStreams.{unordered_bytes, unordered_fragments, stream_at, put_stream};
 
-use crate::ordered_stream::FIRST;
 use crate::reassembly_stream::ReassemblyStream;
 use crate::stream_map::StreamMap;
 use crate::unordered_stream::UnorderedStream;
@@ -48,18 +46,6 @@ impl<K: ReassemblyKey> StreamMap<UnorderedStream<K>> {
         ensures rises { IfOk result (λ records. rises_from 0 (unordered_ids records.items) ≡ true) }
     {
         records(alloc, &self.streams)
-    }
-
-    /// The last number that came on the stream.
-    pub fn near(&self, id: StreamId) -> u64
-        ensures value { result ≡ (stream_at fresh_unordered id.0 self.now).near }
-        ensures least { origin ≤ result }
-        ensures most { result < 2 ^ 63 }
-    {
-        match self.streams.get(&id.0) {
-            Some(stream) => stream.near(),
-            None => FIRST,
-        }
     }
 
     /// The key of the stream's first fragment.

@@ -1,13 +1,15 @@
 -- Fragments that are handed out one after the other, and the list of them: what a turn does doesn't depend on those that went before.
 use Rattle.std.proofs.Common.{◌≡◌, ℕ, zero, suc, ◌<◌, Bool, true, false, Option, Some, None, List, [], ◌∷◌, ◌++◌, length, refl, ap, ap₂, sym, subst, ◌∙◌, inl, inr, arith}
-use Rattle.std.specs.Prelude.{◌&&◌, ◌||◌, ◌⊎◌, nat_lt, if◌then◌else◌}
+use Rattle.std.specs.Prelude.{◌-◌, ◌&&◌, ◌||◌, ◌⊎◌, nat_lt, if◌then◌else◌}
 use Rattle.std.proofs.lemmas.Bool.Decides.{nat_tests}
 use Rattle.sctp_chunk.specs.Chunk.{FragmentTree}
 use Rattle.sctp_state.specs.Events.{Emitted}
+use Rattle.sctp_tx_outstanding.specs.OutstandingData.{Outstanding}
 use Rattle.sctp_tx_queue.specs.SendQueue.{Queue}
 use Rattle.sctp_tx_queue.specs.Produced.{Produced, produce}
 use Rattle.sctp_tx.specs.RetransmissionQueue.{Sender}
-use Rattle.sctp_tx.specs.Resent.{may_send_new, resent, start_t3_if}
+use Rattle.sctp_tx.specs.Windows.{saturate_u64}
+use Rattle.sctp_tx.specs.Resent.{sizes, is_interleaved, may_send_new, resent, resent_by, start_t3_if}
 use Rattle.sctp_tx.specs.Sending.{Filling, QueueStep, append, filling, is_made, offered_payload, queue_step_if, next_turn, fill, discard_all, without_discards, filled_with, timed_filling, send}
 use Rattle.sctp_tx.specs.Interrupted.{NotAppended, NotProduced, TurnStopped, after_turns, PartlyFilled}
 use Rattle.sctp_tx.specs.Taken.{taken_all}
@@ -179,6 +181,28 @@ module _ {P : Type 0} (now most : ℕ) (s : Sender) (q : Queue) (emitted : Emitt
         → after ≡ taken_all taken (send now most s q emitted).chunks before
     taken_is taken before between after eb ea =
         ea ∙ (ap (taken_all taken new.chunks) eb ∙ (sym (taken_append taken begun.chunks new.chunks before) ∙ ap (λ (x : Filling P). taken_all taken x.chunks before) (sym sent_as)))
+
+same_filling : {P : Type 0} (x : Filling P) (t : Sender) (r : Queue) (later : Emitted P) (left : ℕ) → t ≡ x.sender → r ≡ x.queue → later ≡ x.emitted → left ≡ x.left → filling t r later x.chunks left ≡ x
+same_filling x t r later left et er el eleft = rw (et, er, el, eleft) refl
+
+-- what was given up has left the queue of the sender `v`, and what waits is sent again
+module _ {P : Type 0} (now most : ℕ) (s : Sender) (q : Queue) (emitted : Emitted P) (v : Sender) (d : Outstanding) (view_is : v ≡ s) (items : d ≡ record v.outstanding { items = record v.outstanding.items { discards = [] } }) where
+  abbrev pub discarded : Sender
+  discarded = record v { outstanding = d }
+
+  pub discarded_is : discarded ≡ without_discards s
+  discarded_is = ap (λ (o : Outstanding). record v { outstanding = o }) items ∙ ap without_discards view_is
+
+  module _ (r : Queue) (later : Emitted P) (queue : r ≡ (discard_all v.outstanding.items.discards q emitted).queue) (events : later ≡ (discard_all v.outstanding.items.discards q emitted).emitted)
+      (t : Sender) (bytes left : ℕ) (again : t ≡ resent_by discarded (resent most discarded)) (size : bytes ≡ saturate_u64 (sizes (is_interleaved t) (resent most discarded).chunks)) (rest : left ≡ most - bytes) where
+    again_is : t ≡ (begun now most s q emitted).sender
+    again_is = again ∙ ap (λ (x : Sender). resent_by x (resent most x)) discarded_is
+
+    pub begun_is : filling t r later (begun now most s q emitted).chunks left ≡ begun now most s q emitted
+    begun_is = same_filling (begun now most s q emitted) t r later left again_is
+        (queue ∙ ap (λ (x : Sender). (discard_all x.outstanding.items.discards q emitted).queue) view_is)
+        (events ∙ ap (λ (x : Sender). (discard_all x.outstanding.items.discards q emitted).emitted) view_is)
+        (rest ∙ ap (λ (n : ℕ). most - n) (size ∙ ap₂ (λ (u x : Sender). saturate_u64 (sizes (is_interleaved u) (resent most x).chunks)) again_is discarded_is))
 
 -- a list that takes each at its end
 pub listed : {C : Type 0} (cs l : List C) → taken_all (λ (c : C) (m : List C). m ++ c ∷ []) cs l ≡ l ++ cs

@@ -12,8 +12,9 @@ use sctp_serial::SocketTime;
 use std::alloc::Global;
 use std::collections::{BTreeSet, VecDeque};
 
-/// Which items expire when, each under its deadline and its number, if it is known: from the first lifetime that ends on, up to which
-/// one costs a test. Then an item has its key as long as it is kept, so that SACKs which acknowledge it and take it back cost no more.
+/// Which items expire when, each under its deadline and its number, if it is known: once the first lifetime is over of an item that was
+/// missing or lost, up to which one costs a test. Then an item has its key as long as it is kept, so that SACKs which acknowledge it and
+/// take it back cost no more.
 /// Keys go too once their moment has passed: up to the last one of these, those that are missing or lost alone have theirs. Where
 /// memory was missing it isn't known, until all items are looked at.
 #[derive(Drop)]

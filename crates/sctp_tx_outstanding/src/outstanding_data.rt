@@ -399,15 +399,25 @@ impl OutstandingData {
         let are_in_order = are_runs(0, blocks);
         let mut is_lossy = false;
         let mut from = 0;
+        let mut uncovered = 0;
         let mut place = 0;
         while place < count {
-            let (block, next) = pass_idle(&self.kept, blocks, are_in_order, from, place, count);
+            let (block, next, end) = pass_idle(
+                &self.kept,
+                blocks,
+                are_in_order,
+                from,
+                uncovered,
+                place,
+                count,
+            );
             if count <= next {
                 return Ok(is_lossy);
             }
             let is_lost = self.nack_item(next, false, fast, events)?;
             is_lossy |= is_lost;
             from = block;
+            uncovered = end;
             place = next + 1;
         }
         Ok(is_lossy)
@@ -575,8 +585,9 @@ impl OutstandingData {
     /// reports are done.
     ///
     /// Items of which the blocks say what the last SACK's said are passed over as they are settled. Blocks that stand in order, as in a
-    /// SACK that was cleaned, are walked once along with the items. Others are searched whole for each stretch of items that they
-    /// say the same of. Of the payloads that leave a few buffers are kept for the next ones.
+    /// SACK that was cleaned, are walked along with the items. Others are searched whole for each stretch of items of which they say
+    /// one thing and the last SACK's one, and once more where these are reported missing. Of the payloads that leave a few buffers
+    /// are kept for the next ones.
     pub fn handle_sack(
         &mut self,
         sack: &SackChunk,

@@ -54,24 +54,29 @@ pub(crate) fn take_out(kept: &mut Kept, count: usize, spares: &mut SpareBuffers)
     bytes
 }
 
-/// The first block that may cover items behind those that blocks cover from the place on, and the place behind these.
+/// The first block that may cover items behind those that blocks cover from the place on, the place behind these, and one up to which
+/// no block covers items from there on. Before the place `uncovered` none is searched for.
 pub(crate) fn pass_covered(
     blocks: &[GapAckBlock],
     are_in_order: bool,
     from: usize,
+    uncovered: usize,
     place: usize,
-) -> (usize, usize)
+) -> (usize, usize, usize)
     requires small { place + 1 < 2 ^ 64 }
     requires cursor { IsWalk are_in_order blocks.now (place + 1) from }
     ensures cursor { IsWalk are_in_order blocks.now (result.1 + 1) result.0 }
     ensures onward { place ≤ result.1 }
     ensures covered { AllAre true blocks.now 1 place result.1 }
 {
+    if place < uncovered {
+        return (from, place, uncovered);
+    }
     let stretch = stretch_of(blocks, are_in_order, from, place);
     if stretch.is_covered {
-        return (stretch.block, stretch.end);
+        return (stretch.block, stretch.end, stretch.end);
     }
-    (stretch.block, place)
+    (stretch.block, place, stretch.end)
 }
 
 /// The same over items that aren't outstanding, covered or not, up to one that may be or to `count`.
@@ -80,9 +85,10 @@ pub(crate) fn pass_idle(
     blocks: &[GapAckBlock],
     are_in_order: bool,
     from: usize,
+    uncovered: usize,
     place: usize,
     count: usize,
-) -> (usize, usize)
+) -> (usize, usize, usize)
     requires rest { Rest blocks.now 1 kept.now.items }
     requires cursor { IsWalk are_in_order blocks.now (place + 1) from }
     ensures cursor { IsWalk are_in_order blocks.now (result.1 + 1) result.0 }
@@ -90,17 +96,19 @@ pub(crate) fn pass_idle(
     ensures none { NoneFlies place result.1 kept.now.items }
 {
     let mut block = from;
+    let mut end = uncovered;
     let mut next = place;
     while next < count {
-        let (later, uncovered) = pass_covered(blocks, are_in_order, block, next);
-        let flight = kept.next_flight(uncovered);
+        let (later, behind, later_end) = pass_covered(blocks, are_in_order, block, end, next);
+        let flight = kept.next_flight(behind);
         block = later;
+        end = later_end;
         if flight == next {
-            return (block, next);
+            return (block, next, end);
         }
         next = flight;
     }
-    (block, next)
+    (block, next, end)
 }
 
 /// What blocks newly acknowledged.

@@ -1,7 +1,7 @@
 -- A new association, a stream at a time.
 use Rattle.std.proofs.Common.{◌≡◌, ℕ, zero, suc, ◌+◌, ◌<◌, ◌==◌, Bool, true, false, cond, List, [], ◌∷◌, Option, Some, None, length, take, drop, get_or, refl, ap, sym, ◌∙◌, arith, add-one}
 use Rattle.std.specs.Prelude.{map, not, is_some, ◌&&◌}
-use Rattle.std.specs.Map.{lookup, remove_entry, keys_of}
+use Rattle.std.specs.Map.{remove_entry}
 use Rattle.std.specs.Ordering.{nat_cmp}
 use Rattle.std.specs.BTreeMap.{is_at}
 use Rattle.std.proofs.lemmas.Bool.{eqb-true, and_parts}
@@ -12,9 +12,8 @@ use Rattle.sctp_stream_scheduler.specs.StreamScheduler.{Times, Scheduler, finish
 use Rattle.sctp_tx_queue.specs.declared.send_queue.message.MessageNumbers.{MessageNumbers}
 use Rattle.sctp_tx_queue.specs.declared.send_queue.stream.PauseState.{PauseState}
 use Rattle.sctp_tx_queue.specs.declared.send_queue.stream.PauseState.TheVariants.{NotPaused, Pending, Paused, Resetting}
-use Rattle.sctp_tx_queue.specs.SendQueue.{Queue, Queued, Stream, Streams, stream, put_stream, sendable, set_sendable}
+use Rattle.sctp_tx_queue.specs.SendQueue.{Queue, Queued, Stream, stream}
 use Rattle.sctp_tx_queue.specs.Readiness.{waits, has_reset_pending}
-use Rattle.sctp_tx_queue.specs.Settings.{begun_without, set_mode}
 use Rattle.sctp_tx_queue.specs.Restarted.{whole, whole_front, restart, restarted_one, each_restarted, is_unbegun, is_front_unbegun, has_first_numbers, is_restarted, is_in_line, numbers_on, NumbersGoOn}
 use Rattle.sctp_tx_queue.proofs.InOrderLemmas.{each_put}
 

@@ -5,8 +5,7 @@ use Rattle.std.specs.Map.{lookup}
 use Rattle.std.specs.Ordering.{nat_cmp}
 use Rattle.std.specs.BTreeMap.{is_at}
 use Rattle.std.proofs.lemmas.Bool.{eqb-true}
-use Rattle.sctp_state.specs.Events.{Emitted, emit_events, emit_given_up, expired_events}
-use Rattle.sctp_state.specs.declared.api.GivenUpCause.TheVariants.{Lifetime}
+use Rattle.sctp_state.specs.Events.{Emitted}
 use Rattle.sctp_state.specs.ThresholdWatcher.{crosses}
 use Rattle.sctp_stream_scheduler.specs.StreamScheduler.{leave}
 use Rattle.sctp_tx_queue.specs.SendQueue.{Queued, Stream, Streams, Queue, watched_amount, watched_total, stream, sendable}
@@ -21,10 +20,6 @@ none_stale now ms h = go (is_front_stale now ms) h
     go : (b : Bool) → None ≡ cond b (Some (length (fresh now ms) == 0)) None → b ≡ false
     go true e = absurd (cc)
     go false e = refl
-
-pub emit_expired_none : {P : Type 0} → (now : ℕ) (ms : List Queued) (emitted : Emitted P) → is_front_stale now ms ≡ false → emitted ≡ emit_expired now ms emitted
-emit_expired_none now [] emitted h = refl
-emit_expired_none now (m ∷ rest) emitted h = sym (ap (λ b. cond b (emit_expired now rest (emit_events (expired_events m.lifecycle) (emit_given_up m.number Lifetime emitted))) emitted) h)
 
 none_left : (ms : List Queued) → (length ms == 0) ≡ true → ms ≡ []
 none_left [] h = refl

@@ -208,9 +208,6 @@ impl SendQueue {
         ensures err { OnErr result (Same self.old events.old self.new events.new) }
     {
         let id = next.id;
-        if !self.streams.is_stale(id, now) {
-            return Ok(false);
-        }
         let Some(is_empty) = self.streams.drop_stale(id, now, events)? else {
             return Ok(false);
         };

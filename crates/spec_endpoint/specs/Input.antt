@@ -86,7 +86,8 @@ plain_refusal false true is_init is_own tag own =
     unless is_init (codes "Only a single INIT chunk can be present in packets sent on verification_tag = 0")
 plain_refusal false false is_init is_own tag own = unless is_own (wrong_tag_text tag own)
 
--- A rule of ours: nobody puts more than one SACK into a packet (RFC 9260 section 6.2), and each costs as much as is in flight.
+-- Whether there are more SACKs than so many. A rule of ours: nobody puts more than one into a packet, since RFC 9260 (section 6.2) has
+-- at most one made for each packet that came, and each may cost as much as is in flight.
 abbrev pub has_more_sacks : ℕ → List ChunkTree → Bool
 has_more_sacks n [] = false
 has_more_sacks zero (sack_chunk k ∷ chunks) = true

@@ -25,8 +25,8 @@ pub trait DcSctpSocket {
     /// Hands out the message that was ready first.
     fn get_next_message(&mut self) -> Option<Message>;
 
-    /// Takes the bytes of a packet that came. Bytes that are no packet, or not one for this association, are emitted as an
-    /// error and counted; ports aren't compared. Advance the time first: a round trip ends at the moment of the clock.
+    /// Takes the bytes of a packet that came. Bytes that are no packet, not one for this association, or one of more than 4 SACKs, are
+    /// emitted as an error and counted; ports aren't compared. Advance the time first: a round trip ends at the moment of the clock.
     fn handle_input(&mut self, bytes: &[u8]) -> Result<(), CallError>;
 
     /// Advances the time, and expires timers. It comes before the other calls of a turn: they go by this clock and by no

@@ -4,7 +4,7 @@ ghost use Rattle.std.specs.Prelude.{◌≡◌, ◌+◌, ◌-◌, ◌<◌, ◌≤
 ghost use Rattle.sctp_state.specs.Events.{Grown};
 ghost use Rattle.sctp_state.specs.ThresholdWatcher.{crosses};
 ghost use Rattle.sctp_tx_queue.specs.SendQueue.{remaining_bytes, amount_of, watched_amount, blank_stream, sendable, push, is_stopped, has_nothing};
-ghost use Rattle.sctp_tx_queue.specs.Produced.{is_front_stale, emit_expired, left_empty, without_stale, front_numbers, front_took, next_fragment, advance, pause_after, pause_if_pending, front_needs_room};
+ghost use Rattle.sctp_tx_queue.specs.Produced.{emit_expired, left_empty, without_stale, front_numbers, front_took, next_fragment, advance, pause_after, pause_if_pending, front_needs_room};
 ghost use Rattle.sctp_tx_queue.specs.Settings.{with_threshold, without_front, front_discarded};
 ghost use Rattle.sctp_tx_queue.specs.Resets.{is_ready, after_step, emit_unsent, prepare_stream, pause_for_reset};
 ghost use Rattle.sctp_tx_queue.specs.Emptied.{emptied, emit_ended};
@@ -440,13 +440,6 @@ impl Stream {
             Some(message) => Some(message.into_fragment(turn, numbers)),
             None => None,
         }
-    }
-
-    /// Whether the message at the front expired before it was begun.
-    pub(crate) fn is_stale(&self, now: SocketTime) -> bool
-        ensures { result ≡ is_front_stale now self.now.messages }
-    {
-        self.messages.is_front_stale(now)
     }
 
     /// The amount at which the stream is low.

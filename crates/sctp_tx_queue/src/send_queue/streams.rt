@@ -10,7 +10,7 @@ ghost use Rattle.sctp_state.specs.Events.{Grown};
 ghost use Rattle.sctp_state.specs.Options.{options_of};
 ghost use Rattle.sctp_state.specs.ThresholdWatcher.{crosses};
 ghost use Rattle.sctp_tx_queue.specs.SendQueue.{amount_of, total_of, watched_amount, no_streams, stream, with_stream, put_stream, push, sendable, has_nothing};
-ghost use Rattle.sctp_tx_queue.specs.Produced.{is_front_stale, emit_expired, left_empty, streams_without_stale, streams_after, next_fragment, emitted_of, in_line};
+ghost use Rattle.sctp_tx_queue.specs.Produced.{emit_expired, left_empty, streams_without_stale, streams_after, next_fragment, emitted_of, in_line};
 ghost use Rattle.sctp_tx_queue.specs.Settings.{with_threshold, streams_discarded, front_discarded};
 ghost use Rattle.sctp_tx_queue.specs.Resets.{is_ready, after_step, ready, prepare_stream, emit_unsent};
 ghost use Rattle.sctp_state.specs.Handover.{stream_message_of};
@@ -239,16 +239,6 @@ impl Streams {
                 bytes: message.left(),
                 priority: self.default_priority,
             },
-        }
-    }
-
-    /// Whether the message at the front of a stream expired before it was begun.
-    pub(crate) fn is_stale(&self, id: StreamId, now: SocketTime) -> bool
-        ensures { result ≡ is_front_stale now (stream id.0 self.now).messages }
-    {
-        match self.streams.get(&id.0) {
-            Some(stream) => stream.is_stale(now),
-            None => false,
         }
     }
 

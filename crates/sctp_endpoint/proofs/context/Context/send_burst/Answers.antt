@@ -26,3 +26,12 @@ returns-then-not-branch-clause-ok g c =
     burst_off c.max_burst-index-end.result here.index (here.index == 0) c.args.is_alone c.in_ok-send_packet.field-0
     (filling_of g.C.Checksum.word_of here.packet here.tcb here.self) _ c.loop-index-test.true said.filling said.more c.if-not-branch.true
     ∙ (here.invariant.rest ∙ ap (λ (n : ℕ). burst n true c.args.is_alone (filling_of g.C.Checksum.word_of c.args.packet.now c.args.tcb.now c.args.self.now)) here.invariant.end)
+
+pub returns-clause-goes_on : goal.returns-clause-goes_on
+returns-clause-goes_on g c = c.loop-index.invariant.goes_on
+
+pub returns-then-not-branch-clause-goes_on : goal.returns-then-not-branch-clause-goes_on
+returns-then-not-branch-clause-goes_on g c = goes_on_through c.args.self.now c.loop-index.self _ c.loop-index.invariant.goes_on c.send_packet.ensures.goes_on
+
+pub returns-in_err-send_packet-clause-goes_on : goal.returns-in_err-send_packet-clause-goes_on
+returns-in_err-send_packet-clause-goes_on g c = goes_on_through c.args.self.now c.loop-index.self _ c.loop-index.invariant.goes_on c.send_packet.ensures.goes_on

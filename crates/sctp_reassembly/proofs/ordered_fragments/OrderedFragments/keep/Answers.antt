@@ -31,7 +31,7 @@ returns-then-self-clause-ready g c =
 pub returns-in_err-deliver-clause-err : goal.returns-in_err-deliver-clause-err
 returns-in_err-deliver-clause-err g c =
     let x = as_held (g.K.ReassemblyKey.number c.args.key) (g.K.ReassemblyKey.index c.args.key) c.args.fragment in
-    on_err c.from_residual-in_err-deliver.result (arrived_in_part x c.args.self.now _ _ c.add_in.new.list c.args.ready.now c.deliver.new.ready c.self.view_is c.in_ok-is_turn.ensures.value c.in_err-deliver.ensures.err)
+    on_err c.from_residual-in_err-deliver.result (arrived_in_part x c.args.self.now _ _ c.add_in.new.list c.args.ready.now c.deliver.new.ready c.requires.due c.self.view_is c.in_ok-is_turn.ensures.value c.in_err-deliver.ensures.err)
 
 pub returns-in_err-deliver-clause-bytes : goal.returns-in_err-deliver-clause-bytes
 returns-in_err-deliver-clause-bytes g c = omega (arith, c.in_ok-is_turn.ensures.bytes, c.deliver.ensures.bytes, ap (λ (s : OrderedStream). bytes_of s.held) c.self.view_is)

@@ -1,25 +1,14 @@
-use Rattle.std.proofs.Common.{◌≡◌, false, Some, None, ap, sym, subst, ◌∙◌, refl}
+use Rattle.std.proofs.Common.{Some, None, ap, sym, subst, ◌∙◌, refl}
 use Rattle.std.specs.Prelude.{option_map}
 use Rattle.sctp_stream_scheduler.specs.StreamScheduler.{Scheduler}
 use Rattle.sctp_tx_queue.specs.SendQueue.{Queue, Streams, stream}
-use Rattle.sctp_tx_queue.specs.Produced.{is_front_stale, without_stale, streams_without_stale}
+use Rattle.sctp_tx_queue.specs.Produced.{without_stale, streams_without_stale}
 use Rattle.sctp_tx_queue.specs.Interrupted.{TurnOver}
 use Rattle.sctp_tx_queue.specs.Restarted.{ResetKeeps}
 use Rattle.sctp_tx_queue.proofs.AddedLemmas.{keeps_one, keeps_put}
-use Rattle.sctp_tx_queue.proofs.StaleLemmas.{none_stale, emit_expired_none, turn_over}
+use Rattle.sctp_tx_queue.proofs.StaleLemmas.{none_stale, turn_over}
 use Rattle.sctp_tx_queue.proofs.WholeLemmas.{streams_fresh}
 use Rattle.sctp_tx_queue.proofs.send_queue.SendQueue.drop_stale.Goals as goal
-
-pub returns-then-not-is_stale-clause-freed : goal.returns-then-not-is_stale-clause-freed
-returns-then-not-is_stale-clause-freed c =
-    λ e. let id = c.args.next.id.0 in
-    let q = c.args.self.now in
-    let fresh : is_front_stale c.args.now (stream id q.streams).messages ≡ false =
-    ap (λ (x : Queue). is_front_stale c.args.now (stream id x.streams).messages) (sym c.self.view_is) ∙ sym c.is_stale.ensures ∙ c.if-not-is_stale.true in
-    record {
-      queue = ap (λ (ss : Streams). let r : Queue = record q { streams = ss } in r) (streams_fresh c.args.now id q.streams fresh);
-      events = emit_expired_none c.args.now (stream id q.streams).messages c.args.events.now fresh;
-    }
 
 pub invariant_of-self-in_default : goal.invariant_of-self-in_default
 invariant_of-self-in_default c =
