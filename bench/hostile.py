@@ -7,7 +7,7 @@ RT = os.environ.get("RT", "rt")
 PROGRAM = f"{TOP}/crates/run_socket_script/out/run_socket_script"
 HEADER = 12
 SMALL, LARGE = 1500, 65532
-SACKS = 4  # a packet of more is refused
+SACKS = 4  # a packet of more of these and of COOKIE ECHOs is refused
 # With COUNTS it counts what is on the heap, which takes time of its own. Of the function at WATCHED it tells, as each call begins and
 # ends, the processor time and the bytes there: an int3 stands at its first byte, and during a call at the one to which it returns.
 WATCH = r"""
@@ -158,7 +158,7 @@ def cut(chunks, size):
     kept, room, sacks = [], size - HEADER, 0
     for one in chunks:
         room -= len(one)
-        sacks += one[0] == 3
+        sacks += one[0] in (3, 10)
         if room < 0 or sacks > SACKS:
             return kept
         kept.append(one)

@@ -239,7 +239,7 @@ uint32_t pigeon_shutdown(pigeon_socket *socket);
  * where the peer aborts: what it holds goes to the peer of the next association, a partly sent message from its start, but from its middle at an
  * end that answers the peer's COOKIE ECHO. With it each message is given up, as PIGEON_CAUSE_ENDED. */
 uint32_t pigeon_close(pigeon_socket *socket);
-/* Takes the bytes of a packet that came. What is no packet, not one for this association, or one of more than 4 SACKs, is emitted as an error.
+/* Takes the bytes of a packet that came. What is no packet, not one for this association, or one of more than 4 SACKs and COOKIE ECHOs, is emitted as an error.
  * Advance the time first: a round trip ends at the moment of the clock. */
 uint32_t pigeon_handle_input(pigeon_socket *socket, const uint8_t *bytes, size_t length);
 /* Advances the time, in nanoseconds since the socket was made, and expires timers. It comes before the other calls of a turn: with a clock that
@@ -257,7 +257,7 @@ uint32_t pigeon_clock(const pigeon_socket *socket, uint64_t *nanos);
  * nothing. Else 0. */
 uint32_t pigeon_is_at_rest(const pigeon_socket *socket, uint32_t *rest);
 /* Whether pigeon_handle_input would refuse these bytes, 1 or 0: they are no packet, not one for this association, or one of more than 4
- * SACKs. It takes no memory.
+ * SACKs and COOKIE ECHOs. It takes no memory.
  * PIGEON_FAILED: the socket has failed, and takes none. */
 uint32_t pigeon_refuses(const pigeon_socket *socket, const uint8_t *bytes, size_t length, uint32_t *refused);
 /* Sets the most bytes of a message that is sent. At 0 each is refused, where an a=max-message-size of 0 (RFC 8841) means any. With
@@ -492,7 +492,8 @@ static inline uint16_t pigeon_stream_at(const uint8_t *bytes, size_t place) {
 
 /* Hands out the event that was emitted first. Take all of them each turn: those that wait are kept, however many there are.
  * PIGEON_SHORT_BUFFER: it stays, and `length` says what it needs. PIGEON_NO_ROOM, which events of streams alone answer: it stays.
- * PIGEON_INVALID_SIZE. Packets need at most the options' mtu, texts more; what stays holds back all behind it. */
+ * PIGEON_INVALID_SIZE. Packets need at most the options' mtu, texts more, streams that are reset two bytes each, and a packet may name
+ * 32,750; what stays holds back all behind it. */
 uint32_t pigeon_poll_event_sized(pigeon_socket *socket, void *event, size_t size, uint8_t *buffer, size_t length);
 static inline uint32_t pigeon_poll_event(pigeon_socket *socket, pigeon_event *event, uint8_t *buffer, size_t length) {
     return pigeon_poll_event_sized(socket, event, event->size, buffer, length);
@@ -540,7 +541,8 @@ typedef struct pigeon_channels_options {
     uint32_t role;
     uint32_t max_message_size;      /* own a=max-message-size (RFC 8841): longer messages that come are refused; at 0 all but empty ones */
     uint32_t peer_max_message_size; /* the peer's, 65,536 where its description has none: a longer message isn't sent; any is at 0 */
-    uint32_t max_buffered_amount;   /* a message by which more than this would wait on its channel isn't taken */
+    uint32_t max_buffered_amount;   /* a message by which more than this would wait on its channel isn't taken; nor is one
+                                       beyond per_stream_send_queue_limit or max_send_buffer_size of the socket's options */
     uint32_t max_kept_bytes;        /* of labels, protocols and unfinished messages that all channels keep: an opening by the peer beyond it
                                        is refused, and a part of a message beyond it drops that; what this end opens counts and is taken */
     uint32_t reserved;              /* 0: the place of a later field */
@@ -595,12 +597,14 @@ static inline uint32_t pigeon_channel_negotiate(pigeon_socket *socket, uint32_t 
 /* Sends a copy of a message; `kind` is PIGEON_CHANNEL_TEXT or PIGEON_CHANNEL_BINARY, and the message may be empty. Advance the time first.
  * PIGEON_INVALID_ARGUMENT (another kind), PIGEON_NO_CHANNEL, PIGEON_CHANNEL_CLOSING, PIGEON_NOT_UTF8, PIGEON_MESSAGE_TOO_LARGE (for the peer),
  * PIGEON_QUEUE_FULL (max_buffered_amount, which a longer message always exceeds: go on at PIGEON_BUFFERED_AMOUNT_LOW, where more than the threshold
- * waits), PIGEON_NOT_TAKEN (where the queue of all is full: go on at PIGEON_TOTAL_BUFFERED_AMOUNT_LOW), PIGEON_NO_ROOM: it isn't sent. */
+ * waits), PIGEON_NOT_TAKEN (the socket's queue of all streams, or of this one, is full: go on at PIGEON_TOTAL_BUFFERED_AMOUNT_LOW, or
+ * PIGEON_BUFFERED_AMOUNT_LOW; or its own max_message_size is exceeded, or it shuts down: then it never is), PIGEON_NO_ROOM: it isn't sent. */
 uint32_t pigeon_channel_send(pigeon_socket *socket, uint32_t channel, uint32_t kind, const uint8_t *payload, size_t length);
 
 /* Closes a channel: what was accepted is sent, then its stream is reset. PIGEON_CHANNEL_CLOSED tells when that is done. Where the peer closes
- * a channel, also one that is being closed here, what waits for it is dropped, as by Chromium. Where the reset is refused (no association yet, a
- * peer without RFC 6525, or one that denies it) its number stays in use until the association ends. Advance the time first. PIGEON_NO_CHANNEL. */
+ * a channel, also one that is being closed here, what waits for it is dropped, as by Chromium. Where the reset is refused (of a channel that was
+ * negotiated, before there is an association; by a peer without RFC 6525, or that denies it) its number stays in use until the association ends.
+ * Advance the time first. PIGEON_NO_CHANNEL. */
 uint32_t pigeon_channel_close(pigeon_socket *socket, uint32_t channel);
 
 /* Why something that came was not taken. */
@@ -620,7 +624,8 @@ uint32_t pigeon_channels_handle_input(pigeon_socket *socket, const uint8_t *byte
 
 /* Hands out the event that comes next, of the socket or of its channels: packets to send and messages are among them. Take all of them each turn.
  * The `length` bytes at `bytes` are the socket's, and are lent until the next call with it, as those of pigeon_borrow_event. PIGEON_NOTHING: none is
- * left. PIGEON_NO_ROOM: the event stays. PIGEON_INVALID_SIZE. */
+ * left. PIGEON_NO_ROOM: the event stays. PIGEON_INVALID_SIZE. Of the socket's events those of resets aren't handed out, of no stream: channels
+ * take them. */
 uint32_t pigeon_channels_borrow_event_sized(pigeon_socket *socket, void *event, size_t size, const uint8_t **bytes);
 static inline uint32_t pigeon_channels_borrow_event(pigeon_socket *socket, pigeon_event *event, const uint8_t **bytes) {
     return pigeon_channels_borrow_event_sized(socket, event, event->size, bytes);

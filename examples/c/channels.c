@@ -58,7 +58,7 @@ static int take_events(const char *name, pigeon_socket *from, pigeon_socket *to)
             packets++;
         } else
             show_event(name, from, &event, bytes);
-    while (pigeon_next_given_up(from, &record) == PIGEON_OK) {} /* of a channel that isn't reliable: kept until it is taken */
+    while (pigeon_next_given_up(from, &record) == PIGEON_OK) {} /* kept until taken; of any channel, also of one that is reset */
     return packets;
 }
 

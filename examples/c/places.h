@@ -1,5 +1,5 @@
 /* SPDX-License-Identifier: Apache-2.0 */
-/* The places of all fields, as the library reads and writes them. */
+/* The places of all fields but `reserved`, as the library reads and writes them. */
 #include "shelfpigeon.h"
 
 #define AT(type, field, place) _Static_assert(offsetof(type, field) == (place), #type "." #field)

@@ -3,6 +3,7 @@
 """A page to chat with: `python3 echo.py`, and open http://127.0.0.1:8000 in a browser. What is typed there goes over a data channel, whose other
 end is here: aiortc's ICE and DTLS, and the SCTP of this repository. Needs aiortc, and the package: pip install ./python, or PYTHONPATH=python."""
 import asyncio
+import contextlib
 import json
 import sys
 
@@ -66,7 +67,8 @@ async def answer(offer: dict) -> dict:
 
 def reply(channel, message) -> None:
     print(f"{channel.label}: {message}", flush=True)
-    channel.send(f"echo: {message}" if isinstance(message, str) else message)
+    with contextlib.suppress(aiortc.exceptions.InvalidStateError, aiortc.exceptions.OperationError):  # it is closing, or takes no more
+        channel.send(f"echo: {message}" if isinstance(message, str) else message)
 
 
 async def serve(reader: asyncio.StreamReader, writer: asyncio.StreamWriter) -> None:

@@ -32,7 +32,7 @@ T = TypeVar("T")
 LARGEST = 262144
 MOST_TO_ACCEPT = 1024
 # No more channels are asked in one turn how much they buffer.
-COUNTED_A_TURN = 64
+COUNTED_A_TURN = 8
 
 
 def options_for(max_message_size: int, /, **fields: int) -> Options:
@@ -194,6 +194,34 @@ class Wire(Protocol):
     def close(self) -> None: ...
 
 
+class Flag:
+    """What an `asyncio.Event` is, which takes its 0.9 KB only while someone waits: a peer may have very many channels opened."""
+
+    __slots__ = ("_is_set", "_awaited")
+
+    def __init__(self):
+        self._is_set, self._awaited = False, None
+
+    def is_set(self) -> bool:
+        return self._is_set
+
+    def set(self) -> None:
+        self._is_set = True
+        if self._awaited is not None:
+            self._awaited.set()
+            self._awaited = None
+
+    def clear(self) -> None:
+        self._is_set = False
+
+    async def wait(self) -> None:
+        if self._is_set:
+            return
+        if self._awaited is None:
+            self._awaited = asyncio.Event()
+        await self._awaited.wait()
+
+
 class ChannelClosed(ConnectionError):
     """The channel has been closed. Where `receive` says so, all that came was received, or this end has closed it."""
 
@@ -207,10 +235,7 @@ class Channel:
         self._connection = connection
         self._channel = channel
         self._came: deque[Union[str, bytes]] = deque()
-        self._news = asyncio.Event()
-        self._room = asyncio.Event()
-        self._opened = asyncio.Event()
-        self._closed = asyncio.Event()
+        self._news, self._room, self._opened, self._closed = Flag(), Flag(), Flag(), Flag()
         self._left = False
         channel.buffered_amount_low_threshold = connection.high_water // 2
 
@@ -300,12 +325,13 @@ class Channel:
 class Connection:
     """An association with data channels over a wire. `packet_received` takes what comes by it.
 
-    Each channel buffers `high_water` bytes, then `Channel.send` waits. With `read_limit` bytes that came and weren't received, where each message
+    Each channel buffers `high_water` bytes, then `Channel.send` waits; it raises QueueFull where the options let less wait, on a stream (16 MiB by
+    `Options.for_webrtc`) or on all. With `read_limit` bytes that came and weren't received, where each message
     counts 64 more, and of text that isn't ASCII each character four, the wire is told to pause: what it then drops the peer sends again, and slower.
     Label and protocol of a channel count so until it is accepted. So the channels that the peer opens are to be accepted, and those that aren't read any
     more closed. While 1,024 wait to be accepted the next ones are closed; one that the peer has closed meanwhile, by which nothing came, waits no more.
 
-    Without `options` the window is twice `max_message_size`, which is what the peer may send, and as long a message may be sent, 262,144 bytes at
+    Without `options` the window is twice `max_message_size`, which is what the peer may send, 524,288 bytes at least, and as long a message may be sent, 262,144 bytes at
     least, where `peer_max_message_size` allows it. `max_kept_bytes` is as of `Channels`."""
 
     def __init__(

@@ -118,4 +118,5 @@ class ChannelRefused:
 
 
 SocketEvent = Union[Packet, Connected, Closed, Restarted, Aborted, Reported, TotalBufferedAmountLow, BufferedAmountLow, StreamsReset, Lifecycle]
+# (a socket with channels hands out no StreamsReset: channels take it)
 ChannelsEvent = Union[SocketEvent, ChannelOpened, ChannelMessage, ChannelBufferedAmountLow, ChannelClosed, ChannelRefused]

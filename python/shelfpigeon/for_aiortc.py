@@ -30,7 +30,8 @@ logger = logging.getLogger(__name__)
 @dataclass
 class Settings:
     """`options` are fields of `Options` that are to have another value, `max_message_size` is the a=max-message-size that is announced, by which the
-    window is twice as wide, `max_buffered_amount` what a channel buffers before `send` raises OperationError, and `max_kept_bytes` is as of
+    window is twice as wide, 524,288 bytes at least, `max_buffered_amount` what a channel buffers before `send` raises OperationError (above 16 MiB with
+    `per_stream_send_queue_limit` among the options), and `max_kept_bytes` is as of
     `Channels`. Messages that are sent have at most `max_message_size` bytes or 262,144, whichever is more, where the peer takes them: at a longer one
     `send` raises ValueError."""
 
@@ -265,7 +266,7 @@ class SctpTransport(RTCSctpTransport):
         if len(mine.label.encode()) > 65535 or len(mine.protocol.encode()) > 65535:
             raise ValueError("a label or a protocol has at most 65,535 bytes")
         channel_options(**kind_of(mine), priority=0)  # raises where a number is out of bounds
-        if mine.negotiated and mine.id in [it.id for it in [*self._waiting, *self._plain]]:
+        if mine.negotiated and mine.id in [it.id for it in self._waiting]:  # `negotiate` looks at those that there are
             raise ValueError(f"there is a channel {mine.id} already")
         if self._driver is None:
             self._waiting.append(mine)

@@ -171,7 +171,7 @@ class End:
         return bool(self._read(self._library.pigeon_is_at_rest, c_uint32))
 
     def refuses(self, packet: bytes) -> bool:
-        """Whether these bytes are no packet, not one for this association, or one of more than 4 SACKs."""
+        """Whether these bytes are no packet, not one for this association, or one of more than 4 SACKs and COOKIE ECHOs."""
         return bool(self._read(self._library.pigeon_refuses, c_uint32, packet, len(packet)))
 
     @property

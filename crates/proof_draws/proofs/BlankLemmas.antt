@@ -2,7 +2,7 @@
 use Rattle.std.proofs.Common.{◌≡◌, ℕ, zero, suc, ◌==◌, Bool, true, false, Option, Some, None, List, [], ◌∷◌, map, refl, sym, ap, ◌∙◌}
 use Rattle.sctp_packet.specs.Chunk.{ChunkTree, init_chunk, sack_chunk, cookie_echo_chunk, data_chunk, abort_chunk, shutdown_chunk, shutdown_ack_chunk, shutdown_complete_chunk}
 use Rattle.spec_endpoint.specs.Association.{State, Closed, CookieWait, Open, Endpoint}
-use Rattle.spec_endpoint.specs.Input.{abort_flag, complete_flag, has_shutdown_ack, begins_with_cookie, is_single_init, my_tag, plain_refusal, has_more_sacks, unless_many, packet_refusal_by, packet_refusal, AfterChunk, violation, received_if, receive, receive_rest, receive_all, has_data_chunk, on_accepted_packet, packet_if, count_packet_at, in_endpoint_state, repeats_if, on_packet_end}
+use Rattle.spec_endpoint.specs.Input.{abort_flag, complete_flag, has_shutdown_ack, begins_with_cookie, is_single_init, my_tag, plain_refusal, has_more_counted, unless_many, packet_refusal_by, packet_refusal, AfterChunk, violation, received_if, receive, receive_rest, receive_all, has_data_chunk, on_accepted_packet, packet_if, count_packet_at, in_endpoint_state, repeats_if, on_packet_end}
 use Rattle.spec_endpoint.specs.Association.{where_open}
 use Rattle.proof_endpoint.specs.Mapped.{Carried}
 
@@ -51,17 +51,19 @@ single_blank (init_chunk i ∷ []) = refl
 single_blank (init_chunk i ∷ d ∷ cs) = refl
 single_blank (c ∷ cs) = refl
 
-sacks_blank : (n : ℕ) (cs : List ChunkTree) → has_more_sacks n (blanks cs) ≡ has_more_sacks n cs
-sacks_blank n [] = refl
-sacks_blank zero (sack_chunk k ∷ cs) = refl
-sacks_blank (suc n) (sack_chunk k ∷ cs) = sacks_blank n cs
-sacks_blank n (c ∷ cs) = sacks_blank n cs
+counted_blank : (n : ℕ) (cs : List ChunkTree) → has_more_counted n (blanks cs) ≡ has_more_counted n cs
+counted_blank n [] = refl
+counted_blank zero (sack_chunk k ∷ cs) = refl
+counted_blank zero (cookie_echo_chunk cookie ∷ cs) = refl
+counted_blank (suc n) (sack_chunk k ∷ cs) = counted_blank n cs
+counted_blank (suc n) (cookie_echo_chunk cookie ∷ cs) = counted_blank n cs
+counted_blank n (c ∷ cs) = counted_blank n cs
 
 refusal_blank : (tag : ℕ) (cs : List ChunkTree) (s : State) → packet_refusal tag (blanks cs) s ≡ packet_refusal tag cs s
 refusal_blank tag cs s =
     let ds : List ChunkTree = blanks cs in
-    ap (λ (b : Bool). unless_many b (packet_refusal_by (abort_flag ds) (complete_flag ds) (has_shutdown_ack ds) tag ds s)) (sacks_blank 4 cs)
-    ∙ ap (unless_many (has_more_sacks 4 cs))
+    ap (λ (b : Bool). unless_many b (packet_refusal_by (abort_flag ds) (complete_flag ds) (has_shutdown_ack ds) tag ds s)) (counted_blank 4 cs)
+    ∙ ap (unless_many (has_more_counted 4 cs))
     (ap (λ (a : Option Bool). packet_refusal_by a (complete_flag ds) (has_shutdown_ack ds) tag ds s) (abort_blank cs)
     ∙ (ap (λ (a : Option Bool). packet_refusal_by (abort_flag cs) a (has_shutdown_ack ds) tag ds s) (complete_blank cs)
     ∙ (ap (λ (b : Bool). packet_refusal_by (abort_flag cs) (complete_flag cs) b tag ds s) (ack_blank cs)

@@ -5,7 +5,7 @@ use Rattle.sctp_packet.specs.Grammar.{carried}
 use Rattle.sctp_packet.specs.Packet.{PacketTree}
 use Rattle.spec_endpoint.specs.Association.{CookieEchoed, Established, ShutdownPending, ShutdownSent, ShutdownReceived, ShutdownAckSent, State, Closed, CookieWait, Open, Endpoint}
 use Rattle.spec_endpoint.specs.Opening.{emit_parse_error}
-use Rattle.spec_endpoint.specs.Input.{my_tag, has_tag_in, abort_flag, complete_flag, has_shutdown_ack, begins_with_cookie, is_single_init, is_early, unless, plain_refusal, has_more_sacks, unless_many, packet_refusal_by, packet_refusal, count_packet_at, packet_if}
+use Rattle.spec_endpoint.specs.Input.{my_tag, has_tag_in, abort_flag, complete_flag, has_shutdown_ack, begins_with_cookie, is_single_init, is_early, unless, plain_refusal, has_more_counted, unless_many, packet_refusal_by, packet_refusal, count_packet_at, packet_if}
 use Rattle.spec_endpoint.specs.Laws.{Call, ReceivePacket, called}
 use Rattle.proof_endpoint.specs.Mapped.{Carried}
 use Rattle.proof_endpoint.specs.Acts.{BringsChunk}
@@ -53,7 +53,7 @@ refusal_by_tags : (tag : ℕ → ℕ) (own peer a b : ℕ) (cookie other : List 
 refusal_by_tags tag own peer a b cookie other t c u d n cs s =
     let first : Names = record { tag = tag; tie = t; cookie_tie = c; own = own; peer = peer; cookie = cookie } in
     let second : Names = record { tag = tag; tie = u; cookie_tie = d; own = a; peer = b; cookie = other } in
-    ap (unless_many (has_more_sacks 4 cs))
+    ap (unless_many (has_more_counted 4 cs))
     (refusal_same n cs (named_state first s) (named_state second s) (tag_by s) (early_by s) (own_by s) (abort_flag cs) (complete_flag cs) (has_shutdown_ack cs))
   where
     tag_by : (s : State) (r : Bool)

@@ -4,7 +4,7 @@ use Rattle.sctp_packet.specs.Chunk.{ChunkTree, data_chunk, init_chunk, init_ack_
 use Rattle.sctp_capabilities.specs.StateCookie.{Cookie}
 use Rattle.spec_endpoint.specs.Association.{Identity, Tcb, Phase, CookieEchoed, Established, ShutdownPending, ShutdownSent, ShutdownReceived, ShutdownAckSent, State, Closed, CookieWait, Open}
 use Rattle.spec_endpoint.specs.Sending.{is_before_cookie_ack}
-use Rattle.spec_endpoint.specs.Input.{my_tag, has_tag_in, abort_flag, complete_flag, has_shutdown_ack, has_data_chunk, begins_with_cookie, is_single_init, is_early, unless, plain_refusal, has_more_sacks, unless_many, packet_refusal_by, packet_refusal}
+use Rattle.spec_endpoint.specs.Input.{my_tag, has_tag_in, abort_flag, complete_flag, has_shutdown_ack, has_data_chunk, begins_with_cookie, is_single_init, is_early, unless, plain_refusal, has_more_counted, unless_many, packet_refusal_by, packet_refusal}
 use Rattle.spec_endpoint.specs.Opening.{by_tags, new_if, resolve_by_tags, resolve_cookie}
 use Rattle.proof_draws.specs.NamedChunks.{Names, AreNames, named_chunks}
 use Rattle.proof_draws.specs.Names.{named_identity, named_phase, named_state, named_cookie}
@@ -76,11 +76,13 @@ module _ (n : Names) where
   shut_named (i_forward_tsn_chunk tsn skipped ∷ cs) = shut_named cs
   shut_named (unknown_chunk typ flags value ∷ cs) = shut_named cs
 
-  pub sacks_named : (k : ℕ) (cs : List ChunkTree) → has_more_sacks k (named_chunks n cs) ≡ has_more_sacks k cs
-  sacks_named k [] = refl
-  sacks_named zero (sack_chunk s ∷ cs) = refl
-  sacks_named (suc k) (sack_chunk s ∷ cs) = sacks_named k cs
-  sacks_named k (c ∷ cs) = sacks_named k cs
+  pub counted_named : (k : ℕ) (cs : List ChunkTree) → has_more_counted k (named_chunks n cs) ≡ has_more_counted k cs
+  counted_named k [] = refl
+  counted_named zero (sack_chunk s ∷ cs) = refl
+  counted_named zero (cookie_echo_chunk cookie ∷ cs) = refl
+  counted_named (suc k) (sack_chunk s ∷ cs) = counted_named k cs
+  counted_named (suc k) (cookie_echo_chunk cookie ∷ cs) = counted_named k cs
+  counted_named k (c ∷ cs) = counted_named k cs
 
   pub data_named : (cs : List ChunkTree) → has_data_chunk (named_chunks n cs) ≡ has_data_chunk cs
   data_named [] = refl
@@ -230,12 +232,12 @@ module _ (n : Names) (are : AreNames n) where
       let ds : List ChunkTree = named_chunks m cs in
       let r : State = named_state n s in
       let plain : Option (List ℕ) = packet_refusal_by (abort_flag cs) (complete_flag cs) (has_shutdown_ack cs) tag cs s in
-      many_alike (has_more_sacks 4 ds) (packet_refusal_by (abort_flag ds) (complete_flag ds) (has_shutdown_ack ds) (n.tag tag) ds r) plain
+      many_alike (has_more_counted 4 ds) (packet_refusal_by (abort_flag ds) (complete_flag ds) (has_shutdown_ack ds) (n.tag tag) ds r) plain
       (ap (λ (o : Option Bool). is_some (packet_refusal_by o (complete_flag ds) (has_shutdown_ack ds) (n.tag tag) ds r)) (abort_named m cs)
       ∙ (ap (λ (o : Option Bool). is_some (packet_refusal_by (abort_flag cs) o (has_shutdown_ack ds) (n.tag tag) ds r)) (complete_named m cs)
       ∙ (ap (λ (b : Bool). is_some (packet_refusal_by (abort_flag cs) (complete_flag cs) b (n.tag tag) ds r)) (shut_named m cs)
       ∙ refused_by_named m (abort_flag cs) (complete_flag cs) (has_shutdown_ack cs) tag cs s)))
-      ∙ ap (λ (b : Bool). is_some (unless_many b plain)) (sacks_named m 4 cs)
+      ∙ ap (λ (b : Bool). is_some (unless_many b plain)) (counted_named m 4 cs)
 
   -- ---- a cookie that came back
 

@@ -7,7 +7,7 @@ use Rattle.sctp_serial.specs.Messages.{Message}
 use Rattle.sctp_wire.specs.Field.{be16, be32, be64}
 use Rattle.sctp_wire.specs.Serialize.{padded_item, inner_items}
 use Rattle.sctp_wire.specs.Parameter.{parameter_value}
-use Rattle.sctp_packet.specs.Chunk.{ChunkTree, init_ack_chunk, sack_chunk, cookie_ack_chunk}
+use Rattle.sctp_packet.specs.Chunk.{ChunkTree, init_ack_chunk, sack_chunk, cookie_echo_chunk, cookie_ack_chunk}
 use Rattle.sctp_packet.specs.Written.{chunk_bytes, chunks_bytes, chunk_value, init_fields}
 use Rattle.sctp_state.specs.Options.{defaults}
 use Rattle.sctp_capabilities.specs.Capabilities.{agreed}
@@ -19,7 +19,7 @@ use Rattle.sctp_state.specs.declared.api.SctpImplementation.TheVariants.{DcsctpR
 use Rattle.spec_endpoint.specs.Association.{Identity, Tcb, tcb, State, CookieEchoed, Established, Closed, CookieWait, Open, Context, Endpoint, context, where_open, Packing}
 use Rattle.spec_endpoint.specs.Opening.{t1_init, t1_cookie, cookie_for, init_ack_of, new_if, on_resolution, on_read_cookie}
 use Rattle.spec_endpoint.specs.Calls.{ready_in}
-use Rattle.spec_endpoint.specs.Input.{my_tag, abort_flag, complete_flag, has_shutdown_ack, begins_with_cookie, has_more_sacks, packet_refusal, packet_if, count_packet_at, on_packet_end, in_endpoint_state}
+use Rattle.spec_endpoint.specs.Input.{my_tag, abort_flag, complete_flag, has_shutdown_ack, begins_with_cookie, has_more_counted, packet_refusal, packet_if, count_packet_at, on_packet_end, in_endpoint_state}
 use Rattle.spec_endpoint.specs.Shown.{Association, association_in}
 use Rattle.spec_endpoint.specs.Association.{heartbeats}
 use Rattle.spec_endpoint.specs.Heartbeats.{restart_interval}
@@ -50,14 +50,15 @@ tag_small draws = omega arith
 pub first_small : (draws : Stream) → first_of draws < 2 ^ 32
 first_small draws = omega arith
 
-one_sack : (chunk : ChunkTree) → has_more_sacks 4 (chunk ∷ []) ≡ false
-one_sack (sack_chunk k) = refl
-one_sack chunk = refl
+one_counted : (chunk : ChunkTree) → has_more_counted 4 (chunk ∷ []) ≡ false
+one_counted (sack_chunk k) = refl
+one_counted (cookie_echo_chunk cookie) = refl
+one_counted chunk = refl
 
 -- a packet under the own tag is taken
 pub own_taken : (chunk : ChunkTree) (tag : ℕ) (s : State) → abort_flag (chunk ∷ []) ≡ None → complete_flag (chunk ∷ []) ≡ None → has_shutdown_ack (chunk ∷ []) ≡ false
     → begins_with_cookie (chunk ∷ []) ≡ false → (tag == 0) ≡ false → my_tag s ≡ tag → packet_refusal tag (chunk ∷ []) s ≡ None
-own_taken chunk tag s no_abort no_end no_ack no_cookie some own = rw (one_sack chunk, no_abort, no_end, no_ack, no_cookie, some, own, is_itself tag) refl
+own_taken chunk tag s no_abort no_end no_ack no_cookie some own = rw (one_counted chunk, no_abort, no_end, no_ack, no_cookie, some, own, is_itself tag) refl
 
 module _ {P : Type 0} (pack : Packing P) where
   abbrev pub waiting : Stream → Endpoint P

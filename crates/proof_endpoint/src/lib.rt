@@ -46,8 +46,8 @@ pub fn packets_are_within_the_mtu()
     ensures bytes { EachCallSendsAtMost }
 {}
 
-/// A call that ends an association emits so once, by `OnClosed` or `OnAborted`, and no other call does. Of a packet each
-/// chunk counts alone, since after an ABORT a COOKIE ECHO may open another association.
+/// A call by which an end is closed emits so once, by `OnClosed` or `OnAborted`, and no other call does: not one that puts an association
+/// in the place of another. Of a packet each chunk counts alone, since after an ABORT a COOKIE ECHO may open another association.
 pub fn an_end_closes_once()
     ensures endings { EachCallEmitsEndings }
     ensures closing { EachClosingEnds }

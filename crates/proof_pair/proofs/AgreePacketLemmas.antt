@@ -9,7 +9,7 @@ use Rattle.sctp_packet.specs.Packet.{PacketTree}
 use Rattle.sctp_state.specs.Events.{Event}
 use Rattle.sctp_state.specs.Options.{Options}
 use Rattle.spec_endpoint.specs.Association.{State, Closed, CookieWait, Open, Endpoint}
-use Rattle.spec_endpoint.specs.Input.{my_tag, abort_flag, complete_flag, has_shutdown_ack, begins_with_cookie, is_single_init, plain_refusal, has_more_sacks, unless_many, packet_refusal_by, packet_refusal, AfterChunk, receive, receive_all, receive_rest, has_data_chunk, repeats_if, in_endpoint_state, on_packet_end, on_accepted_packet, count_packet_at}
+use Rattle.spec_endpoint.specs.Input.{my_tag, abort_flag, complete_flag, has_shutdown_ack, begins_with_cookie, is_single_init, plain_refusal, has_more_counted, unless_many, packet_refusal_by, packet_refusal, AfterChunk, receive, receive_all, receive_rest, has_data_chunk, repeats_if, in_endpoint_state, on_packet_end, on_accepted_packet, count_packet_at}
 use Rattle.spec_endpoint.specs.Laws.{ReceiveNoPacket}
 use Rattle.proof_endpoint.specs.Mapped.{Carried}
 use Rattle.proof_endpoint.specs.Acts.{calm, Preserves}
@@ -126,7 +126,7 @@ admitted_by tag cs s (inl h) refused =
     ∙ (ap (λ (a : Option Bool). packet_refusal_by None a (has_shutdown_ack cs) tag cs s) (no_complete cs h)
     ∙ (ap (λ (a : Bool). packet_refusal_by None None a tag cs s) (no_shutdown_ack cs h)
     ∙ ap (λ (a : Bool). plain_refusal a (tag == 0) (is_single_init cs) (tag == my_tag s) tag (my_tag s)) (no_cookie cs h))))
-    ∙ few_none (has_more_sacks 4 cs) (packet_refusal_by (abort_flag cs) (complete_flag cs) (has_shutdown_ack cs) tag cs s) refused)
+    ∙ few_none (has_more_counted 4 cs) (packet_refusal_by (abort_flag cs) (complete_flag cs) (has_shutdown_ack cs) tag cs s) refused)
 
 pub admitted : (tag : ℕ) (cs : List ChunkTree) (s : State) → Shape cs → packet_refusal tag cs s ≡ None → Admitted tag cs s
 admitted tag cs s h refused = admitted_by tag cs s (comes_by cs h) refused

@@ -159,7 +159,7 @@ impl<R: Rng, C: Checksum> Socket<R, C> {
         }
     }
 
-    /// Whether `handle_input` would refuse these bytes: they are no packet, not one for this association, or one of more than 4 SACKs.
+    /// Whether `handle_input` would refuse these bytes: they are no packet, not one for this association, or one of more than 4 SACKs and COOKIE ECHOs.
     /// It takes no memory.
     pub fn refuses(&self, bytes: &[u8]) -> Result<bool, CallError>
         ensures judged { IfOk result (λ refused. Judges (C.word_of self.now.context.checksum) bytes.now self.now.context.options self.now.state refused) }

@@ -226,7 +226,7 @@ pub extern "C" fn pigeon_is_at_rest(socket: &mut Handle, rest: &mut u32) -> u32
     }
 }
 
-/// Whether these bytes would be refused, 1 or 0: they are no packet, not one for this association, or one of more than 4 SACKs.
+/// Whether these bytes would be refused, 1 or 0: they are no packet, not one for this association, or one of more than 4 SACKs and COOKIE ECHOs.
 #[unsafe(no_mangle)]
 pub extern "C" fn pigeon_refuses(socket: &mut Handle, bytes: &[u8], refused: &mut u32) -> u32
     ensures answers { Answers (λ e n f. IsAmong (0 ∷ 2 ∷ []) n) socket.old.held result socket.new.held }

@@ -4,11 +4,12 @@ ghost use Rattle.std.specs.Prelude.{◌≡◌, ◌<◌, ◌≤◌, [], ◌∷◌
 ghost use Rattle.sctp_c.specs.Calls.{Answers};
 ghost use Rattle.sctp_c.specs.Channels.{AsksChannel, OnChannelsOf, StartsOf};
 ghost use Rattle.sctp_c.specs.Lent.{PointsAt};
-ghost use Rattle.sctp_c_channels.specs.Answers.{Negotiated, Opened, Sent};
+ghost use Rattle.sctp_c_channels.specs.Answers.{IsClosed, Negotiated, Opened, Sent};
 ghost use Rattle.sctp_c_records.specs.Answers.{IsAmong, OnAnswer, OnOthers};
 ghost use Rattle.sctp_c_channels.specs.Events.{Shows, kind_at};
 ghost use Rattle.sctp_c_channels.specs.Records.{CopiesText, IsKnown, channel_bytes, channel_in, given_open, shown_channel, start_in, statistics_bytes};
 ghost use Rattle.sctp_channels.specs.Entries.{channel_at};
+ghost use Rattle.sctp_channels.specs.Steps.{Follows};
 
 use crate::handle::Handle;
 use crate::stream::stream_of;
@@ -152,6 +153,7 @@ pub extern "C" fn pigeon_channel_close(socket: &mut Handle, channel: u32) -> u32
     ensures answers { channel ≤ 65535 → Answers (OnChannelsOf (λ d n e. IsAmong (0 ∷ 1 ∷ 2 ∷ 25 ∷ []) n)) socket.old.held result socket.new.held }
     ensures none { channel ≤ 65535 → Answers (OnChannelsOf (λ d n e. OnAnswer 25 n (channel_at channel d.channels.entries ≡ None))) socket.old.held result socket.new.held }
     ensures stays { channel ≤ 65535 → Answers (OnChannelsOf (λ d n e. OnAnswer 25 n (e ≡ d))) socket.old.held result socket.new.held }
+    ensures closed { channel ≤ 65535 → Answers (OnChannelsOf (λ d n e. OnAnswer 0 n (IsClosed channel d e))) socket.old.held result socket.new.held }
 {
     let Some(id) = stream_of(channel) else {
         return INVALID_STREAM;
@@ -165,7 +167,8 @@ pub extern "C" fn pigeon_channel_close(socket: &mut Handle, channel: u32) -> u32
 /// Takes the bytes of a packet that came, and what it brings to the channels.
 #[unsafe(no_mangle)]
 pub extern "C" fn pigeon_channels_handle_input(socket: &mut Handle, bytes: &[u8]) -> u32
-    ensures { Answers (OnChannelsOf (λ d n e. IsAmong (0 ∷ 1 ∷ 2 ∷ []) n)) socket.old.held result socket.new.held }
+    ensures answers { Answers (OnChannelsOf (λ d n e. IsAmong (0 ∷ 1 ∷ 2 ∷ []) n)) socket.old.held result socket.new.held }
+    ensures steps { Answers (OnChannelsOf (λ d n e. OnAnswer 0 n (Follows d e))) socket.old.held result socket.new.held }
 {
     match socket.as_mut() {
         None => NO_SOCKET,

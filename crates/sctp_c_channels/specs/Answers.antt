@@ -3,7 +3,8 @@ use Rattle.std.specs.Prelude.{◌≡◌, ℕ, ◌<◌, true, Option, Some, None}
 use Rattle.sctp_channels.specs.Channel.{Channel}
 use Rattle.sctp_channels.specs.Views.{Open}
 use Rattle.sctp_channels.specs.DataChannels.{DataChannels, IsOpenAt, IsShortEnough, with_channels}
-use Rattle.sctp_channels.specs.Channels.{is_own, negotiate, open_own, sent}
+use Rattle.sctp_channels.specs.Channels.{close, is_own, negotiate, open_own, sent}
+use Rattle.sctp_channels.specs.Steps.{Follows}
 use Rattle.sctp_channels.specs.Entries.{channel_at}
 
 -- Where there are channels the call is made on them. Where there are none it answers 23, and there are none then.
@@ -42,3 +43,7 @@ pub record Sent (id size : ℕ) (old new : DataChannels) : Type 0 where
   pub done : new ≡ with_channels (sent id size old.channels) old
   pub opened : IsOpenAt (channel_at id old.channels.entries)
   pub short : IsShortEnough size old
+
+-- the channel is closed; then what is due is done
+abbrev pub IsClosed : ℕ → DataChannels → DataChannels → Type 0
+IsClosed id old new = Follows (with_channels (close id old.channels) old) new

@@ -1,6 +1,7 @@
 //! What a socket emitted, and what its channels told: lent, in order.
 
-ghost use Rattle.std.specs.Prelude.{◌≡◌, [], ◌∷◌};
+ghost use Rattle.std.specs.Prelude.{◌≡◌, [], ◌∷◌, OnOk};
+ghost use Rattle.sctp_channels.specs.Steps.{Follows};
 ghost use Rattle.sctp_c_records.specs.Event.{event_bytes, shown};
 ghost use Rattle.sctp_c_channels.specs.Answers.{OnChannels};
 ghost use Rattle.sctp_c_records.specs.Answers.{IsAmong, OnAnswer};
@@ -54,7 +55,9 @@ fn input_on<S: DcSctpSocket>(
     socket: &mut S,
     channels: &mut DataChannels,
     bytes: &[u8],
-) -> Result<(), CallError> {
+) -> Result<(), CallError>
+    ensures { OnOk result (Follows channels.old channels.new) }
+{
     socket.handle_input(bytes)?;
     channels.collect(socket)
 }
@@ -66,6 +69,7 @@ pub fn handle_input<S: DcSctpSocket>(
     bytes: &[u8],
 ) -> u32
     ensures answers { OnChannels (λ d n e. IsAmong (0 ∷ 1 ∷ 2 ∷ []) n) channels.old result channels.new }
+    ensures steps { OnChannels (λ d n e. OnAnswer 0 n (Follows d e)) channels.old result channels.new }
 {
     let Some(channels) = channels else {
         return NO_CHANNELS;

@@ -2,7 +2,7 @@
 
 ghost use Rattle.std.specs.Prelude.{◌≡◌, [], ◌∷◌, length, None};
 ghost use Rattle.sctp_channels.specs.Entries.{channel_at};
-ghost use Rattle.sctp_c_channels.specs.Answers.{OnChannels, Sent};
+ghost use Rattle.sctp_c_channels.specs.Answers.{IsClosed, OnChannels, Sent};
 ghost use Rattle.sctp_c_records.specs.Answers.{IsAmong, OnAnswer, OnOthers, by_test};
 ghost use Rattle.sctp_c_channels.specs.Events.{IsSendable, kind_at};
 
@@ -92,6 +92,7 @@ pub fn send<S: DcSctpSocket>(
 
 fn close_on<S: DcSctpSocket>(socket: &mut S, channels: &mut DataChannels, id: u16) -> u32
     ensures answers { IsAmong (0 ∷ 1 ∷ 2 ∷ []) result }
+    ensures closed { OnAnswer 0 result (IsClosed id channels.old channels.new) }
 {
     match channels.close(socket, StreamId(id)) {
         Ok(()) => OK,
@@ -105,6 +106,7 @@ pub fn close<S: DcSctpSocket>(socket: &mut S, channels: &mut Option<DataChannels
     ensures answers { OnChannels (λ d n e. IsAmong (0 ∷ 1 ∷ 2 ∷ 25 ∷ []) n) channels.old result channels.new }
     ensures none { OnChannels (λ d n e. OnAnswer 25 n (channel_at id d.channels.entries ≡ None)) channels.old result channels.new }
     ensures stays { OnChannels (λ d n e. OnAnswer 25 n (e ≡ d)) channels.old result channels.new }
+    ensures closed { OnChannels (λ d n e. OnAnswer 0 n (IsClosed id d e)) channels.old result channels.new }
 {
     let Some(channels) = channels else {
         return NO_CHANNELS;

@@ -11,6 +11,8 @@ ghost use Rattle.sctp_channels.specs.Entries.{channel_at};
 ghost use Rattle.sctp_channels.specs.DataChannels.{IsOpenAt, IsShortEnough, is_draining_at, is_incoming_reset_at};
 ghost use Rattle.sctp_channels.specs.Steps.{DataChannels, Follows, Gets, StaysTold, acknowledged_by, each, ended, event_of, heard, named, passed_on, told_by, with_channels, with_outputs};
 
+use crate::closing::Closing;
+use crate::event::passed_on;
 use crate::unanswered::{Unanswered, answer_each, takes_answers};
 use crate::{
     CONTROL_PPID, Channel, ChannelEvent, ChannelMessage, Channels, DataChannelOpen, OpenError,
@@ -19,19 +21,17 @@ use crate::{
 use sctp_serial::{Message, StreamId};
 use sctp_state::{CallError, DcSctpSocket, ResetStreamsError, SendOptions, SocketEvent};
 use std::alloc::{AllocError, Global};
-use std::collections::{BTreeSet, VecDeque};
+use std::collections::VecDeque;
 use std::marker::Model;
 
 /// More events are not looked for in one `collect`.
 const MANY: u32 = 1_000_000;
 
-/// So many closing streams are looked at in a row at most, from where the last look ended; behind the last one comes the first.
-const IN_TURN: usize = 8;
-
 /// The channels of an association.
 ///
-/// A message of a channel that is not reliable leaves a record in the socket where it is given up. The calls of `DcSctpSocket` don't reach these
-/// records: the owner takes them each turn, by `next_given_up` of `Socket`, or they pile up. Channels have no use for them.
+/// A message that is given up leaves a record in the socket: one of a channel that is not reliable, and any that waits where its stream is reset,
+/// an answer too. The calls of `DcSctpSocket` don't reach these records: the owner takes them each turn, by `next_given_up` of `Socket`, or they
+/// pile up. Channels have no use for them.
 #[derive(Drop)]
 pub struct DataChannels {
     alloc: Global,
@@ -39,10 +39,7 @@ pub struct DataChannels {
     events: VecDeque<ChannelEvent>,
     // streams whose answer the socket hasn't taken; it is offered again with each packet that goes out, as long as neither end resets the stream
     unanswered: Unanswered,
-    // streams that are to be reset once what was accepted is sent, or the peer has reset them
-    closing: BTreeSet<u16>,
-    // the first of them to be looked at
-    next_closing: u16,
+    closing: Closing,
     peer_max_message_size: usize,
     max_buffered_amount: usize,
 }
@@ -83,8 +80,7 @@ impl DataChannels {
             ),
             events: VecDeque::new(alloc),
             unanswered: Unanswered::new(alloc),
-            closing: BTreeSet::new(alloc),
-            next_closing: 0,
+            closing: Closing::new(alloc),
             peer_max_message_size,
             max_buffered_amount,
         }
@@ -189,7 +185,7 @@ impl DataChannels {
     }
 
     /// Closes a channel. What was accepted is sent first, as long as the peer doesn't close it too; `Closed` tells when the stream is free, unless
-    /// its reset was refused.
+    /// its reset was refused, or the peer has opened another channel there.
     #[tactic(auto, using(crate::proofs::FollowsLemmas::told_then, crate::proofs::FollowsLemmas::told_same))]
     pub fn close<S: DcSctpSocket>(&mut self, socket: &mut S, id: StreamId) -> Result<(), CallError>
         ensures closed { OnOk result (Follows (with_channels (close id.0 self.old.channels) self.old) self.new) }
@@ -397,7 +393,7 @@ impl DataChannels {
         ensures { self.new ≡ self.old }
     {
         if self.is_draining(id) {
-            self.closing.insert(id.0)?;
+            self.closing.insert(id)?;
         }
         Ok(())
     }
@@ -491,6 +487,7 @@ impl DataChannels {
             SocketEvent::OnIncomingStreamReset(ids) => self.on_incoming_resets(ids),
             SocketEvent::OnStreamsResetPerformed(ids) => self.channels.on_resets_performed(ids),
             SocketEvent::OnStreamsResetFailed(ids) => self.channels.on_resets_denied(ids),
+            SocketEvent::OnBufferedAmountLow(id) => self.closing.on_low(*id),
             SocketEvent::OnClosed() => self.end(),
             SocketEvent::OnConnectionRestarted() => self.end(),
             SocketEvent::OnAborted(_kind, _text) => self.end(),
@@ -534,8 +531,8 @@ impl DataChannels {
         ensures row { OnOk result (self.new ≡ with_channels (on_incoming_reset id.0 self.old.channels) self.old) }
         ensures told { self.new.events ≡ self.old.events }
     {
-        self.channels.on_incoming_reset(id)?;
-        self.note_closing(id)
+        self.closing.insert_due(id)?;
+        self.channels.on_incoming_reset(id)
     }
 
     /// Asks for the resets that are due, and carries out what is to be done.
@@ -558,12 +555,47 @@ impl DataChannels {
         ensures done { OnOk result (self.new.channels.outputs ≡ []) }
         ensures told { StaysTold self.old self.new }
     {
+        self.settle_due(socket)?;
         self.settle_in_turn(socket)?;
         self.carry_out(socket)
     }
 
-    /// Asks for the resets that are due, up to where of the streams that are next in turn none is: a call looks at no more than `IN_TURN` for
-    /// each that it asks for and as many beside, however many streams wait for a peer that takes nothing.
+    /// Asks for the resets of the streams that are to be looked at first, where they are due.
+    #[tactic(auto, using(crate::proofs::FollowsLemmas::follows_then, crate::proofs::FollowsLemmas::follows_same, crate::proofs::FollowsLemmas::told_then, crate::proofs::FollowsLemmas::told_same))]
+    fn settle_due<S: DcSctpSocket>(&mut self, socket: &S) -> Result<(), AllocError>
+        ensures steps { OnOk result (Follows self.old self.new) }
+        ensures told { StaysTold self.old self.new }
+    {
+        for _ in 0..self.closing.due_count() {
+            match self.next_due() {
+                Some(id) => self.settle_one(socket, id)?,
+                None => break,
+            }
+        }
+        Ok(())
+    }
+
+    /// Takes out the next one of the streams that are to be looked at first.
+    fn next_due(&mut self) -> Option<StreamId>
+        ensures { self.new ≡ self.old }
+    {
+        self.closing.next_due()
+    }
+
+    /// Asks for the reset of the stream, where it is due.
+    #[tactic(auto, using(crate::proofs::FollowsLemmas::follows_same, crate::proofs::FollowsLemmas::follows_drains, crate::proofs::FollowsLemmas::told_same))]
+    fn settle_one<S: DcSctpSocket>(&mut self, socket: &S, id: StreamId) -> Result<(), AllocError>
+        ensures steps { OnOk result (Follows self.old self.new) }
+        ensures told { StaysTold self.old self.new }
+    {
+        if socket.buffered_amount(id) == 0 || self.is_incoming_reset(id) {
+            return self.drain(id);
+        }
+        Ok(())
+    }
+
+    /// Asks for the resets that are due, up to where of the streams that are next in turn fewer than half are: a call looks at no more than two for
+    /// each that it asks for, and two beside, however many streams wait for a peer that takes nothing.
     fn settle_in_turn<S: DcSctpSocket>(&mut self, socket: &S) -> Result<(), AllocError>
         ensures steps { OnOk result (Follows self.old self.new) }
         ensures told { StaysTold self.old self.new }
@@ -576,19 +608,19 @@ impl DataChannels {
         Ok(())
     }
 
-    /// Asks for the resets that are due of the closing streams that are next in turn. Says whether one was.
-    #[tactic(auto, using(crate::proofs::FollowsLemmas::follows_then, crate::proofs::FollowsLemmas::follows_same, crate::proofs::FollowsLemmas::follows_drains, crate::proofs::FollowsLemmas::told_then, crate::proofs::FollowsLemmas::told_same))]
+    /// Asks for the resets that are due of the closing streams that are next in turn. Says whether half of them were.
+    #[tactic(auto, using(crate::proofs::FollowsLemmas::follows_then, crate::proofs::FollowsLemmas::follows_same, crate::proofs::FollowsLemmas::told_then, crate::proofs::FollowsLemmas::told_same))]
     fn settle_some<S: DcSctpSocket>(&mut self, socket: &S) -> Result<bool, AllocError>
         ensures steps { OnOk result (Follows self.old self.new) }
         ensures told { StaysTold self.old self.new }
     {
         let before = self.closing.len();
-        for id in &self.next_closing()? {
-            if socket.buffered_amount(*id) == 0 || self.is_incoming_reset(*id) {
-                self.drain(*id)?;
-            }
+        let ids = self.next_closing()?;
+        for id in &ids {
+            self.settle_one(socket, *id)?;
         }
-        Ok(self.closing.len() < before)
+        let settled = before.saturating_sub(self.closing.len());
+        Ok(settled > 0 && settled >= ids.len() / 2)
     }
 
     /// Nothing of the stream waits in the socket that the peer would take. One whose reset was asked for isn't looked at again.
@@ -598,7 +630,7 @@ impl DataChannels {
     {
         self.channels.drain(id, 0)?;
         if !self.is_draining(id) {
-            self.closing.remove(&id.0);
+            self.closing.remove(id);
         }
         Ok(())
     }
@@ -607,17 +639,7 @@ impl DataChannels {
     fn next_closing(&mut self) -> Result<Vec<StreamId>, AllocError>
         ensures { self.new ≡ self.old }
     {
-        let is_many = self.closing.len() > IN_TURN;
-        let from = if is_many { self.next_closing } else { 0 };
-        let mut ids = Vec::new(self.alloc);
-        let behind = self.closing.range(from..);
-        for id in behind.chain(self.closing.range(..from)).take(IN_TURN) {
-            ids.push(StreamId(*id))?;
-        }
-        if let Some(last) = ids.last() {
-            self.next_closing = last.0.wrapping_add(1);
-        }
-        Ok(ids)
+        self.closing.next_in_turn()
     }
 
     /// Carries out what is to be done. Where nothing is, nothing changes: what the socket refused isn't tried again, since each refusal emits.
@@ -742,17 +764,4 @@ impl DataChannels {
 fn keep(ids: &mut Vec<StreamId>, id: StreamId) -> Result<(), AllocError> {
     ids.push(id)?;
     Ok(())
-}
-
-/// What is left of an event for the owner.
-fn passed_on(event: SocketEvent) -> Option<ChannelEvent>
-    ensures { option_map event_of result ≡ passed_on (socket_event_of event) }
-{
-    match event {
-        SocketEvent::OnIncomingStreamReset(_ids) => None,
-        SocketEvent::OnStreamsResetPerformed(_ids) => None,
-        SocketEvent::OnStreamsResetFailed(_ids) => None,
-        SocketEvent::OnBufferedAmountLow(id) => Some(ChannelEvent::BufferedAmountLow(id)),
-        event => Some(ChannelEvent::Socket(event)),
-    }
 }

@@ -1,5 +1,9 @@
 //! What the owner is told.
 
+ghost use Rattle.std.specs.Prelude.{◌≡◌, option_map};
+ghost use Rattle.sctp_state.specs.Events.{event_of as socket_event_of};
+ghost use Rattle.sctp_channels.specs.Steps.{event_of, passed_on};
+
 use crate::{PayloadKind, Refusal};
 use sctp_serial::StreamId;
 use sctp_state::{SendError, SocketEvent};
@@ -19,11 +23,11 @@ pub enum ChannelEvent {
     Closed(StreamId),
     /// Something that came was not taken.
     Refused(StreamId, Refusal),
-    /// An event of the socket, as it is without channels.
+    /// An event of the socket, as it is without channels; none of those of resets, which channels take, of no stream.
     Socket(SocketEvent),
 }
 
-/// Why a channel isn't opened. The channels are as before, but where memory ran out.
+/// Why a channel isn't opened. The channels are as before.
 #[derive(Clone, Copy, Debug, Error)]
 pub enum OpenError {
     /// Label or protocol has 65,536 bytes or more.
@@ -43,7 +47,7 @@ pub enum OpenError {
     Memory,
 }
 
-/// Why a message isn't accepted. The channels are as before, but where memory ran out.
+/// Why a message isn't accepted. The channels are as before.
 #[derive(Clone, Copy, Debug, Error)]
 pub enum SendRefusal {
     /// There is no channel on the stream.
@@ -93,5 +97,18 @@ impl From<SendError> for SendRefusal {
             SendError::Memory | SendError::Failed => SendRefusal::Memory,
             _ => SendRefusal::SocketRefused,
         }
+    }
+}
+
+/// What is left of an event for the owner.
+pub(crate) fn passed_on(event: SocketEvent) -> Option<ChannelEvent>
+    ensures { option_map event_of result ≡ passed_on (socket_event_of event) }
+{
+    match event {
+        SocketEvent::OnIncomingStreamReset(_ids) => None,
+        SocketEvent::OnStreamsResetPerformed(_ids) => None,
+        SocketEvent::OnStreamsResetFailed(_ids) => None,
+        SocketEvent::OnBufferedAmountLow(id) => Some(ChannelEvent::BufferedAmountLow(id)),
+        event => Some(ChannelEvent::Socket(event)),
     }
 }

@@ -11,6 +11,7 @@ mod channel;
 mod channel_laws;
 mod channel_map;
 mod channels;
+mod closing;
 mod data_channels;
 mod event;
 mod fault;

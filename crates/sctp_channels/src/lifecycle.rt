@@ -53,8 +53,8 @@ impl Lifecycle {
         }
     }
 
-    /// A channel that both ends have agreed on beforehand: nothing is sent. So it is too with one that the peer has opened and this end takes, once
-    /// DATA_CHANNEL_ACK was sent.
+    /// A channel that both ends have agreed on beforehand: nothing is sent. So it is too with one that the peer has opened and this end takes:
+    /// DATA_CHANNEL_ACK is an output then.
     pub fn negotiated() -> Lifecycle
         ensures { result ≡ negotiated }
     {

@@ -16,7 +16,7 @@ pub enum Refusal {
     StreamInUse,
     /// The peer opened a channel for whose label and protocol there is no room left. The stream is reset.
     NoRoom,
-    /// Data came on a stream without a channel. It is dropped.
+    /// Data came on a stream without a channel, or with one that takes none any more. It is dropped.
     NoChannel,
     /// A message came under a PPID that is none of those of data channels. It is dropped.
     UnknownPayloadProtocol,
@@ -37,7 +37,7 @@ pub enum Output {
     Opened(StreamId),
     /// A message came.
     Message(StreamId, PayloadKind, Vec<u8>),
-    /// The channel is closed. Unless its reset was refused, its stream is free.
+    /// The channel is closed. Its stream is free, unless its reset was refused, or the peer has opened another one there, of which `Opened` follows.
     Closed(StreamId),
     /// Something that came was not taken.
     Refused(StreamId, Refusal),

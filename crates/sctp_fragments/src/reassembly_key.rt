@@ -35,10 +35,10 @@ pub trait ReassemblyKey: Copy + Ord {
         requires below { pair_rank (number self) (index self) < bound }
         ensures { result ≡ after self };
 
-    /// The first key of a message.
-    fn least(message: u64) -> Self
+    /// The key of the fragment in this place of the message with this number.
+    fn from_parts(message: u64, place: u64) -> Self
         ensures number { number result ≡ message }
-        ensures index { index result ≡ 0 };
+        ensures index { index result ≡ place };
 
     // The order is that of the ranks, which are different.
     ghost by_rank: { (x y : Self) → is_key x → is_key y → Self.cmp x y ≡ nat_cmp (pair_rank (number x) (index x)) (pair_rank (number y) (index y)) };
@@ -145,10 +145,10 @@ impl ReassemblyKey for TraditionalKey {
         }
     }
 
-    fn least(message: u64) -> TraditionalKey {
+    fn from_parts(message: u64, place: u64) -> TraditionalKey {
         TraditionalKey {
             number: message,
-            index: 0,
+            index: place,
         }
     }
 
@@ -203,10 +203,10 @@ impl ReassemblyKey for InterleavedKey {
         }
     }
 
-    fn least(message: u64) -> InterleavedKey {
+    fn from_parts(message: u64, place: u64) -> InterleavedKey {
         InterleavedKey {
             number: message,
-            index: 0,
+            index: place,
         }
     }
 
@@ -261,10 +261,10 @@ impl ReassemblyKey for UnorderedInterleavedKey {
         }
     }
 
-    fn least(message: u64) -> UnorderedInterleavedKey {
+    fn from_parts(message: u64, place: u64) -> UnorderedInterleavedKey {
         UnorderedInterleavedKey {
             number: message,
-            index: 0,
+            index: place,
         }
     }
 

@@ -1,5 +1,5 @@
 -- An outline, chunk by chunk, and what it says of a packet.
-use Rattle.std.proofs.Common.{◌≡◌, ◌≢◌, ℕ, zero, suc, codes, ◌==◌, Bool, true, false, Option, Some, None, List, [], ◌∷◌, refl, sym, ap, ◌∙◌, arith}
+use Rattle.std.proofs.Common.{◌≡◌, ◌||◌, ℕ, zero, suc, codes, ◌==◌, Bool, true, false, Option, Some, None, List, [], ◌∷◌, refl, sym, ap, ◌∙◌, arith}
 use Rattle.std.proofs.lemmas.Bool.Decides.{nat_tests}
 use Rattle.std.specs.Option.{option_or}
 use Rattle.std.specs.Bool.{then_some}
@@ -10,7 +10,7 @@ use Rattle.sctp_packet.specs.Chunk.{ChunkTree, data_chunk, init_chunk, init_ack_
 use Rattle.sctp_packet.specs.Written.{is_known_chunk, flag}
 use Rattle.sctp_packet.specs.Grammar.{IsChunk}
 use Rattle.spec_endpoint.specs.Association.{State}
-use Rattle.spec_endpoint.specs.Input.{packet_refusal, packet_refusal_by, has_more_sacks, unless_many, abort_flag, complete_flag, has_shutdown_ack, begins_with_cookie, is_single_init}
+use Rattle.spec_endpoint.specs.Input.{packet_refusal, packet_refusal_by, has_more_counted, unless_many, abort_flag, complete_flag, has_shutdown_ack, begins_with_cookie, is_single_init}
 use Rattle.sctp_handshake.specs.declared.validation.Outline.{Outline}
 use Rattle.sctp_handshake.specs.Outlines.{followed_by, outline_of, outlined_by, outlined_refusal}
 
@@ -27,9 +27,6 @@ outline_of_item i = record {
 
 equal : (a b : ℕ) → (a == b) ≡ true → a ≡ b
 equal a b e = grind (arith, nat_tests)
-
-unlike : (a b : ℕ) → a ≢ b → (a == b) ≡ false
-unlike a b h = grind (arith, nat_tests)
 
 -- an unknown type is none of the known ones
 differs : (typ known : ℕ) (is : Bool) → (typ == known) ≡ is → is_known_chunk typ ≡ false → is_known_chunk known ≡ true → is ≡ false
@@ -121,48 +118,50 @@ refusal_as None None false tag chunks s = refl
 abbrev by_tag : (tag : ℕ) → List ChunkTree → State → Option (List ℕ)
 by_tag tag chunks s = packet_refusal_by (abort_flag chunks) (complete_flag chunks) (has_shutdown_ack chunks) tag chunks s
 
-pub few_refused : (o : Outline) (tag : ℕ) (chunks : List ChunkTree) (s : State) → o ≡ outline_of chunks → false ≡ has_more_sacks 4 chunks
+pub few_refused : (o : Outline) (tag : ℕ) (chunks : List ChunkTree) (s : State) → o ≡ outline_of chunks → false ≡ has_more_counted 4 chunks
     → outlined_refusal o tag s ≡ packet_refusal tag chunks s
 few_refused o tag chunks s e few =
     ap (λ (p : Outline). outlined_refusal p tag s) e
     ∙ (refusal_as (abort_flag chunks) (complete_flag chunks) (has_shutdown_ack chunks) tag chunks s
     ∙ ap (λ (b : Bool). unless_many b (by_tag tag chunks s)) few)
 
-pub many_refused : (tag : ℕ) (chunks : List ChunkTree) (s : State) → true ≡ has_more_sacks 4 chunks
-    → Some (codes "More than 4 SACK chunks present in packet") ≡ packet_refusal tag chunks s
+pub many_refused : (tag : ℕ) (chunks : List ChunkTree) (s : State) → true ≡ has_more_counted 4 chunks
+    → Some (codes "More than 4 SACK and COOKIE ECHO chunks present in packet") ≡ packet_refusal tag chunks s
 many_refused tag chunks s many = ap (λ (b : Bool). unless_many b (by_tag tag chunks s)) many
 
--- ---- the walk that counts SACKs
+-- ---- the walk that counts SACKs and COOKIE ECHOs
 
-abbrev is_sack : ChunkTree → Bool
-is_sack (sack_chunk k) = true
-is_sack chunk = false
+abbrev is_counted : ChunkTree → Bool
+is_counted (sack_chunk k) = true
+is_counted (cookie_echo_chunk cookie) = true
+is_counted chunk = false
 
-typed_sack : (i : Item) (t : ChunkTree) → IsChunk i t → (i.first == 3) ≡ is_sack t
-typed_sack i (data_chunk tsn immediate f) h = rw h.kind refl
-typed_sack i (init_chunk init) h = rw h.kind refl
-typed_sack i (init_ack_chunk init) h = rw h.kind refl
-typed_sack i (sack_chunk sack) h = rw h.kind refl
-typed_sack i (heartbeat_request_chunk parameters) h = rw h.kind refl
-typed_sack i (heartbeat_ack_chunk parameters) h = rw h.kind refl
-typed_sack i (abort_chunk reflected causes) h = rw h.kind refl
-typed_sack i (shutdown_chunk tsn) h = rw h.kind refl
-typed_sack i shutdown_ack_chunk h = rw h.kind refl
-typed_sack i (error_chunk causes) h = rw h.kind refl
-typed_sack i (cookie_echo_chunk cookie) h = rw h.kind refl
-typed_sack i cookie_ack_chunk h = rw h.kind refl
-typed_sack i (shutdown_complete_chunk reflected) h = rw h.kind refl
-typed_sack i (idata_chunk tsn immediate f) h = rw h.kind refl
-typed_sack i (re_config_chunk parameters) h = rw h.kind refl
-typed_sack i (forward_tsn_chunk tsn skipped) h = rw h.kind refl
-typed_sack i (i_forward_tsn_chunk tsn skipped) h = rw h.kind refl
-typed_sack i (unknown_chunk typ flags value) h = rw (h.kind, no_known typ 3 h.of_its_type refl) refl
+typed_counted : (i : Item) (t : ChunkTree) → IsChunk i t → ((i.first == 3) || (i.first == 10)) ≡ is_counted t
+typed_counted i (data_chunk tsn immediate f) h = rw h.kind refl
+typed_counted i (init_chunk init) h = rw h.kind refl
+typed_counted i (init_ack_chunk init) h = rw h.kind refl
+typed_counted i (sack_chunk sack) h = rw h.kind refl
+typed_counted i (heartbeat_request_chunk parameters) h = rw h.kind refl
+typed_counted i (heartbeat_ack_chunk parameters) h = rw h.kind refl
+typed_counted i (abort_chunk reflected causes) h = rw h.kind refl
+typed_counted i (shutdown_chunk tsn) h = rw h.kind refl
+typed_counted i shutdown_ack_chunk h = rw h.kind refl
+typed_counted i (error_chunk causes) h = rw h.kind refl
+typed_counted i (cookie_echo_chunk cookie) h = rw h.kind refl
+typed_counted i cookie_ack_chunk h = rw h.kind refl
+typed_counted i (shutdown_complete_chunk reflected) h = rw h.kind refl
+typed_counted i (idata_chunk tsn immediate f) h = rw h.kind refl
+typed_counted i (re_config_chunk parameters) h = rw h.kind refl
+typed_counted i (forward_tsn_chunk tsn skipped) h = rw h.kind refl
+typed_counted i (i_forward_tsn_chunk tsn skipped) h = rw h.kind refl
+typed_counted i (unknown_chunk typ flags value) h = rw (h.kind, no_known typ 3 h.of_its_type refl, no_known typ 10 h.of_its_type refl) refl
 
 -- another chunk doesn't count
-pub passed_over : (n : ℕ) (i : Item) (t : ChunkTree) (left : List ChunkTree) → IsChunk i t → i.first ≢ 3 → has_more_sacks n (t ∷ left) ≡ has_more_sacks n left
-passed_over n i t left h e = go n t (sym (typed_sack i t h) ∙ unlike i.first 3 e)
+pub passed_over : (n : ℕ) (i : Item) (t : ChunkTree) (left : List ChunkTree) → IsChunk i t → ((i.first == 3) || (i.first == 10)) ≡ false → has_more_counted n (t ∷ left) ≡ has_more_counted n left
+passed_over n i t left h e = go n t (sym (typed_counted i t h) ∙ e)
   where
-    go : (n : ℕ) (t : ChunkTree) → is_sack t ≡ false → has_more_sacks n (t ∷ left) ≡ has_more_sacks n left
+    go : (n : ℕ) (t : ChunkTree) → is_counted t ≡ false → has_more_counted n (t ∷ left) ≡ has_more_counted n left
     go n (sack_chunk k) is = cc
+    go n (cookie_echo_chunk cookie) is = cc
     go zero t is = refl
     go (suc n) t is = refl

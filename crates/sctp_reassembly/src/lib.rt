@@ -4,7 +4,6 @@
 mod counted;
 mod dropped;
 mod finished;
-mod from_parts;
 pub mod interval_list;
 mod interval_map;
 mod near;

@@ -162,17 +162,6 @@ impl<K: ReassemblyKey> OrderedStream<K> {
         }
     }
 
-    /// The number of the message that becomes ready next.
-    pub fn next(&self) -> u128
-        ensures value { result ≡ self.now.next }
-        ensures range { origin ≤ result }
-    {
-        match &self.state {
-            OrderedState::Idle(last) => *last as u128 + 1,
-            OrderedState::Holding(fragments) => fragments.last() as u128 + 1,
-        }
-    }
-
     /// Makes the next message ready, which is one fragment, where none is held.
     fn pass_on(
         &mut self,
@@ -209,7 +198,7 @@ impl<K: ReassemblyKey> OrderedStream<K> {
         ensures bytes { bytes_of self.new.held + ready_bytes ready.new ≤ bytes_of self.old.held + ready_bytes ready.old + length fragment.payload.items }
         ensures fragments { length self.new.held ≤ length self.old.held + 1 }
     {
-        if (key.number() as u128) < self.next() {
+        if (key.number() as u128) < self.reading_point() {
             return Ok(());
         }
         let kept = keep_in(self.alloc, &mut self.state, key, fragment, ready);
@@ -274,7 +263,10 @@ impl<K: ReassemblyKey> ReassemblyStream for OrderedStream<K> {
 
     /// The number of the message that becomes ready next.
     fn reading_point(&self) -> u128 {
-        self.next()
+        match &self.state {
+            OrderedState::Idle(last) => *last as u128 + 1,
+            OrderedState::Holding(fragments) => fragments.last() as u128 + 1,
+        }
     }
 
     /// Adds a fragment, unless its message is below the next one; what is in turn then becomes ready. Takes a few
@@ -284,7 +276,7 @@ impl<K: ReassemblyKey> ReassemblyStream for OrderedStream<K> {
     /// Without memory the fragment, or a message that was in turn, may be lost; what was ready stays ready.
     #[tactic(auto, using(crate::proofs::ExtendsLemmas::extends_none))]
     fn add(&mut self, key: K, fragment: Data, ready: &mut ReadyMessages) -> Result<(), AllocError> {
-        if self.held_fragments() == 0 && is_whole_at(key, &fragment, self.next()) {
+        if self.held_fragments() == 0 && is_whole_at(key, &fragment, self.reading_point()) {
             return self.pass_on(key, fragment, ready);
         }
         self.keep(key, fragment, ready)

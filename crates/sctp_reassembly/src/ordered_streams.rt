@@ -6,6 +6,7 @@ ghost use Rattle.sctp_state.specs.Validity.{rises_from, ordered_ids};
 ghost use Rattle.sctp_reassembly.specs.ReassemblyHandover.{ordered_records, ordered_entries, space_of};
 
 use crate::ordered_stream::{FIRST, OrderedStream};
+use crate::reassembly_stream::ReassemblyStream;
 use crate::stream_map::StreamMap;
 use sctp_fragments::ReassemblyKey;
 use sctp_serial::{Mid, SerialNumber, Ssn};
@@ -73,7 +74,7 @@ fn records<K: ReassemblyKey>(
     for (id, stream) in streams {
         records.push(HandoverOrderedStream {
             id: *id,
-            next_ssn: wire_number(stream.next(), is_interleaved),
+            next_ssn: wire_number(stream.reading_point(), is_interleaved),
         })?;
     }
     Ok(records)

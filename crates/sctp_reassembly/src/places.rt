@@ -247,7 +247,7 @@ pub(crate) fn take_if_complete<K: ReassemblyKey>(
 pub(crate) fn least_of<K: ReassemblyKey>(number: u128) -> K
     ensures { rank_at K.number K.index result ≤ pair_rank number 0 }
 {
-    K::least(number.min(u64::MAX as u128) as u64)
+    K::from_parts(number.min(u64::MAX as u128) as u64, 0)
 }
 
 /// Takes out the first interval that is a complete message with the number, where none begins before the key.

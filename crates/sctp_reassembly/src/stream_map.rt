@@ -9,9 +9,8 @@ ghost use Rattle.sctp_fragments.specs.Held.{bytes_of};
 ghost use Rattle.sctp_fragments.specs.Interval.{as_held};
 ghost use Rattle.sctp_reassembly.specs.Delivery.{ready_bytes, Extends};
 ghost use Rattle.sctp_reassembly.specs.ReassemblyStreams.{bytes_held, fragments_held, AreCounted, is_far, stream_at, with_stream, set_stream, forget};
-ghost use Rattle.sctp_reassembly.specs.WireNumber.{nearest_of, number_on};
+ghost use Rattle.sctp_reassembly.specs.WireNumber.{nearest_of};
 
-use crate::from_parts::FromParts;
 use crate::near::WireNumber;
 use crate::ready_messages::ReadyMessages;
 use crate::reassembly_stream::ReassemblyStream;
@@ -83,7 +82,7 @@ impl<S: ReassemblyStream> StreamMap<S> {
         Ok(())
     }
 
-    /// Adds a fragment to its stream, which it looks up once. Where the number is too far, nothing changes.
+    /// Adds a fragment to its stream, which it looks up once where it is there. Where the number is too far, nothing changes.
     #[tactic(auto, using(crate::proofs::ExtendsLemmas::extends_none))]
     pub fn add(
         &mut self,
@@ -93,13 +92,11 @@ impl<S: ReassemblyStream> StreamMap<S> {
         fragment: Data,
         ready: &mut ReadyMessages,
     ) -> Result<(), AllocError>
-    where
-        S::Key: FromParts,
         requires room { bytes_held S.held self.old + ready_bytes ready.old + length fragment.payload.items < 2 ^ 64 }
         requires fragments { fragments_held S.held self.old + 1 < 2 ^ 64 }
-        ensures ok { OnOk result (self.new ≡ (if is_far (number_on S.reading_point S.fresh id.0 self.old number) then self.old else set_stream S.fresh id.0 (S.after_arrival (as_held (number_on S.reading_point S.fresh id.0 self.old number) index fragment) (stream_at S.fresh id.0 self.old)) self.old)) }
-        ensures ready { OnOk result (ready.new ≡ ready.old ++ (if is_far (number_on S.reading_point S.fresh id.0 self.old number) then [] else S.made_ready (as_held (number_on S.reading_point S.fresh id.0 self.old number) index fragment) (stream_at S.fresh id.0 self.old))) }
-        ensures err { OnErr result ((is_far (number_on S.reading_point S.fresh id.0 self.old number) ≡ false) × (((self.new ≡ self.old) × (ready.new ≡ ready.old)) ⊎ ((steps : ℕ) × ((self.new ≡ set_stream S.fresh id.0 (S.arrival_in_part steps (as_held (number_on S.reading_point S.fresh id.0 self.old number) index fragment) (stream_at S.fresh id.0 self.old)) self.old) × (ready.new ≡ ready.old ++ S.ready_in_part steps (as_held (number_on S.reading_point S.fresh id.0 self.old number) index fragment) (stream_at S.fresh id.0 self.old)))))) }
+        ensures ok { let s = stream_at S.fresh id.0 self.old in let n = nearest_of number (S.reading_point s) in OnOk result (self.new ≡ (if is_far n then self.old else set_stream S.fresh id.0 (S.after_arrival (as_held n index fragment) s) self.old)) }
+        ensures ready { let s = stream_at S.fresh id.0 self.old in let n = nearest_of number (S.reading_point s) in OnOk result (ready.new ≡ ready.old ++ (if is_far n then [] else S.made_ready (as_held n index fragment) s)) }
+        ensures err { let s = stream_at S.fresh id.0 self.old in let n = nearest_of number (S.reading_point s) in let h = as_held n index fragment in OnErr result ((is_far n ≡ false) × (((self.new ≡ self.old) × (ready.new ≡ ready.old)) ⊎ ((steps : ℕ) × ((self.new ≡ set_stream S.fresh id.0 (S.arrival_in_part steps h s) self.old) × (ready.new ≡ ready.old ++ S.ready_in_part steps h s))))) }
         ensures kept { Extends ready.old ready.new }
         ensures bytes { bytes_held S.held self.new + ready_bytes ready.new ≤ bytes_held S.held self.old + ready_bytes ready.old + length fragment.payload.items }
         ensures fragments { fragments_held S.held self.new ≤ fragments_held S.held self.old + 1 }
@@ -125,14 +122,12 @@ impl<S: ReassemblyStream> StreamMap<S> {
         fragment: Data,
         ready: &mut ReadyMessages,
     ) -> Result<(), AllocError>
-    where
-        S::Key: FromParts,
         requires absent { None ≡ lookup (is_at (nat_cmp id.0)) self.old }
         requires room { bytes_held S.held self.old + ready_bytes ready.old + length fragment.payload.items < 2 ^ 64 }
         requires fragments { fragments_held S.held self.old + 1 < 2 ^ 64 }
-        ensures ok { OnOk result (self.new ≡ (if is_far (number_on S.reading_point S.fresh id.0 self.old number) then self.old else set_stream S.fresh id.0 (S.after_arrival (as_held (number_on S.reading_point S.fresh id.0 self.old number) index fragment) (stream_at S.fresh id.0 self.old)) self.old)) }
-        ensures ready { OnOk result (ready.new ≡ ready.old ++ (if is_far (number_on S.reading_point S.fresh id.0 self.old number) then [] else S.made_ready (as_held (number_on S.reading_point S.fresh id.0 self.old number) index fragment) (stream_at S.fresh id.0 self.old))) }
-        ensures err { OnErr result ((is_far (number_on S.reading_point S.fresh id.0 self.old number) ≡ false) × (((self.new ≡ self.old) × (ready.new ≡ ready.old)) ⊎ ((steps : ℕ) × ((self.new ≡ set_stream S.fresh id.0 (S.arrival_in_part steps (as_held (number_on S.reading_point S.fresh id.0 self.old number) index fragment) (stream_at S.fresh id.0 self.old)) self.old) × (ready.new ≡ ready.old ++ S.ready_in_part steps (as_held (number_on S.reading_point S.fresh id.0 self.old number) index fragment) (stream_at S.fresh id.0 self.old)))))) }
+        ensures ok { let s = stream_at S.fresh id.0 self.old in let n = nearest_of number (S.reading_point s) in OnOk result (self.new ≡ (if is_far n then self.old else set_stream S.fresh id.0 (S.after_arrival (as_held n index fragment) s) self.old)) }
+        ensures ready { let s = stream_at S.fresh id.0 self.old in let n = nearest_of number (S.reading_point s) in OnOk result (ready.new ≡ ready.old ++ (if is_far n then [] else S.made_ready (as_held n index fragment) s)) }
+        ensures err { let s = stream_at S.fresh id.0 self.old in let n = nearest_of number (S.reading_point s) in let h = as_held n index fragment in OnErr result ((is_far n ≡ false) × (((self.new ≡ self.old) × (ready.new ≡ ready.old)) ⊎ ((steps : ℕ) × ((self.new ≡ set_stream S.fresh id.0 (S.arrival_in_part steps h s) self.old) × (ready.new ≡ ready.old ++ S.ready_in_part steps h s))))) }
         ensures kept { Extends ready.old ready.new }
         ensures bytes { bytes_held S.held self.new + ready_bytes ready.new ≤ bytes_held S.held self.old + ready_bytes ready.old + length fragment.payload.items }
         ensures fragments { fragments_held S.held self.new ≤ fragments_held S.held self.old + 1 }
@@ -147,8 +142,8 @@ impl<S: ReassemblyStream> StreamMap<S> {
         added
     }
 
-    /// A forward point names a message: its stream, which it looks up once, drops it and those before it. Where the number
-    /// is too far, nothing changes.
+    /// A forward point names a message: its stream, which it looks up once where it is there, drops it and those before it.
+    /// Where the number is too far, nothing changes.
     #[tactic(auto, using(crate::proofs::ExtendsLemmas::extends_none))]
     pub fn forward(
         &mut self,
@@ -157,9 +152,9 @@ impl<S: ReassemblyStream> StreamMap<S> {
         ready: &mut ReadyMessages,
     ) -> Result<(), AllocError>
         requires room { bytes_held S.held self.old + ready_bytes ready.old < 2 ^ 64 }
-        ensures ok { OnOk result (self.new ≡ (if is_far (number_on S.reading_point S.fresh id.0 self.old number) then self.old else set_stream S.fresh id.0 (S.after_forward (number_on S.reading_point S.fresh id.0 self.old number) (stream_at S.fresh id.0 self.old)) self.old)) }
-        ensures ready { OnOk result (ready.new ≡ ready.old ++ (if is_far (number_on S.reading_point S.fresh id.0 self.old number) then [] else S.forwarded (number_on S.reading_point S.fresh id.0 self.old number) (stream_at S.fresh id.0 self.old))) }
-        ensures err { OnErr result ((is_far (number_on S.reading_point S.fresh id.0 self.old number) ≡ false) × (((self.new ≡ self.old) × (ready.new ≡ ready.old)) ⊎ ((steps : ℕ) × ((self.new ≡ set_stream S.fresh id.0 (S.forward_in_part steps (number_on S.reading_point S.fresh id.0 self.old number) (stream_at S.fresh id.0 self.old)) self.old) × (ready.new ≡ ready.old ++ S.forwarded_in_part steps (number_on S.reading_point S.fresh id.0 self.old number) (stream_at S.fresh id.0 self.old)))))) }
+        ensures ok { let s = stream_at S.fresh id.0 self.old in let n = nearest_of number (S.reading_point s) in OnOk result (self.new ≡ (if is_far n then self.old else set_stream S.fresh id.0 (S.after_forward n s) self.old)) }
+        ensures ready { let s = stream_at S.fresh id.0 self.old in let n = nearest_of number (S.reading_point s) in OnOk result (ready.new ≡ ready.old ++ (if is_far n then [] else S.forwarded n s)) }
+        ensures err { let s = stream_at S.fresh id.0 self.old in let n = nearest_of number (S.reading_point s) in OnErr result ((is_far n ≡ false) × (((self.new ≡ self.old) × (ready.new ≡ ready.old)) ⊎ ((steps : ℕ) × ((self.new ≡ set_stream S.fresh id.0 (S.forward_in_part steps n s) self.old) × (ready.new ≡ ready.old ++ S.forwarded_in_part steps n s))))) }
         ensures kept { Extends ready.old ready.new }
         ensures bytes { bytes_held S.held self.new + ready_bytes ready.new ≤ bytes_held S.held self.old + ready_bytes ready.old }
         ensures fragments { fragments_held S.held self.new ≤ fragments_held S.held self.old }
@@ -185,9 +180,9 @@ impl<S: ReassemblyStream> StreamMap<S> {
     ) -> Result<(), AllocError>
         requires absent { None ≡ lookup (is_at (nat_cmp id.0)) self.old }
         requires room { bytes_held S.held self.old + ready_bytes ready.old < 2 ^ 64 }
-        ensures ok { OnOk result (self.new ≡ (if is_far (number_on S.reading_point S.fresh id.0 self.old number) then self.old else set_stream S.fresh id.0 (S.after_forward (number_on S.reading_point S.fresh id.0 self.old number) (stream_at S.fresh id.0 self.old)) self.old)) }
-        ensures ready { OnOk result (ready.new ≡ ready.old ++ (if is_far (number_on S.reading_point S.fresh id.0 self.old number) then [] else S.forwarded (number_on S.reading_point S.fresh id.0 self.old number) (stream_at S.fresh id.0 self.old))) }
-        ensures err { OnErr result ((is_far (number_on S.reading_point S.fresh id.0 self.old number) ≡ false) × (((self.new ≡ self.old) × (ready.new ≡ ready.old)) ⊎ ((steps : ℕ) × ((self.new ≡ set_stream S.fresh id.0 (S.forward_in_part steps (number_on S.reading_point S.fresh id.0 self.old number) (stream_at S.fresh id.0 self.old)) self.old) × (ready.new ≡ ready.old ++ S.forwarded_in_part steps (number_on S.reading_point S.fresh id.0 self.old number) (stream_at S.fresh id.0 self.old)))))) }
+        ensures ok { let s = stream_at S.fresh id.0 self.old in let n = nearest_of number (S.reading_point s) in OnOk result (self.new ≡ (if is_far n then self.old else set_stream S.fresh id.0 (S.after_forward n s) self.old)) }
+        ensures ready { let s = stream_at S.fresh id.0 self.old in let n = nearest_of number (S.reading_point s) in OnOk result (ready.new ≡ ready.old ++ (if is_far n then [] else S.forwarded n s)) }
+        ensures err { let s = stream_at S.fresh id.0 self.old in let n = nearest_of number (S.reading_point s) in OnErr result ((is_far n ≡ false) × (((self.new ≡ self.old) × (ready.new ≡ ready.old)) ⊎ ((steps : ℕ) × ((self.new ≡ set_stream S.fresh id.0 (S.forward_in_part steps n s) self.old) × (ready.new ≡ ready.old ++ S.forwarded_in_part steps n s))))) }
         ensures kept { Extends ready.old ready.new }
         ensures bytes { bytes_held S.held self.new + ready_bytes ready.new ≤ bytes_held S.held self.old + ready_bytes ready.old }
         ensures fragments { fragments_held S.held self.new ≤ fragments_held S.held self.old }
@@ -223,14 +218,12 @@ fn add_to<S: ReassemblyStream>(
     fragment: Data,
     ready: &mut ReadyMessages,
 ) -> Result<(), AllocError>
-where
-    S::Key: FromParts,
     requires room { bytes_of (S.held stream.old) + ready_bytes ready.old + length fragment.payload.items < 2 ^ 64 }
     requires fragments { length (S.held stream.old) + 1 < 2 ^ 64 }
-    ensures ok { OnOk result (stream.new ≡ (if is_far (nearest_of number (S.reading_point stream.old)) then stream.old else S.after_arrival (as_held (nearest_of number (S.reading_point stream.old)) index fragment) stream.old)) }
-    ensures ready { OnOk result (ready.new ≡ ready.old ++ (if is_far (nearest_of number (S.reading_point stream.old)) then [] else S.made_ready (as_held (nearest_of number (S.reading_point stream.old)) index fragment) stream.old)) }
+    ensures ok { let n = nearest_of number (S.reading_point stream.old) in OnOk result (stream.new ≡ (if is_far n then stream.old else S.after_arrival (as_held n index fragment) stream.old)) }
+    ensures ready { let n = nearest_of number (S.reading_point stream.old) in OnOk result (ready.new ≡ ready.old ++ (if is_far n then [] else S.made_ready (as_held n index fragment) stream.old)) }
     ensures near { OnErr result (is_far (nearest_of number (S.reading_point stream.old)) ≡ false) }
-    ensures err { OnErr result ((steps : ℕ) × ((stream.new ≡ S.arrival_in_part steps (as_held (nearest_of number (S.reading_point stream.old)) index fragment) stream.old) × (ready.new ≡ ready.old ++ S.ready_in_part steps (as_held (nearest_of number (S.reading_point stream.old)) index fragment) stream.old))) }
+    ensures err { let n = nearest_of number (S.reading_point stream.old) in let h = as_held n index fragment in OnErr result ((steps : ℕ) × ((stream.new ≡ S.arrival_in_part steps h stream.old) × (ready.new ≡ ready.old ++ S.ready_in_part steps h stream.old))) }
     ensures kept { Extends ready.old ready.new }
     ensures bytes { bytes_of (S.held stream.new) + ready_bytes ready.new ≤ bytes_of (S.held stream.old) + ready_bytes ready.old + length fragment.payload.items }
     ensures fragments { length (S.held stream.new) ≤ length (S.held stream.old) + 1 }
@@ -249,10 +242,10 @@ fn forward_behind<S: ReassemblyStream>(
     ready: &mut ReadyMessages,
 ) -> Result<(), AllocError>
     requires room { bytes_of (S.held stream.old) + ready_bytes ready.old < 2 ^ 64 }
-    ensures ok { OnOk result (stream.new ≡ (if is_far (nearest_of number (S.reading_point stream.old)) then stream.old else S.after_forward (nearest_of number (S.reading_point stream.old)) stream.old)) }
-    ensures ready { OnOk result (ready.new ≡ ready.old ++ (if is_far (nearest_of number (S.reading_point stream.old)) then [] else S.forwarded (nearest_of number (S.reading_point stream.old)) stream.old)) }
+    ensures ok { let n = nearest_of number (S.reading_point stream.old) in OnOk result (stream.new ≡ (if is_far n then stream.old else S.after_forward n stream.old)) }
+    ensures ready { let n = nearest_of number (S.reading_point stream.old) in OnOk result (ready.new ≡ ready.old ++ (if is_far n then [] else S.forwarded n stream.old)) }
     ensures near { OnErr result (is_far (nearest_of number (S.reading_point stream.old)) ≡ false) }
-    ensures err { OnErr result ((steps : ℕ) × ((stream.new ≡ S.forward_in_part steps (nearest_of number (S.reading_point stream.old)) stream.old) × (ready.new ≡ ready.old ++ S.forwarded_in_part steps (nearest_of number (S.reading_point stream.old)) stream.old))) }
+    ensures err { let n = nearest_of number (S.reading_point stream.old) in OnErr result ((steps : ℕ) × ((stream.new ≡ S.forward_in_part steps n stream.old) × (ready.new ≡ ready.old ++ S.forwarded_in_part steps n stream.old))) }
     ensures kept { Extends ready.old ready.new }
     ensures bytes { bytes_of (S.held stream.new) + ready_bytes ready.new ≤ bytes_of (S.held stream.old) + ready_bytes ready.old }
     ensures fragments { length (S.held stream.new) ≤ length (S.held stream.old) }
@@ -260,7 +253,7 @@ fn forward_behind<S: ReassemblyStream>(
     let Some(number) = number.near(stream.reading_point()) else {
         return Ok(());
     };
-    stream.forward(S::Key::least(number + 1), ready)
+    stream.forward(S::Key::from_parts(number + 1, 0), ready)
 }
 
 /// Takes out the streams that are named, each by a look-up, and what they held off the bytes and the count of fragments.

@@ -1,7 +1,6 @@
 //! A stream whose messages become ready when they are complete.
 
 ghost use Rattle.std.specs.Prelude.{◌≡◌, ◌+◌, ◌<◌, ◌≤◌, ◌^◌, ◌++◌, ◌∷◌, ℕ, suc, length, OnOk, OnErr, IfSome, IfNone, []};
-ghost use Rattle.sctp_serial.specs.Unwrapped.{origin};
 ghost use Rattle.sctp_fragments.specs.Held.{bytes_of, is_complete};
 ghost use Rattle.sctp_fragments.specs.Interval.{as_held};
 ghost use Rattle.sctp_fragments.specs.ReassemblyKey.{rank_at};
@@ -158,18 +157,6 @@ impl<K: ReassemblyKey> UnorderedStream<K> {
         }
     }
 
-    /// The last number that came.
-    pub fn near(&self) -> u64
-        ensures value { result ≡ self.now.near }
-        ensures least { origin ≤ result }
-        ensures most { result < 2 ^ 63 }
-    {
-        match &self.state {
-            UnorderedState::Idle(near, _) => *near,
-            UnorderedState::Holding(fragments) => fragments.near(),
-        }
-    }
-
     /// Drops the fragments before the key.
     pub fn forward_to(&mut self, first: K)
         ensures value { self.new ≡ held_from (rank_at K.number K.index first) self.old }
@@ -236,7 +223,10 @@ impl<K: ReassemblyKey> ReassemblyStream for UnorderedStream<K> {
 
     /// The last number that came.
     fn reading_point(&self) -> u128 {
-        self.near() as u128
+        match &self.state {
+            UnorderedState::Idle(near, _) => *near as u128,
+            UnorderedState::Holding(fragments) => fragments.near() as u128,
+        }
     }
 
     /// Adds a fragment, unless a forward point passed its message; a message that it completes becomes ready. Takes a few

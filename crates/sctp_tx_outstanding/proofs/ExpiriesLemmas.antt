@@ -255,3 +255,26 @@ pub expects_next : (old new : Expiries) (k will : ℕ) (is : List Item) (i : Ite
 expects_next old new k will is i h at e lists known =
     subst (λ (xs : List Item). Expects new xs) (sym (take_more is k i h ∙ ap (λ y. take k is ++ y ∷ []) (sym at)))
     (lists (take k is) (take k is ++ i ∷ []) (gains_pushed k will (take k is) i (length-take-le k is (omega (arith, h))) e) known)
+
+-- ---- one is passed over: its deadline lies before, and it is neither missing nor lost
+
+not_expected : (d m : ℕ) (i : Item) → has_nack i.state ≡ false → or_never i.expires ≤ d → m < never → is_expected d m i ≡ true → ⊥
+not_expected d m i calm past less h = elim (why_expected d m i h) [
+  | inl own ↦ omega (arith, own, ap (λ b. cond b (or_never i.expires) never) calm, less)
+  | inr later ↦ omega (arith, later.0, later.1, past)
+]
+
+passed_over : (d m k : ℕ) (is : List Item) (i : Item) → has_nack i.state ≡ false → or_never i.expires ≤ d → m < never → expected_at d m k (is ++ i ∷ []) ≡ true → expected_at d m k is ≡ true
+passed_over d m zero [] i calm past less h = absurd (not_expected d m i calm past less h)
+passed_over d m (suc k) [] i calm past less h = h
+passed_over d m zero (x ∷ is) i calm past less h = h
+passed_over d m (suc k) (x ∷ is) i calm past less h = passed_over d m k is i calm past less h
+
+pub expects_passed : (x : Expiries) (k : ℕ) (is : List Item) (i : Item) → k < length is → i ≡ slice_index_or is k i → has_nack i.state ≡ false → or_never i.expires ≤ x.dropped
+    → Expects x (take k is) → Expects x (take (k + 1) is)
+expects_passed x k is i h at calm past known =
+    subst (λ (xs : List Item). Expects x xs) (sym (take_more is k i h ∙ ap (λ y. take k is ++ y ∷ []) (sym at)))
+    (λ is_known. record {
+      fits = λ m j less e. (known is_known).fits m j less (passed_over x.dropped m j (take k is) i calm past less e);
+      listed = λ m j less e. (known is_known).listed m j less (passed_over x.dropped m j (take k is) i calm past less e);
+    })

@@ -1,8 +1,13 @@
 -- The items of each message, as items come, change and leave.
 use Rattle.std.proofs.Common.{◌≡◌, ℕ, zero, suc, ◌+◌, ◌-◌, ◌^◌, ◌<◌, ◌≤◌, ◌==◌, Bool, true, false, cond, List, [], ◌∷◌, ◌++◌, Option, Some, None, length, take, drop, slice_index_or, refl, ap, sym, subst, ◌∙◌, inl, inr, arith}
-use Rattle.std.specs.Prelude.{◌&&◌, map}
+use Rattle.std.specs.Prelude.{◌&&◌, ◌||◌, ◌⊎◌, map}
+use Rattle.std.specs.Ordering.{nat_cmp}
+use Rattle.std.specs.BTreeMap.{is_at}
+use Rattle.std.specs.List.Sorted.{IsNonDecreasing, IsPermutation}
+use Rattle.std.proofs.lemmas.List.Folds.{list_any-append}
+use Rattle.std.proofs.lemmas.List.Sorted.{list_any-IsPermutation}
 use Rattle.std.proofs.lemmas.Bool.{cases_lt, and_from, and_parts, false≢true}
-use Rattle.std.proofs.lemmas.List.{append-nil, take_all, take_more, length-take-le}
+use Rattle.std.proofs.lemmas.List.{append-nil, length-append, take_all, take_more, length-take-le}
 use Rattle.sctp_chunk.specs.Chunk.{FragmentTree}
 use Rattle.sctp_tx_outstanding.specs.declared.kept.Change.{Change}
 use Rattle.sctp_tx_outstanding.specs.declared.kept.Change.TheVariants as changes
@@ -10,11 +15,12 @@ use Rattle.sctp_tx_outstanding.specs.Item.{Item, is_of, abandon}
 use Rattle.sctp_tx_outstanding.specs.Change.{apply_change}
 use Rattle.sctp_tx_outstanding.specs.OutstandingData.{Items, Discard, change_at, abandon_if_of, is_of_at, last_of, later_of, later_at, without_payload}
 use Rattle.sctp_tx_outstanding.specs.Losses.{placeholder, placeholders, discards_of, abandon_message}
-use Rattle.sctp_tx_outstanding.specs.Numbers.{by_number, is_listed}
-use Rattle.sctp_tx_outstanding.specs.Messages.{NoneIsOf, IsWhole, is_end_at, is_of_as, pair_key, AreKeys, Finds}
+use Rattle.sctp_tx_outstanding.specs.Numbers.{is_listed}
+use Rattle.sctp_tx_outstanding.specs.Messages.{NoneIsOf, IsWhole, is_end_at, is_of_as, pair_key, AreKeys, Lists, Finds, IsFirstFrom}
 use Rattle.sctp_tx_outstanding.specs.declared.messages.Messages.{Messages}
 use Rattle.sctp_tx_outstanding.proofs.AbandonedItemsLemmas.{laid}
-use Rattle.sctp_tx_outstanding.proofs.NumbersLemmas.{as_below, as_at, as_never, as_next, as_alike, as_turned, here, ahead, behind, further, not_below, is_same_lem, equal}
+use Rattle.sctp_tx_outstanding.proofs.TotalsLemmas.{length_change}
+use Rattle.sctp_tx_outstanding.proofs.NumbersLemmas.{same_key as is_at_key, as_at, as_never, as_alike, as_turned, here, ahead, behind, further, not_below, is_same_lem, equal}
 use Rattle.sctp_serial.proofs.NumberLemmas.{greater_differs}
 
 -- ---- keys
@@ -76,54 +82,60 @@ turn_round m j = elim (cases_lt m j) [
 
 pub taken : (keys news : List ℕ) (first number : ℕ) (is : List Item) (i : Item) (place message : ℕ) → length is ≡ place → number ≡ first + place → number < 2 ^ 32 → i.number ≡ message
     → ((key : ℕ) → is_listed news key ≡ cond (key == pair_key message number) true (is_listed keys key)) → AreKeys keys first is → AreKeys news first (is ++ i ∷ [])
-taken keys news first number is i place message e at small of put known = λ m n few.
-    put (pair_key m n) ∙ (ap (λ b. cond b true (is_listed keys (pair_key m n))) (same_key m message n number few small)
-    ∙ (came (m == message) (n == number) (is_of m i) (is_listed keys (pair_key m n)) (is_of_as first m n is) (ap (λ j. j == m) of ∙ turn_round m message) (known m n few)
-    (as_turned first place false (λ k. is_of_at m k is) (λ k. is_of_at m k is) (of_end m place is e) n ∙ ap (λ l. cond (n == l) false (is_of_as first m n is)) (sym at))
-    ∙ (ap (λ l. cond (n == l) (is_of m i) (is_of_as first m n is)) at
-    ∙ sym (as_turned first place (is_of m i) (λ k. is_of_at m k is) (λ k. is_of_at m k (is ++ i ∷ [])) (of_more m place is i e) n))))
+taken keys news first number is i place message e at small of put known = record {
+  fits = omega (arith, e, at, small, length-append is (i ∷ []));
+  same = λ m n from few.
+      put (pair_key m n) ∙ (ap (λ b. cond b true (is_listed keys (pair_key m n))) (same_key m message n number few small)
+      ∙ (came (m == message) (n == number) (is_of m i) (is_listed keys (pair_key m n)) (is_of_as first m n is) (ap (λ j. j == m) of ∙ turn_round m message) (known.same m n from few)
+      (as_turned first place false (λ k. is_of_at m k is) (λ k. is_of_at m k is) (of_end m place is e) n ∙ ap (λ l. cond (n == l) false (is_of_as first m n is)) (sym at))
+      ∙ (ap (λ l. cond (n == l) (is_of m i) (is_of_as first m n is)) at
+      ∙ sym (as_turned first place (is_of m i) (λ k. is_of_at m k is) (λ k. is_of_at m k (is ++ i ∷ [])) (of_more m place is i e) n))));
+}
 
--- ---- the first one leaves
+-- ---- its key, among those added or behind those sorted
 
-pub out : (a b w : Bool) → b ≡ true → w ≡ a → cond (a && b) false w ≡ false
-out true true w h e = refl
-out false true w h e = e
-out a false w h e = cc
+pub listed_both : (xs ys : List ℕ) (key : ℕ) → is_listed (xs ++ ys) key ≡ (is_listed xs key || is_listed ys key)
+listed_both xs ys key = list_any-append (is_at (nat_cmp key)) xs ys
 
-pub stays : (a b w : Bool) → b ≡ false → cond (a && b) false w ≡ w
-stays true true w h = cc
-stays false true w h = refl
-stays true false w h = refl
-stays false false w h = refl
+or_put : (a b c : Bool) → (a || cond b true c) ≡ cond b true (a || c)
+or_put true true c = refl
+or_put true false c = refl
+or_put false b c = refl
 
-pub left : (keys news : List ℕ) (first next : ℕ) (i : Item) (is : List Item) (message : ℕ) → next ≡ first + 1 → first < 2 ^ 32 → i.number ≡ message
-    → ((key : ℕ) → is_listed news key ≡ cond (key == pair_key message first) false (is_listed keys key)) → AreKeys keys first (i ∷ is) → AreKeys news next is
-left keys news first next i is message e small of put known = λ m n few.
-    put (pair_key m n) ∙ (ap (λ b. cond b false (is_listed keys (pair_key m n))) (same_key m message n first few small)
-    ∙ (leaves m n few ∙ ap (λ l. is_of_as l m n is) (sym e)))
-  where
-    at_first : (m n : ℕ) → n < 2 ^ 32 → n ≡ first → is_listed keys (pair_key m n) ≡ (m == message)
-    at_first m n few same =
-        let there : n ≡ first + 0 = omega (arith, same) in
-        known m n few ∙ (ap (λ l. by_number first (λ k. is_of_at m k (i ∷ is)) l) there ∙ (as_at first (λ k. is_of_at m k (i ∷ is)) 0 ∙ (ap (λ j. j == m) of ∙ turn_round m message)))
+pub put_added : (xs olds news : List ℕ) (k : ℕ) → ((key : ℕ) → is_listed news key ≡ cond (key == k) true (is_listed olds key)) → (key : ℕ) → is_listed (xs ++ news) key ≡ cond (key == k) true (is_listed (xs ++ olds) key)
+put_added xs olds news k put key =
+    listed_both xs news key ∙ (ap (λ b. is_listed xs key || b) (put key)
+    ∙ (or_put (is_listed xs key) (key == k) (is_listed olds key) ∙ ap (λ b. cond (key == k) true b) (sym (listed_both xs olds key))))
 
-    leaves : (m n : ℕ) → n < 2 ^ 32 → cond ((m == message) && (n == first)) false (is_listed keys (pair_key m n)) ≡ is_of_as (first + 1) m n is
-    leaves m n few = elim (cases_lt first n) [
-      | inl more ↦ stays (m == message) (n == first) (is_listed keys (pair_key m n)) (greater_differs first n more) ∙ (known m n few ∙ sym (as_next first (λ k. is_of_at m k (i ∷ is)) n more))
-      | inr le ↦ none m n few le ∙ sym (as_below (first + 1) (λ k. is_of_at m k is) n (omega (arith, le)))
-    ] where
-      none : (m n : ℕ) → n < 2 ^ 32 → n ≤ first → cond ((m == message) && (n == first)) false (is_listed keys (pair_key m n)) ≡ false
-      none m n few le = elim (cases_lt n first) [
-        | inl less ↦ stays (m == message) (n == first) (is_listed keys (pair_key m n)) (not_below first n less) ∙ (known m n few ∙ as_below first (λ k. is_of_at m k (i ∷ is)) n less)
-        | inr ge ↦
-            let same : n ≡ first = omega (arith, le, ge) in
-            out (m == message) (n == first) (is_listed keys (pair_key m n)) (is_same_lem first n same) (at_first m n few same)
-      ]
+or_push : (a b c : Bool) → ((a || (b || false)) || c) ≡ cond b true (a || c)
+or_push true true c = refl
+or_push true false c = refl
+or_push false true c = refl
+or_push false false c = refl
+
+pub put_sorted : (xs ys : List ℕ) (k key : ℕ) → is_listed ((xs ++ k ∷ []) ++ ys) key ≡ cond (key == k) true (is_listed (xs ++ ys) key)
+put_sorted xs ys k key =
+    listed_both (xs ++ k ∷ []) ys key ∙ (ap (λ b. b || is_listed ys key) (listed_both xs (k ∷ []) key)
+    ∙ (ap (λ b. (is_listed xs key || (b || false)) || is_listed ys key) (is_at_key key k ∙ turn_round key k)
+    ∙ (or_push (is_listed xs key) (key == k) (is_listed ys key) ∙ ap (λ b. cond (key == k) true b) (sym (listed_both xs ys key)))))
+
+-- ---- the keys are sorted
+
+pub reordered : (xs ys added : List ℕ) (first : ℕ) (is : List Item) → IsPermutation xs ys → AreKeys (xs ++ added) first is → AreKeys (ys ++ added) first is
+reordered xs ys added first is moved known = record {
+  fits = known.fits;
+  same = λ m n from few.
+      let key = pair_key m n in
+      listed_both ys added key ∙ (ap (λ b. b || is_listed added key) (sym (list_any-IsPermutation (is_at (nat_cmp key)) xs ys moved)) ∙ (sym (listed_both xs added key) ∙ known.same m n from few));
+}
 
 -- ---- none is kept
 
-pub none_kept : (keys : List ℕ) (first : ℕ) → keys ≡ [] → AreKeys keys first []
-none_kept keys first e = λ m n few. ap (λ ks. is_listed ks (pair_key m n)) e ∙ sym (as_never first (λ k. is_of_at m k []) (λ k. refl) n)
+pub none_kept : (keys : List ℕ) → keys ≡ [] → AreKeys keys 0 []
+none_kept keys e = record {
+  fits = omega arith;
+  same = λ m n from few. ap (λ ks. is_listed ks (pair_key m n)) e ∙ sym (as_never 0 (λ k. is_of_at m k []) (λ k. refl) n);
+}
 
 -- ---- items change
 
@@ -143,27 +155,119 @@ of_changed message x (suc p) (i ∷ is) zero = refl
 of_changed message x (suc p) (i ∷ is) (suc k) = of_changed message x p is k
 
 pub finds_changed : (f : Messages) (x : Change) (p : ℕ) (is : List Item) → Finds f is → Finds f (change_at p (apply_change x) is)
-finds_changed f x p is known = λ yes m n few. known yes m n few ∙ sym (as_alike f.first (λ k. is_of_at m k is) (λ k. is_of_at m k (change_at p (apply_change x) is)) (of_changed m x p is) n)
+finds_changed f x p is finds = record {
+  lists = λ yes.
+      let known = finds.lists yes in
+      record {
+        fits = omega (arith, known.fits, length_change p (apply_change x) is);
+        same = λ m n from few. known.same m n from few ∙ sym (as_alike f.first (λ k. is_of_at m k is) (λ k. is_of_at m k (change_at p (apply_change x) is)) (of_changed m x p is) n);
+      };
+  ascends = finds.ascends;
+}
 
--- ---- one more is known
+-- ---- one more is listed
 
-pub finds_next : (old new : Messages) (is : List Item) (k : ℕ) (i : Item) → k < length is → i ≡ slice_index_or is k i
-    → ((js : List Item) (j : Item) → length js ≡ k → j.number ≡ i.number → Finds old js → Finds new (js ++ j ∷ [])) → Finds old (take k is) → Finds new (take (k + 1) is)
-finds_next old new is k i h at adds known =
-    subst (λ (xs : List Item). Finds new xs) (sym (take_more is k i h ∙ ap (λ y. take k is ++ y ∷ []) (sym at))) (adds (take k is) i (length-take-le k is (omega (arith, h))) refl known)
+pub lists_next : (old new : Messages) (is : List Item) (k : ℕ) (i : Item) → k < length is → i ≡ slice_index_or is k i
+    → ((js : List Item) (j : Item) → length js ≡ k → j.number ≡ i.number → Lists old js → Lists new (js ++ j ∷ [])) → Lists old (take k is) → Lists new (take (k + 1) is)
+lists_next old new is k i h at adds known =
+    subst (λ (xs : List Item). Lists new xs) (sym (take_more is k i h ∙ ap (λ y. take k is ++ y ∷ []) (sym at))) (adds (take k is) i (length-take-le k is (omega (arith, h))) refl known)
 
-pub finds_past : (f : Messages) (is : List Item) (k : ℕ) → length is ≤ k → Finds f (take k is) → Finds f (take (k + 1) is)
-finds_past f is k h known = subst (λ (xs : List Item). Finds f xs) (take_all k is h ∙ sym (take_all (k + 1) is (omega (arith, h)))) known
+pub lists_past : (f : Messages) (is : List Item) (k : ℕ) → length is ≤ k → Lists f (take k is) → Lists f (take (k + 1) is)
+lists_past f is k h known = subst (λ (xs : List Item). Lists f xs) (take_all k is h ∙ sym (take_all (k + 1) is (omega (arith, h)))) known
 
-pub finds_all : (f : Messages) (is : List Item) (k : ℕ) → length is ≤ k → Finds f (take k is) → Finds f is
-finds_all f is k h known = subst (λ (xs : List Item). Finds f xs) (take_all k is h) known
+pub lists_all : (f : Messages) (is : List Item) (k : ℕ) → length is ≤ k → Lists f (take k is) → Lists f is
+lists_all f is k h known = subst (λ (xs : List Item). Lists f xs) (take_all k is h) known
+
+-- ---- keys that ascend
+
+both_not : (a b : Bool) → a ≡ false → b ≡ false → (a || b) ≡ false
+both_not true b p q = p
+both_not false b p q = q
+
+pub in_neither : (xs ys : List ℕ) (n : ℕ) → is_listed xs n ≡ false → is_listed ys n ≡ false → is_listed (xs ++ ys) n ≡ false
+in_neither xs ys n p q = listed_both xs ys n ∙ both_not (is_listed xs n) (is_listed ys n) p q
+
+pub in_none : (xs : List ℕ) (n : ℕ) → xs ≡ [] → is_listed xs n ≡ false
+in_none xs n e = ap (λ (ks : List ℕ). is_listed ks n) e
+
+not_listed : (n : ℕ) (keys : List ℕ) → ((k : ℕ) → k < length keys → (slice_index_or keys k 0 < n) ⊎ (n < slice_index_or keys k 0)) → is_listed keys n ≡ false
+not_listed n [] h = refl
+not_listed n (x ∷ xs) h = both_not (is_at (nat_cmp n) x) (is_listed xs n) (is_at_key n x ∙ other (h 0 (omega arith))) (not_listed n xs (λ k l. h (suc k) (omega (arith, l))))
+  where
+    other : (x < n) ⊎ (n < x) → (x == n) ≡ false
+    other (inl less) = not_below n x less
+    other (inr more) = greater_differs n x more
+
+pub differs : (key n : ℕ) → (n == key) ≡ false → (key < n) ⊎ (n < key)
+differs key n h = elim (cases_lt key n) [
+  | inl less ↦ inl less
+  | inr le ↦ elim (cases_lt n key) [
+    | inl more ↦ inr more
+    | inr ge ↦ absurd (false≢true (sym h ∙ is_same_lem key n (omega (arith, le, ge))))
+  ]
+]
+
+pub first_found : (keys : List ℕ) (from i : ℕ) → i < length keys → slice_index_or keys i 0 ≡ from → IsNonDecreasing keys → IsFirstFrom from i keys
+first_found keys from i within at up = record {
+  before = λ k below. elim (cases_lt (slice_index_or keys k 0) from) [
+    | inl less ↦ inl less
+    | inr le ↦ inr (within, omega (arith, le, at, up k i 0 (omega (arith, below)) within))
+  ];
+  there = λ l. omega (arith, at);
+}
+
+pub first_above : (keys : List ℕ) (from i : ℕ) → ((k : ℕ) → k < i → slice_index_or keys k 0 < from) → ((k : ℕ) → i ≤ k → k < length keys → from < slice_index_or keys k 0) → IsFirstFrom from i keys
+first_above keys from i below above = record {
+  before = λ k l. inl (below k l);
+  there = λ l. omega (arith, above i (omega arith) l);
+}
+
+module _ (keys : List ℕ) (from place n : ℕ) (up : IsNonDecreasing keys) (f : IsFirstFrom from place keys) (onward : from ≤ n) where
+  pub none_before : (place < length keys → n < slice_index_or keys place 0) → is_listed keys n ≡ false
+  none_before less = not_listed n keys (λ k l. elim (cases_lt k place) [
+    | inl below ↦ elim (f.before k below) [
+      | inl small ↦ inl (omega (arith, small, onward))
+      | inr same ↦ inr (omega (arith, less same.0, same.1))
+    ]
+    | inr above ↦ inr (omega (arith, less (omega (arith, above, l)), up place k 0 above l))
+  ])
+
+  pub none_beside : (key last : ℕ) → n ≤ last → (n == key) ≡ false → slice_index_or keys place 0 ≡ key → (place + 1 < length keys → last < slice_index_or keys (place + 1) 0) → is_listed keys n ≡ false
+  none_beside key last upto other at next = not_listed n keys (λ k l. elim (cases_lt k place) [
+    | inl below ↦ elim (f.before k below) [
+      | inl small ↦ inl (omega (arith, small, onward))
+      | inr same ↦ apart k (same.1 ∙ at)
+    ]
+    | inr above ↦ elim (cases_lt place k) [
+      | inl more ↦ inr (omega (arith, upto, next (omega (arith, more, l)), up (place + 1) k 0 (omega (arith, more)) l))
+      | inr le ↦
+          let same : k ≡ place = omega (arith, above, le) in
+          apart k (ap (λ j. slice_index_or keys j 0) same ∙ at)
+    ]
+  ]) where
+    apart : (k : ℕ) → slice_index_or keys k 0 ≡ key → (slice_index_or keys k 0 < n) ⊎ (n < slice_index_or keys k 0)
+    apart k e = elim (differs key n other) [
+      | inl less ↦ inl (omega (arith, less, e))
+      | inr more ↦ inr (omega (arith, more, e))
+    ]
 
 -- ---- from one of a message to the next
 
 pub none_of : (keys : List ℕ) (first message from to : ℕ) (is : List Item) → AreKeys keys first is → first + to ≤ 2 ^ 32
     → ((key : ℕ) → pair_key message (first + from) ≤ key → key < pair_key message (first + to) → is_listed keys key ≡ false) → NoneIsOf message from to is
 none_of keys first message from to is known few none = λ k above below.
-    sym (as_at first (λ j. is_of_at message j is) k) ∙ (sym (known message (first + k) (omega (arith, below, few))) ∙ none (pair_key message (first + k)) (omega (arith, above)) (omega (arith, below)))
+    sym (as_at first (λ j. is_of_at message j is) k) ∙ (sym (known.same message (first + k) (omega arith) (omega (arith, below, few))) ∙ none (pair_key message (first + k)) (omega (arith, above)) (omega (arith, below)))
+
+-- none but the item at one place
+pub none_other : (keys : List ℕ) (first message place k : ℕ) (is : List Item) → AreKeys keys first is → first + k < 2 ^ 32 → (k < place) ⊎ (place < k)
+    → ((n : ℕ) → pair_key message first ≤ n → n ≤ pair_key message 4294967295 → (n == pair_key message (first + place)) ≡ false → is_listed keys n ≡ false) → is_of_at message k is ≡ false
+none_other keys first message place k is known few apart none =
+    let key = pair_key message (first + k) in
+    sym (as_at first (λ j. is_of_at message j is) k) ∙ (sym (known.same message (first + k) (omega arith) few) ∙ none key (omega arith) (omega (arith, few)) (other apart))
+  where
+    other : (k < place) ⊎ (place < k) → (pair_key message (first + k) == pair_key message (first + place)) ≡ false
+    other (inl less) = not_below (pair_key message (first + place)) (pair_key message (first + k)) (omega (arith, less))
+    other (inr more) = greater_differs (pair_key message (first + place)) (pair_key message (first + k)) (omega (arith, more))
 
 pub none_here : (message place : ℕ) (is : List Item) → NoneIsOf message place place is
 none_here message place is = λ k above below. absurd (omega (arith, above, below))

@@ -10,7 +10,7 @@ use Rattle.sctp_serial.proofs.NumberLemmas.{greater_differs}
 
 -- ---- numbers as keys
 
-same_key : (m n : ℕ) → is_at (nat_cmp m) n ≡ (n == m)
+pub same_key : (m n : ℕ) → is_at (nat_cmp m) n ≡ (n == m)
 same_key m n = grind (arith, nat_tests)
 
 pub not_below : (m n : ℕ) → n < m → (n == m) ≡ false
@@ -62,12 +62,6 @@ module _ (first : ℕ) (f : ℕ → Bool) where
       never_and : (b : Bool) → (b && false) ≡ false
       never_and true = refl
       never_and false = refl
-
-  -- behind the first one
-  pub as_next : (n : ℕ) → first < n → by_number (first + 1) (λ k. f (suc k)) n ≡ by_number first f n
-  as_next n h =
-      let e : suc (n - (first + 1)) ≡ n - first = omega (arith, h) in
-      ap (λ b. b && f (suc (n - (first + 1)))) (from (first + 1) n (omega (arith, h))) ∙ ap (λ m. f m) e ∙ sym (as_from n (omega (arith, h)))
 
 -- the same at each place
 pub as_alike : (first : ℕ) (f g : ℕ → Bool) → ((k : ℕ) → g k ≡ f k) → (n : ℕ) → by_number first g n ≡ by_number first f n

@@ -119,13 +119,21 @@ impl Expiries {
         }
     }
 
-    /// It is known of no item.
-    pub fn begin(&mut self)
+    /// Nothing is known any more.
+    pub fn forget(&mut self)
+        ensures { (is : List Item) → Expects self.new is }
+    {
+        self.keys.clear();
+        self.is_known = false;
+    }
+
+    /// It is known of no item. Keys are as if they were dropped up to now.
+    pub fn begin(&mut self, now: SocketTime)
         ensures { Expects self.new [] }
     {
         self.keys.clear();
         self.first = 0;
-        self.dropped = 0;
+        self.dropped = now.as_nanos();
         self.is_known = true;
     }
 

@@ -22,8 +22,8 @@ use crate::totals::Totals;
 use std::alloc::Global;
 use std::collections::VecDeque;
 
-/// What is known of the kept items, so that they needn't be looked at: sums over them, bits by runs of 64, and the places of
-/// those that expire, are of a message, or aren't as the last SACK's blocks say.
+/// What is known of the kept items, so that they needn't be looked at: sums over them, bits by runs of 64, which are of a message
+/// and which expire when, the last SACK's blocks, and a forward point over the first ones.
 #[derive(Drop)]
 pub struct Indexes {
     pub totals: Totals,
@@ -98,6 +98,14 @@ impl Indexes {
         self.expiries.list(place, item.deadline());
     }
 
+    /// It isn't known any more which items are of which message, nor when they expire.
+    pub(crate) fn forget_found(&mut self)
+        ensures { (m : Bool) (is : List Item) → AreIndexes m is self.old → AreIndexes m is self.new }
+    {
+        self.messages.forget();
+        self.expiries.forget();
+    }
+
     /// The first item has left, before the others.
     pub(crate) fn remove(&mut self, item: &Item, others: &VecDeque<Item>, is_interleaved: bool)
         requires { AreIndexes is_interleaved (item.now ∷ others.now.items) self.old }
@@ -109,7 +117,7 @@ impl Indexes {
         self.totals = self.totals.without_part(part);
         self.last_blocks.pass();
         self.runs.pass();
-        self.messages.leave(item.message_id());
+        self.messages.leave();
         self.expiries.leave(item.deadline());
         self.passed.leave();
     }

@@ -12,7 +12,7 @@ ghost use Rattle.sctp_tx_outstanding.specs.Passed.{BeginsPoint};
 ghost use Rattle.sctp_tx_outstanding.specs.Views.{last_tree, point_of};
 ghost use Rattle.sctp_tx_outstanding.specs.LastBlocks.{Rest, Knows};
 ghost use Rattle.sctp_tx_outstanding.specs.Sack.{all_leaving_events, open_size};
-ghost use Rattle.sctp_tx_outstanding.specs.Messages.{Finds, IsWhole, NoneIsOf};
+ghost use Rattle.sctp_tx_outstanding.specs.Messages.{Finds, IsWhole, Lists, NoneIsOf};
 ghost use Rattle.sctp_tx_outstanding.specs.Flights.{NoneFlies};
 ghost use Rattle.sctp_tx_outstanding.specs.Runs.{AreGivenUp};
 ghost use Rattle.sctp_tx_outstanding.specs.Waiting.{NoneWaits};
@@ -58,6 +58,9 @@ impl Change {
         matches!(self, Change::Ack | Change::Uncover)
     }
 }
+
+/// Where fewer items leave each is taken out of the indexes.
+const MANY: usize = 1_024;
 
 /// What a fragment says, without its payload.
 #[derive(Clone, Copy)]
@@ -106,6 +109,25 @@ fn later_at(
     found
 }
 
+/// The place from this one on up to which no item is of the message. It takes no search where the one at this place is.
+fn next_from(
+    items: &VecDeque<Item>,
+    messages: &Messages,
+    message_id: OutgoingMessageId,
+    place: usize,
+) -> usize
+    requires { Finds messages.now items.now.items }
+    ensures onward { place ≤ result }
+    ensures none { NoneIsOf message_id.0 place result items.now.items }
+{
+    if let Some(item) = items.get(place) {
+        if item.message_id().0 == message_id.0 {
+            return place;
+        }
+    }
+    messages.next(message_id, place)
+}
+
 /// The last fragment of a message.
 fn find_last(
     items: &VecDeque<Item>,
@@ -119,7 +141,7 @@ fn find_last(
     let mut last = None;
     let mut place = 0;
     while place < count {
-        let next = messages.next(message_id, place);
+        let next = next_from(items, messages, message_id, place);
         if count <= next {
             return last;
         }
@@ -131,27 +153,30 @@ fn find_last(
 
 /// The item at the place is one of those that are known.
 fn list_at(items: &VecDeque<Item>, messages: &mut Messages, place: usize)
-    requires { Finds messages.old (take place items.now.items) }
-    ensures { Finds messages.new (take (place + 1) items.now.items) }
+    requires { Lists messages.old (take place items.now.items) }
+    ensures { Lists messages.new (take (place + 1) items.now.items) }
 {
     let Some(item) = items.get(place) else {
         return;
     };
-    messages.add(item.message_id(), place);
+    messages.list(item.message_id(), place);
 }
 
-/// Makes known which items are of which message, if there is memory for that.
+/// Makes known which items are of which message, if there is memory for that: anew where more have come since than are kept, so
+/// that keys stay few.
 fn list_all(items: &VecDeque<Item>, messages: &mut Messages)
     requires { Finds messages.old items.now.items }
     ensures { Finds messages.new items.now.items }
 {
-    if messages.is_known {
+    let count = items.len();
+    if messages.is_known && messages.added.len() <= count {
         return;
     }
     messages.begin();
-    for place in 0..items.len() {
+    for place in 0..count {
         list_at(items, messages, place);
     }
+    messages.settle();
 }
 
 /// The earliest moment at which an item expires.
@@ -173,18 +198,22 @@ fn expect_at(items: &VecDeque<Item>, expiries: &mut Expiries, place: usize)
     let Some(item) = items.get(place) else {
         return;
     };
-    expiries.list(place, item.deadline());
+    let deadline = item.deadline();
+    if deadline <= expiries.dropped && !item.is_nacked() {
+        return;
+    }
+    expiries.list(place, deadline);
 }
 
-/// Makes known which items expire when, if there is memory for that.
-fn expect_all(items: &VecDeque<Item>, expiries: &mut Expiries)
+/// Makes known which items expire when, if there is memory for that: of those whose lifetime is over by now, which are missing or lost.
+fn expect_all(items: &VecDeque<Item>, expiries: &mut Expiries, now: SocketTime)
     requires { Expects expiries.old items.now.items }
     ensures { Expects expiries.new items.now.items }
 {
     if expiries.is_known {
         return;
     }
-    expiries.begin();
+    expiries.begin(now);
     for place in 0..items.len() {
         expect_at(items, expiries, place);
     }
@@ -460,7 +489,7 @@ impl Kept {
     pub(crate) fn find_earliest(&mut self, now: SocketTime)
         ensures { self.new ≡ self.old }
     {
-        expect_all(&self.items, &mut self.indexes.expiries);
+        expect_all(&self.items, &mut self.indexes.expiries, now);
         self.indexes.expiries.drop_stale(&self.items, now);
         self.indexes.totals.earliest = first_expiry(&self.items, &self.indexes.expiries);
     }
@@ -508,6 +537,16 @@ impl Kept {
         Some(item)
     }
 
+    /// Forgets which items are of which message and when they expire, where so many of the first are to leave that this costs less than to
+    /// take each moment out.
+    pub(crate) fn forget_leaving(&mut self, count: usize)
+        ensures { self.new ≡ self.old }
+    {
+        if count >= MANY && count >= self.items.len() / 2 {
+            self.indexes.forget_found();
+        }
+    }
+
     /// Emits what is due as the first items leave.
     pub(crate) fn emit_leaving(&self, count: usize, events: &mut Events) -> Result<(), AllocError>
         ensures ok { OnOk result (events.new ≡ emit_events (all_leaving_events (take count self.now.items)) events.old) }
@@ -541,10 +580,7 @@ impl Kept {
         if item.message_id().0 != message_id.0 || !item.data().is_end {
             return false;
         }
-        if self.next_of(message_id, 0) < place {
-            return false;
-        }
-        self.items.len() <= self.next_of(message_id, place + 1)
+        self.indexes.messages.is_alone(message_id, place)
     }
 
     /// Looks up how far a forward point goes, up to this place at most, in a chunk of this size.
@@ -575,7 +611,7 @@ impl Kept {
         ensures onward { place ≤ result }
         ensures none { NoneIsOf message_id.0 place result self.now.items }
     {
-        self.indexes.messages.next(message_id, place)
+        next_from(&self.items, &self.indexes.messages, message_id, place)
     }
 }
 

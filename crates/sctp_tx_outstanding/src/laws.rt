@@ -48,7 +48,8 @@ pub fn records_say_why()
 {}
 
 /// A forward point passes given-up items alone, from the cumulative TSN on without a hole and over no breakpoint of a
-/// reset; and it names each stream that it touches, and no other, with the number of its last message. Its entries ascend,
+/// reset; and it names each stream that it touches, ordered and unordered messages apart, without interleaving the ordered
+/// ones alone, and no other, with the number of its last message. Its entries ascend,
 /// and the chunk that they make is no longer than it may be.
 pub fn points_are_sound()
     ensures { PointsAreSound }

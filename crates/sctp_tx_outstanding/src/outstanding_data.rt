@@ -572,6 +572,7 @@ impl OutstandingData {
             events.roll_back(mark);
             return Err(AllocError);
         }
+        self.kept.forget_leaving(count);
         let bytes = take_out(&mut self.kept, count, spares);
         self.acked = number;
         self.breakpoints.forget_passed(number);

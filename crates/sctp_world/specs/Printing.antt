@@ -16,9 +16,6 @@ use Rattle.sctp_serial.specs.Messages.{Message}
 use Rattle.spec_world.specs.Observations.{End, Answer, Done, Sent, SentMany, TookMessage, AskedReset, HandedOver, NotReady, Entry, Called, Given, Foreign, Timed, Associated, EmittedPacket, EmittedEvent, GaveUp, BecameReady, end_name}
 use Rattle.spec_world.specs.World.{World, side_of}
 
-abbrev pub line : List ℕ → List ℕ
-line text = text ++ (10 ∷ [])
-
 -- a kind, an event and a refusal are named as in the program's own types
 
 abbrev pub kind_name : ErrorKind → List ℕ

@@ -86,16 +86,19 @@ plain_refusal false true is_init is_own tag own =
     unless is_init (codes "Only a single INIT chunk can be present in packets sent on verification_tag = 0")
 plain_refusal false false is_init is_own tag own = unless is_own (wrong_tag_text tag own)
 
--- Whether there are more SACKs than so many. A rule of ours: nobody puts more than one into a packet, since RFC 9260 (section 6.2) has
--- at most one made for each packet that came, and each may cost as much as is in flight.
-abbrev pub has_more_sacks : ℕ → List ChunkTree → Bool
-has_more_sacks n [] = false
-has_more_sacks zero (sack_chunk k ∷ chunks) = true
-has_more_sacks (suc n) (sack_chunk k ∷ chunks) = has_more_sacks n chunks
-has_more_sacks n (chunk ∷ chunks) = has_more_sacks n chunks
+-- Whether there are more SACKs and COOKIE ECHOs than so many. A rule of ours: nobody puts more than one of each into a packet, since RFC 9260
+-- has at most one SACK made for each packet that came (section 6.2), and a COOKIE ECHO come first (section 5.1). Each may cost as much as
+-- is in flight, or have a window's worth go out.
+abbrev pub has_more_counted : ℕ → List ChunkTree → Bool
+has_more_counted n [] = false
+has_more_counted zero (sack_chunk k ∷ chunks) = true
+has_more_counted zero (cookie_echo_chunk c ∷ chunks) = true
+has_more_counted (suc n) (sack_chunk k ∷ chunks) = has_more_counted n chunks
+has_more_counted (suc n) (cookie_echo_chunk c ∷ chunks) = has_more_counted n chunks
+has_more_counted n (chunk ∷ chunks) = has_more_counted n chunks
 
 abbrev pub unless_many : (is_many : Bool) → Option (List ℕ) → Option (List ℕ)
-unless_many true refusal = Some (codes "More than 4 SACK chunks present in packet")
+unless_many true refusal = Some (codes "More than 4 SACK and COOKIE ECHO chunks present in packet")
 unless_many false refusal = refusal
 
 -- the first rule of RFC 9260 that applies
@@ -109,7 +112,7 @@ packet_refusal_by None None false tag chunks s =
 -- why a packet is refused
 abbrev pub packet_refusal : (tag : ℕ) → List ChunkTree → State → Option (List ℕ)
 packet_refusal tag chunks s =
-    unless_many (has_more_sacks 4 chunks) (packet_refusal_by (abort_flag chunks) (complete_flag chunks) (has_shutdown_ack chunks) tag chunks s)
+    unless_many (has_more_counted 4 chunks) (packet_refusal_by (abort_flag chunks) (complete_flag chunks) (has_shutdown_ack chunks) tag chunks s)
 
 -- ---- chunks that what was negotiated forbids
 

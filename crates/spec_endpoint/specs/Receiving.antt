@@ -21,7 +21,7 @@ pub data Receives (word_of : List ℕ → ℕ) (bytes : List ℕ) (s t : Endpoin
   not_read : (fault : PacketParseError) → IsFault fault → Refuses (policy_of s.endpoint_state.context.options) (word_at word_of bytes) bytes fault
       → t ≡ on_no_packet s → Receives word_of bytes s t
 
--- Whether an end would refuse bytes: they are no packet, not one for its association, or one of more than 4 SACKs.
+-- Whether an end would refuse bytes: they are no packet, not one for its association, or one of more than 4 SACKs and COOKIE ECHOs.
 pub data Judges (word_of : List ℕ → ℕ) (bytes : List ℕ) (o : Options) (s : State) (is_refused : Bool) : Type 0 where
   taken : (p : PacketTree) → Accepts (policy_of o) (word_at word_of bytes) bytes p → packet_refusal p.header.verification_tag p.chunks s ≡ None
       → is_refused ≡ false → Judges word_of bytes o s is_refused

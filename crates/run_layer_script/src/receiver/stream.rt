@@ -28,26 +28,15 @@ pub fn have_room(held: usize, ready: &ReadyMessages, coming: usize) -> bool
 
 /// A stream of either kind and form. Numbers count from 2^32 on.
 trait Stream: ReassemblyStream {
-    /// The next number of an ordered stream, the last one that came of another.
-    fn number(&self) -> u128;
-
     /// Drops what is below the key, of an unordered stream alone.
     fn drop_below(&mut self, first: Self::Key);
 }
 
 impl<K: ReassemblyKey> Stream for OrderedStream<K> {
-    fn number(&self) -> u128 {
-        self.next()
-    }
-
     fn drop_below(&mut self, _first: K) {}
 }
 
 impl<K: ReassemblyKey> Stream for UnorderedStream<K> {
-    fn number(&self) -> u128 {
-        self.near() as u128
-    }
-
     fn drop_below(&mut self, first: K) {
         self.forward_to(first);
     }
@@ -189,7 +178,7 @@ where
         output.fill(
             "number #, held ?, bytes #, ready #",
             &[
-                self.stream.number(),
+                self.stream.reading_point(),
                 (self.stream.held_fragments() > 0) as u128,
                 self.stream.queued_bytes() as u128,
                 self.ready.len() as u128,

@@ -25,7 +25,7 @@ pub trait DcSctpSocket {
     /// Hands out the message that was ready first.
     fn get_next_message(&mut self) -> Option<Message>;
 
-    /// Takes the bytes of a packet that came. Bytes that are no packet, not one for this association, or one of more than 4 SACKs, are
+    /// Takes the bytes of a packet that came. Bytes that are no packet, not one for this association, or one of more than 4 SACKs and COOKIE ECHOs, are
     /// emitted as an error and counted; ports aren't compared. Advance the time first: a round trip ends at the moment of the clock.
     fn handle_input(&mut self, bytes: &[u8]) -> Result<(), CallError>;
 

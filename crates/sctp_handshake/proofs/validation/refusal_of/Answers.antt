@@ -9,5 +9,5 @@ pub returns : goal.returns
 returns c =
     λ chunks from.
     let s = state_of c.args.state.now in
-    c.validate_packet.ensures ∙ (few_refused c.of.result c.header.result.verification_tag chunks s (c.of.ensures chunks from) (sym c.if-has_more_sacks.false ∙ c.has_more_sacks.ensures chunks from)
+    c.validate_packet.ensures ∙ (few_refused c.of.result c.header.result.verification_tag chunks s (c.of.ensures chunks from) (sym c.if-has_more_counted.false ∙ c.has_more_counted.ensures chunks from)
     ∙ ap (λ (h : HeaderTree). packet_refusal h.verification_tag chunks s) c.header.ensures.header)

@@ -12,16 +12,16 @@ loop-place-preserved c =
     record {
       within = omega (arith, c.if-count-next.false);
       last =
-          later_step id c.loop-place.place c.next-next.result (option_map last_tree c.loop-place.last) (option_map last_tree c.later_at-last.result) (last_of id is) is
-          c.next-next.ensures.onward (c.next-next.ensures.none is c.requires) c.later_at-last.ensures c.loop-place.invariant.last;
+          later_step id c.loop-place.place c.next_from-next.result (option_map last_tree c.loop-place.last) (option_map last_tree c.later_at-last.result) (last_of id is) is
+          c.next_from-next.ensures.onward (c.next_from-next.ensures.none) c.later_at-last.ensures c.loop-place.invariant.last;
     }
 
 pub returns-then-count-next : goal.returns-then-count-next
 returns-then-count-next c =
     let is = c.args.items.now.items in
     let all : c.len-count.result ≡ length is = search rules in
-    later_done c.args.message_id.0 c.loop-place.place c.next-next.result (option_map last_tree c.loop-place.last) is c.next-next.ensures.onward (omega (arith, all, c.if-count-next.true))
-    (c.next-next.ensures.none is c.requires) ∙ c.loop-place.invariant.last
+    later_done c.args.message_id.0 c.loop-place.place c.next_from-next.result (option_map last_tree c.loop-place.last) is c.next_from-next.ensures.onward (omega (arith, all, c.if-count-next.true))
+    (c.next_from-next.ensures.none) ∙ c.loop-place.invariant.last
 
 pub returns : goal.returns
 returns c =

@@ -1,5 +1,5 @@
-use Rattle.std.proofs.Common.{◌≤◌, length, arith}
-use Rattle.sctp_tx_outstanding.proofs.MessagesLemmas.{finds_all}
+use Rattle.std.proofs.Common.{◌≡◌, ◌≤◌, length, rules, arith}
+use Rattle.sctp_tx_outstanding.proofs.MessagesLemmas.{lists_all}
 use Rattle.sctp_tx_outstanding.proofs.kept.list_all.Goals as goal
 
 pub loop-place-init : goal.loop-place-init
@@ -10,5 +10,7 @@ loop-place-preserved c = c.list_at.ensures
 
 pub returns : goal.returns
 returns c =
-    let done : length c.args.items.now.items ≤ c.loop-place.place = omega (arith, c.len-place-end.ensures) in
-    finds_all c.loop-place.messages c.args.items.now.items c.loop-place.place done c.loop-place.invariant
+    let is = c.args.items.now.items in
+    let all : c.len-count.result ≡ length is = search rules in
+    let done : length is ≤ c.loop-place.place = omega (arith, all, c.loop-place-test.false) in
+    c.settle.ensures is (lists_all c.loop-place.messages is c.loop-place.place done c.loop-place.invariant)

@@ -1,4 +1,4 @@
-use Rattle.std.proofs.Common.{◌<◌, ◌^◌, ◌∷◌, ap, ◌∙◌, sym, length, refl, arith}
+use Rattle.std.proofs.Common.{◌<◌, ◌^◌, ◌∷◌, ap, ◌∙◌, length, refl, arith}
 use Rattle.sctp_tx_outstanding.specs.declared.totals.Totals.{Totals}
 use Rattle.sctp_tx_outstanding.specs.Totals.{replace_part, nothing, parts}
 use Rattle.sctp_tx_outstanding.proofs.TotalsLemmas.{totals_popped, totals_as}
@@ -16,7 +16,7 @@ returns c =
           refl (c.without_part-self.ensures ∙ ap (λ (t : Totals). replace_part t nothing old.totals) c.of-part.ensures.parts);
       last_blocks = c.pass.ensures (i ∷ is) c.requires.last_blocks;
       runs = c.pass-2.ensures i is c.requires.runs;
-      messages = c.leave.ensures i is (sym c.message_id.ensures) c.requires.messages;
+      messages = c.leave.ensures i is c.requires.messages;
       expiries = c.leave-2.ensures i is c.requires.expiries;
       passed = c.leave-3.ensures m i is c.requires.passed;
     }
