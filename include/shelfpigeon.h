@@ -25,7 +25,7 @@
  * A handle that holds no socket (PIGEON_NO_HANDLE, or one that was freed) answers PIGEON_NO_SOCKET at each call whose numbers are right: sizes
  * of structs, a stream above 65,535, what is PIGEON_INVALID_ARGUMENT and too few places for answers are looked at first.
  * Packets and cookies aren't signed: on a network that strangers reach they go through DTLS. Without it whoever sees a packet can forge others.
- * The archive that scripts/c-library writes is for processors of the level x86-64-v2 or above, and doesn't ask for it.
+ * The archive and the shared object that scripts/c-library writes are for processors of the level x86-64-v2 or above, and don't ask for it.
  */
 #ifndef SHELFPIGEON_H
 #define SHELFPIGEON_H
@@ -73,7 +73,7 @@ enum {
     PIGEON_INVALID_OPTIONS = 5,  /* a field of the options is out of its bounds, which stand at each field: pigeon_check_options says which */
     PIGEON_INVALID_STREAM = 6,   /* the stream's number is above 65,535 */
     PIGEON_INVALID_ARGUMENT = 7, /* flags that there aren't, or a number beyond what it can be */
-    PIGEON_NOTHING = 8,          /* no event waits, or no message is ready */
+    PIGEON_NOTHING = 8,          /* there is none: no event, message or record waits, or no association whose metrics are counted */
     PIGEON_SHORT_BUFFER = 9,     /* the length needed is handed out, and what didn't fit stays; of pigeon_send_many: too few places for answers */
     PIGEON_EMPTY_PAYLOAD = 10,
     PIGEON_MESSAGE_TOO_LARGE = 11,
@@ -121,7 +121,7 @@ static inline const char *pigeon_refusal_text(uint32_t refusal) { return pigeon_
 
 /* ---- Options */
 
-#define PIGEON_UNLIMITED UINT32_MAX /* of max_retransmissions, max_init_retransmits and max_held_fragments */
+#define PIGEON_UNLIMITED UINT32_MAX /* of pigeon_options: max_retransmissions, max_init_retransmits and max_held_fragments */
 #define PIGEON_UNSET UINT64_MAX     /* of max_timer_backoff_duration */
 
 enum { PIGEON_CHECKSUM_CRC32C = 0, PIGEON_CHECKSUM_ZERO = 1 };
@@ -239,8 +239,8 @@ uint32_t pigeon_shutdown(pigeon_socket *socket);
  * where the peer aborts: what it holds goes to the peer of the next association, a partly sent message from its start, but from its middle at an
  * end that answers the peer's COOKIE ECHO. With it each message is given up, as PIGEON_CAUSE_ENDED. */
 uint32_t pigeon_close(pigeon_socket *socket);
-/* Takes the bytes of a packet that came. What is no packet, not one for this association, or one of more than 4 SACKs and COOKIE ECHOs, is emitted as an error.
- * Advance the time first: a round trip ends at the moment of the clock. */
+/* Takes the bytes of a packet that came. What is no packet, not one for this association, or one of more than 4 SACKs and COOKIE ECHOs, is emitted
+ * as an error. Advance the time first: a round trip ends at the moment of the clock. */
 uint32_t pigeon_handle_input(pigeon_socket *socket, const uint8_t *bytes, size_t length);
 /* Advances the time, in nanoseconds since the socket was made, and expires timers. It comes before the other calls of a turn: with a clock that
  * is late they measure wrong round trips, and what was sent goes out again at once. An earlier moment than the last one changes nothing. */
@@ -437,8 +437,8 @@ enum {
     PIGEON_ON_CONNECTED = 1, /* what came with the peer's COOKIE ECHO is ready by then; on channels it is told before */
     PIGEON_ON_CLOSED = 2,
     PIGEON_ON_CONNECTION_RESTARTED = 3, /* the peer began anew: messages may be lost, what waits stays, and PIGEON_ON_CONNECTED follows */
-    PIGEON_ON_ABORTED = 4,              /* the socket was closed for `error`; the buffer has its text */
-    PIGEON_ON_ERROR = 5,                /* `error` closes nothing; the buffer has its text */
+    PIGEON_ON_ABORTED = 4,              /* the socket was closed for `error`; the buffer has its text: `length` bytes of UTF-8, without a zero byte */
+    PIGEON_ON_ERROR = 5,                /* `error` closes nothing; the buffer has its text, likewise */
     PIGEON_BUFFERED_AMOUNT_LOW = 6,     /* of `stream` */
     PIGEON_TOTAL_BUFFERED_AMOUNT_LOW = 7,
     PIGEON_STREAMS_RESET_FAILED = 8, /* of these three the buffer has the streams, each a uint16_t of this processor: pigeon_stream_at */
@@ -521,9 +521,10 @@ static inline uint32_t pigeon_borrow_event(pigeon_socket *socket, pigeon_event *
  * pigeon_channels_borrow_event that of pigeon_borrow_event, pigeon_poll_event, pigeon_borrow_message and pigeon_next_message: what those take the
  * channels don't see. Nor is pigeon_send or pigeon_reset_stream called for a stream that has a channel. A channel's number is its stream's:
  * pigeon_buffered_amount, pigeon_set_buffered_amount_low_threshold and pigeon_buffered_amount_low_threshold take it, and PIGEON_BUFFERED_AMOUNT_LOW
- * says it. Channels end with their association, each with its PIGEON_CHANNEL_CLOSED before PIGEON_ON_CLOSED, PIGEON_ON_ABORTED or
- * PIGEON_ON_CONNECTION_RESTARTED; a record that is handed over has none. pigeon_advance_time too may end it: an owner who connects again takes events
- * behind it before it opens or sends. A channel that is opened between is closed with the old association, and what was sent goes out in the next one.
+ * says it; a threshold stays with the stream, also for a channel that is opened there later. Channels end with their association, each with its
+ * PIGEON_CHANNEL_CLOSED before PIGEON_ON_CLOSED, PIGEON_ON_ABORTED or PIGEON_ON_CONNECTION_RESTARTED; a record that is handed over has none.
+ * pigeon_advance_time too may end it: an owner who connects again takes events behind it before it opens or sends. A channel that is opened between
+ * is closed with the old association, and what was sent goes out in the next one.
  *
  * Of each packet messages are told before events. So what comes with a COOKIE ECHO is told before PIGEON_ON_CONNECTED; and where the peer restarts
  * it is told as of the old channels, then all of these are closed, also one that it opened. What the old ones had queued goes out all the same.
@@ -561,7 +562,7 @@ static inline uint32_t pigeon_channels_start(pigeon_socket *socket, const pigeon
 typedef struct pigeon_channel_options {
     size_t size; /* sizeof(pigeon_channel_options) */
     uint32_t flags;
-    uint32_t max_retransmissions; /* with PIGEON_MAX_RETRANSMISSIONS */
+    uint32_t max_retransmissions; /* with PIGEON_MAX_RETRANSMISSIONS: told to the peer as it is; above 65,535 it counts as that here */
     uint32_t lifetime;            /* with PIGEON_LIFETIME, in milliseconds */
     uint32_t priority;            /* at most 65,535: 128 below normal, 256 normal, 512 high, 1,024 extra high (RFC 8831 section 6.4); told to the
                                      peer, and set of the stream (pigeon_set_stream_priority) by the time that events are taken; 0 leaves
@@ -572,9 +573,9 @@ typedef struct pigeon_channel_options {
 #define PIGEON_CHANNEL_OPTIONS {sizeof(pigeon_channel_options), 0, 0, 0, 256}
 
 /* Opens a channel, and hands out its number. Messages may be sent at once; PIGEON_CHANNEL_OPENED tells when the peer has it. Label and protocol are
- * UTF-8, without a zero byte at their end. Advance the time first. PIGEON_INVALID_SIZE, PIGEON_INVALID_ARGUMENT (flags or a priority that there
- * aren't), PIGEON_NOT_UTF8, PIGEON_TEXT_TOO_LONG, PIGEON_NO_FREE_STREAM, PIGEON_NOT_TAKEN (by which PIGEON_ON_ERROR is emitted), PIGEON_NO_ROOM:
- * nothing else changes. */
+ * UTF-8: C strings, not NULL, in the inline calls; in those that end in _sized bytes, without a zero byte at their end. Advance the time first.
+ * PIGEON_INVALID_SIZE, PIGEON_INVALID_ARGUMENT (flags or a priority that there aren't), PIGEON_NOT_UTF8, PIGEON_TEXT_TOO_LONG,
+ * PIGEON_NO_FREE_STREAM, PIGEON_NOT_TAKEN (by which PIGEON_ON_ERROR is emitted), PIGEON_NO_ROOM: nothing else changes. */
 uint32_t pigeon_channel_open_sized(pigeon_socket *socket, const void *options, size_t size, const uint8_t *label, size_t label_length,
                                    const uint8_t *protocol, size_t protocol_length, uint32_t *channel);
 static inline uint32_t pigeon_channel_open(pigeon_socket *socket, const pigeon_channel_options *options, const char *label, const char *protocol,

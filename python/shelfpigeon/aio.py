@@ -101,7 +101,8 @@ class Driver:
         except SocketFailed:
             self._fail()
             raise
-        self.soon()
+        finally:
+            self.soon()
 
     def receive(self, packet: bytes) -> None:
         """Takes a packet, and what it brings."""
@@ -326,13 +327,14 @@ class Connection:
     """An association with data channels over a wire. `packet_received` takes what comes by it.
 
     Each channel buffers `high_water` bytes, then `Channel.send` waits; it raises QueueFull where the options let less wait, on a stream (16 MiB by
-    `Options.for_webrtc`) or on all. With `read_limit` bytes that came and weren't received, where each message
-    counts 64 more, and of text that isn't ASCII each character four, the wire is told to pause: what it then drops the peer sends again, and slower.
-    Label and protocol of a channel count so until it is accepted. So the channels that the peer opens are to be accepted, and those that aren't read any
-    more closed. While 1,024 wait to be accepted the next ones are closed; one that the peer has closed meanwhile, by which nothing came, waits no more.
+    `Options.for_webrtc`) or on all. With `read_limit` bytes that came and weren't received, where each message counts 64 more, and of text that isn't
+    ASCII each character four, the wire is told to pause: what it then drops the peer sends again, and slower. Meanwhile no acknowledgement comes
+    either: what is sent here waits, `close` waits in vain, and after some minutes the association is aborted (`max_retransmissions`). Label and
+    protocol of a channel count so until it is accepted. So the channels that the peer opens are to be accepted, and those that aren't read any more
+    closed. While 1,024 wait to be accepted the next ones are closed; one that the peer has closed meanwhile, by which nothing came, waits no more.
 
-    Without `options` the window is twice `max_message_size`, which is what the peer may send, 524,288 bytes at least, and as long a message may be sent, 262,144 bytes at
-    least, where `peer_max_message_size` allows it. `max_kept_bytes` is as of `Channels`."""
+    Without `options` the window is twice `max_message_size`, which is what the peer may send, 524,288 bytes at least, and as long a message may be
+    sent, 262,144 bytes at least, where `peer_max_message_size` allows it. `max_kept_bytes` is as of `Channels`."""
 
     def __init__(
         self,
@@ -370,7 +372,8 @@ class Connection:
         self._driver.receive(packet)
 
     async def connect(self) -> None:
-        """Opens the association; both ends may. ConnectionError: it could not be."""
+        """Opens the association; both ends may, each before a packet of the other comes: else what that one has sent may be lost, and this end awaits
+        `connected` alone. ConnectionError: it could not be."""
         if self.socket.state == State.CLOSED:
             with self._driver.calls() as channels:
                 channels.connect()
@@ -587,6 +590,10 @@ class UdpWire:
 def open_udp(local: Address, peer: Address, *, role: Role, **settings) -> Connection:
     """A connection over UDP between two addresses, with the settings of `Connection`. Then comes its `connect`."""
     wire = UdpWire(local, peer)
-    connection = Connection(wire, role=role, **settings)
+    try:
+        connection = Connection(wire, role=role, **settings)
+    except BaseException:
+        wire.close()
+        raise
     wire.start(connection.packet_received)
     return connection

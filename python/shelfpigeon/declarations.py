@@ -300,13 +300,13 @@ def library() -> ctypes.CDLL:
         asked = ", ".join(str(it) for it in places())
         raise ImportError(f"there is no {NAME}: looked for {asked}. scripts/c-library of the repository builds it, or SHELFPIGEON_LIBRARY names it")
     loaded = ctypes.CDLL(str(found[0]))
+    version = loaded.pigeon_version()
+    if (version // 10000, version // 100 % 100) != VERSION:
+        raise ImportError(f"{found[0]} has version {version // 10000}.{version // 100 % 100}, and this package is for {VERSION[0]}.{VERSION[1]}")
     for name, arguments in FUNCTIONS.items():
         function = getattr(loaded, name)
         function.argtypes = arguments
         function.restype = ANSWERS.get(name, c_uint32)
-    version = loaded.pigeon_version()
-    if (version // 10000, version // 100 % 100) != VERSION:
-        raise ImportError(f"{found[0]} has version {version // 10000}.{version // 100 % 100}, and this package is for {VERSION[0]}.{VERSION[1]}")
     return loaded
 
 

@@ -41,6 +41,7 @@ from .declarations import (
 from .names import Answer, Cause, ErrorKind, InvalidArgument, Kind, Readiness, SendFlags, State, Text
 
 NEVER = 2**64 - 1
+LAST_KIND = max(Kind)
 
 
 class Options(OptionsStruct):
@@ -96,7 +97,8 @@ class GivenUp(NamedTuple):
 
 
 class End:
-    """What sockets with and without channels have in common. A context manager, which frees it."""
+    """What sockets with and without channels have in common. A context manager, which frees it. One is in one call at a time: ctypes lets other
+    threads run meanwhile, so whoever shares it between threads has a lock around each call, and around whole turns of `events`."""
 
     def __init__(self, options: Optional[OptionsStruct] = None, *, seed: Optional[bytes] = None):
         self._library = library()
@@ -167,7 +169,7 @@ class End:
 
     @property
     def is_at_rest(self) -> bool:
-        """Whether nothing is queued and all that was sent is acknowledged."""
+        """Whether nothing is queued and nothing that was sent is kept: all is acknowledged, or its association is over."""
         return bool(self._read(self._library.pigeon_is_at_rest, c_uint32))
 
     def refuses(self, packet: bytes) -> bool:
@@ -228,13 +230,13 @@ class End:
         return GivenUp(record.number, Cause(record.cause), record.retransmissions)
 
     def _borrowed(self, function) -> Optional[int]:
-        """Takes the next event into _event and _lent, and answers its kind."""
+        """Takes the next event into _event and _lent, and answers its kind. One that only a later library has is passed over."""
         event = self._event
-        answer = function(self._at, byref(event), sizeof(event), byref(self._lent))
-        if answer == Answer.NOTHING:
-            return None
-        check(answer)
-        return event.kind
+        while (answer := function(self._at, byref(event), sizeof(event), byref(self._lent))) != Answer.NOTHING:
+            check(answer)
+            if event.kind <= LAST_KIND:
+                return event.kind
+        return None
 
     def _bytes(self) -> bytes:
         return string_at(self._lent, self._event.length) if self._event.length else b""

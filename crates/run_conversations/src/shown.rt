@@ -1,4 +1,5 @@
-//! What an entry of a log shows, whatever was drawn: associations, the texts of errors and a record that was handed over aren't shown.
+//! What an entry of a log shows, whatever was drawn: associations, the texts of errors, a record that was handed over, calls but for
+//! their answers, bytes from elsewhere, the moment asked for, and why a message was given up aren't shown.
 
 use sctp_serial::{Message, SocketTime};
 use sctp_state::SocketEvent;

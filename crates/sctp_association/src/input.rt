@@ -111,7 +111,7 @@ fn end_packet<C: Checksum>(
     shut_if(avoids_stalls, context, phase, tcb)
 }
 
-/// After the own SHUTDOWN, DATA has it go out again and its timer start anew (RFC 9260 section 9.2).
+/// After the own SHUTDOWN, DATA has it go out again and its timer start anew (RFC 9260 section 9.2); I-DATA doesn't.
 #[tactic(auto, using(sctp_endpoint::proofs::GoesOnLemmas::goes_on_same, sctp_endpoint::proofs::GoesOnLemmas::goes_on_through))]
 fn repeat_shutdown<C: Checksum>(
     context: &mut Context<C>,

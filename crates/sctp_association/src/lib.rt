@@ -1,4 +1,4 @@
-//! The association: handshake, transfer, timers and the socket (RFC 9260).
+//! The socket, and what a packet does to an end, chunk by chunk (RFC 9260).
 //!
 //! The owner of a [`Socket`] lists this crate and `rand_core`: all that its calls take and answer is exported here. The word of
 //! [`Checksum`] is written big-endian, so a CRC32c (RFC 9260 appendix A) is handed in with its bytes swapped.
@@ -12,7 +12,7 @@ pub use sctp_endpoint::{
     ResetRequests, State, TransmissionControlBlock,
 };
 pub use sctp_serial::{
-    LifecycleId, Message, OutgoingMessageId, PpId, SocketTime, StreamId,
+    LifecycleId, Message, OutgoingMessageId, PpId, SocketTime, StreamId, Tsn,
     ZERO_CHECKSUM_ALTERNATE_ERROR_DETECTION_METHOD_LOWER_LAYER_DTLS,
     ZERO_CHECKSUM_ALTERNATE_ERROR_DETECTION_METHOD_NONE, ZeroChecksumAlternateErrorDetectionMethod,
 };

@@ -67,7 +67,7 @@ impl<R: Rng, C: Checksum> Model for Socket<R, C> {
 }
 
 impl<R: Rng + Drop, C: Checksum + Drop> Socket<R, C> {
-    /// A closed socket at moment zero. The name is kept, and nothing reads it.
+    /// A closed socket at moment zero. The name is kept, and nothing reads it. The error is `Memory`.
     pub fn new(
         alloc: Global,
         name: &str,

@@ -204,20 +204,32 @@ impl<C: Checksum> Context<C> {
         self.events.add(event)
     }
 
-    /// With stalls avoided, what waits doesn't go to another association: it is given up.
+    /// With stalls avoided the count of errors doesn't go to another association.
+    #[tactic(auto, using(crate::proofs::GoesOnLemmas::goes_on_same, crate::proofs::GoesOnLemmas::goes_on_as))]
+    pub fn forget_errors(&mut self)
+        ensures ok { let c = context_of C.word_of self.old in context_of C.word_of self.new ≡ record c { errors = closing.errors_if c.options.avoid_stalls c.errors } }
+        ensures goes_on { GoesOn self.old self.new }
+    {
+        if self.options.avoid_stalls {
+            self.tx_error_counter.reset();
+        }
+    }
+
+    /// With stalls avoided, neither what waits nor the count of errors goes to another association.
     #[tactic(auto, using(crate::proofs::GoesOnLemmas::goes_on_same, crate::proofs::GoesOnLemmas::goes_on_as))]
     fn empty_if_avoided(&mut self) -> Result<(), AllocError>
         ensures ok { OnOk result (context_of C.word_of self.new ≡ closing.emptied_if self.old.options.avoid_stalls (context_of C.word_of self.old)) }
         ensures goes_on { GoesOn self.old self.new }
     {
         if self.options.avoid_stalls {
+            self.tx_error_counter.reset();
             self.send_queue.empty(&mut self.events)?;
         }
         Ok(())
     }
 
     /// The event that says that the association is over; no heartbeats are sent any more. With stalls avoided, what waits is
-    /// given up.
+    /// given up, and errors count from 0.
     #[tactic(auto, using(crate::proofs::GoesOnLemmas::goes_on_same, crate::proofs::GoesOnLemmas::goes_on_through))]
     pub fn internal_close(&mut self, event: SocketEvent) -> Result<(), AllocError>
         requires { announces (event_of event) ≡ false }

@@ -3,7 +3,7 @@
 ghost use Rattle.std.specs.Prelude.{◌≡◌, ◌≤◌, ◌<◌, ◌^◌, ◌&&◌, length, nat_le, not, true, IfOk, IsTrue, OnOk, OnErr};
 ghost use Rattle.sctp_wire.specs.Serialize.{IsEncodable, is_encodable, padded_item};
 ghost use Rattle.sctp_packet.specs.ChunkView.{chunk_tree};
-ghost use Rattle.sctp_packet.specs.Written.{chunk_bytes, chunk_is_whole, chunk_item};
+ghost use Rattle.sctp_packet.specs.Written.{chunk_is_whole, chunk_item};
 ghost use Rattle.sctp_chunk.specs.Views.{fragment_tree, sack_chunk_tree};
 ghost use Rattle.spec_endpoint.specs.Sending.{data_chunk_of};
 ghost use Rattle.spec_endpoint.specs.Packets.{add, added_if, clear_chunks, fits, has_chunks, packet_to, room};
@@ -91,18 +91,7 @@ impl OutgoingPacket {
             .saturating_sub(self.chunks.size())
     }
 
-    /// Whether the chunk can be written and fits.
-    #[tactic(auto, unfolding(sctp_chunk::specs::Written::chunk_bytes))]
-    pub fn fits(&self, chunk: &Chunk) -> bool
-        ensures encodable { IsTrue result → IsEncodable (chunk_item (chunk_tree chunk.now)) }
-        ensures whole { IsTrue result → chunk_is_whole (chunk_tree chunk.now) ≡ true }
-        ensures room { IsTrue result → length (chunk_bytes (chunk_tree chunk.now)) ≤ room self.now }
-        ensures test { result ≡ fits self.now (chunk_tree chunk.now) }
-    {
-        self.has_room_for(chunk)
-    }
-
-    /// The same of anything that is written as chunks are.
+    /// Whether what is written as a chunk can be written and fits.
     fn has_room_for<T: SerializableTlv>(&self, chunk: &T) -> bool
         ensures encodable { IsTrue result → IsEncodable (T.item_of chunk.now) }
         ensures whole { IsTrue result → T.parts_agree chunk.now ≡ true }

@@ -30,8 +30,8 @@ pub enum CookieResolution {
     InvalidTag,
 }
 
-/// What becomes of a cookie where there is a control block, by three comparisons: both ends' tags and the tie tell a restart (A), INITs
-/// that crossed (B), a cookie that comes late (C) and one that comes again (D; RFC 9260 section 5.2.4).
+/// What becomes of a cookie where there is a control block, by four comparisons: both ends' tags, the tie, and whether it is 0 tell a
+/// restart (A), INITs that crossed (B), a cookie that comes late (C) and one that comes again (D; RFC 9260 section 5.2.4).
 fn resolve_by_tags(tag: u32, identity: Identity, cookie: &StateCookie) -> CookieResolution
     ensures { resolution_of result ≡ table.resolve_by_tags tag (identity_of identity) (cookie_of cookie.now) }
 {

@@ -12,7 +12,7 @@ pub fn tsn_from(word: u32) -> Tsn
     Tsn(word % 0xffff_ffff)
 }
 
-/// The tag that a word stands for: never 0, under which an INIT alone is sent (RFC 9260 section 3.3.2).
+/// The tag that a word stands for: never the last one, nor 0, under which an INIT alone is sent (RFC 9260 section 3.3.2).
 pub fn tag_from(word: u32) -> u32
     ensures { result ≡ table.tag_from word }
 {

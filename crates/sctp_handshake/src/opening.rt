@@ -23,14 +23,12 @@ use sctp_endpoint::{
 };
 use sctp_error_cause::{ErrorCause, MissingMandatoryParameterErrorCause};
 use sctp_packet::{AbortChunk, Chunk, InitAckChunk, InitChunk};
+use sctp_parameter::StateCookieParameter;
 use sctp_serial::Tsn;
 use sctp_state::{BackoffAlgorithm, ErrorKind, Timer};
 use sctp_wire::Checksum;
 use std::alloc::AllocError;
 use std::time::Duration;
-
-/// The type of the parameter that holds a cookie.
-const STATE_COOKIE: u16 = 7;
 
 /// A timer that runs from now on.
 fn started<C: Checksum>(context: &Context<C>, duration: Duration) -> Timer
@@ -308,7 +306,7 @@ fn send_missing_cookie<C: Checksum>(
     ensures goes_on { GoesOn context.old context.new }
 {
     let mut missing_parameter_types = Vec::new(context.alloc);
-    missing_parameter_types.push(STATE_COOKIE)?;
+    missing_parameter_types.push(StateCookieParameter::TYPE)?;
     let mut error_causes = Vec::new(context.alloc);
     error_causes.push(ErrorCause::MissingMandatoryParameter(
         MissingMandatoryParameterErrorCause {

@@ -85,7 +85,7 @@ impl<R: Rng, C: Checksum> Model for World<R, C> {
 }
 
 impl<R: Rng + Drop, C: Checksum + Drop> World<R, C> {
-    /// Two closed ends. Each has its own options, its generator and its checksum function.
+    /// Two closed ends. Each has its own options, its generator and its checksum function. The error is `Memory`.
     pub fn new(
         alloc: Global,
         options_a: &Options,

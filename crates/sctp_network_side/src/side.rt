@@ -48,7 +48,7 @@ struct Before {
 }
 
 impl<R: Rng + Drop, C: Checksum + Drop> Side<R, C> {
-    /// A new socket, which has sent nothing.
+    /// A new socket, which has sent nothing. The error is `Memory`.
     pub fn new(
         alloc: Global,
         name: &str,

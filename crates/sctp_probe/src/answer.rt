@@ -17,10 +17,13 @@ pub struct Probe {
 /// Why there is no message.
 #[derive(Clone, Copy, Debug, PartialEq, Eq, Error)]
 pub enum ProbeError {
+    /// The bytes are no packet: the number of their fault, as `PacketParseError::number` has it.
     #[error("packet refused: {0}")]
     Refused(u8),
+    /// A packet, but not of one DATA chunk that holds a whole message.
     #[error("no packet of one whole message")]
     Other,
+    /// Memory ran out.
     #[error("out of memory")]
     Memory,
 }

@@ -12,7 +12,7 @@ pub record OrderedStream : Type 0 where
   pub held : List Held
 
 pub record UnorderedStream : Type 0 where
-  pub near : ℕ  -- the last number that came: MIDs are read near it
+  pub near : ℕ  -- MIDs are read near it: the last number that came, or a greater one that a forward point named since
   pub passed : ℕ  -- above the greatest MID that a forward point named since the last reset
   pub held : List Held
 

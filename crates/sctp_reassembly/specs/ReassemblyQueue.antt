@@ -106,7 +106,7 @@ abbrev pub near_first : Option ℕ → ℕ → ℕ → ℕ
 near_first None near tsn = origin
 near_first (Some first) near tsn = nearest u32_space first near tsn
 
--- what a TSN stands for: the first one is `origin`, later ones are read near the last that came
+-- what a TSN stands for: the first one that comes, or that a deferred reset names, is `origin`, later ones are read near the last that came
 abbrev pub number_of : Reassembly → ℕ → ℕ
 number_of r tsn = near_first r.first r.near tsn
 

@@ -1,4 +1,4 @@
-//! Intervals by how many come before them.
+//! Intervals by how many come before them, for who lists them: no stream asks.
 
 ghost use Rattle.std.specs.Prelude.{◌≡◌, ◌≤◌, List, length, IfSome, IfNone};
 ghost use Rattle.sctp_fragments.specs.ReassemblyKey.{rank_at};

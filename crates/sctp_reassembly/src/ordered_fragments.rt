@@ -26,7 +26,7 @@ pub(crate) struct OrderedFragments<K: ReassemblyKey> {
     // the number before that of the next message: so it is one that a key may have
     last: u64,
     list: IntervalList<K>,
-    // whether nothing in the list is known to be in turn: not after want of memory
+    // whether it is known that nothing in the list is in turn: it isn't after want of memory
     is_settled: bool,
     // where complete intervals begin, of the next message and of later ones: known once intervals were many
     finished: Finished<K>,

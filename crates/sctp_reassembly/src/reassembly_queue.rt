@@ -31,7 +31,8 @@ const LIMIT: u64 = FIRST + (1 << 62);
 
 /// The fragments of all streams, and the messages that are ready.
 ///
-/// The first TSN that comes has the number 2^32; later ones are read near the last that came.
+/// The first TSN that comes, or that a deferred reset names, has the number 2^32; later ones are read near the last that came, or
+/// near 2^32 where that is greater.
 #[derive(Drop)]
 pub struct ReassemblyQueue {
     alloc: Global,

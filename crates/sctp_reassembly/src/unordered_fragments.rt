@@ -82,7 +82,7 @@ impl<K: ReassemblyKey> UnorderedFragments<K> {
         }
     }
 
-    /// The last number that came, and the one below which messages are late, where there are no fragments.
+    /// The number that others are read near to, and the one below which messages are late, where there are no fragments.
     pub fn idle(&self) -> Option<(u64, u64)>
         ensures some { IfSome result (λ numbers. self.now ≡ record { near = numbers.0; passed = numbers.1; held = [] }) }
         ensures none { IfNone result (0 < length self.now.held) }
@@ -115,7 +115,7 @@ impl<K: ReassemblyKey> UnorderedFragments<K> {
         self.list.first()
     }
 
-    /// The last number that came.
+    /// What numbers are read near to: the last that came, 2^32 at least, or a greater one that a forward point named since.
     pub fn near(&self) -> u64
         ensures value { result ≡ self.now.near }
         ensures least { origin ≤ result }

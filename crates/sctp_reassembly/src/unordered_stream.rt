@@ -21,7 +21,7 @@ use std::marker::Model;
 /// What is kept of a stream.
 #[derive(Drop)]
 pub(crate) enum UnorderedState<K: ReassemblyKey> {
-    /// No fragment is held: the last number that came, and the one below which messages are late.
+    /// No fragment is held: the number that others are read near to, and the one below which messages are late.
     Idle(u64, u64),
     /// Fragments are held.
     Holding(Box<UnorderedFragments<K>>),
@@ -221,7 +221,7 @@ impl<K: ReassemblyKey> ReassemblyStream for UnorderedStream<K> {
         }
     }
 
-    /// The last number that came.
+    /// What numbers are read near to: the last that came, 2^32 at least, or a greater one that a forward point named since.
     fn reading_point(&self) -> u128 {
         match &self.state {
             UnorderedState::Idle(near, _) => *near as u128,

@@ -1,7 +1,6 @@
 pub mod Events
 pub mod Handover
 pub mod HandoverTimes
-pub mod Metrics
 pub mod Numbers
 pub mod Options
 pub mod Readiness

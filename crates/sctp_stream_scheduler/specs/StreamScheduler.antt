@@ -29,7 +29,7 @@ is_active id s = is_some (finish_time id s.times)
 
 -- ---- finish times
 
--- what a stream's next message costs, of `bytes` bytes: with interleaving its next fragment by the stream's weight
+-- what a stream's next fragment costs, where its message has `bytes` left: with interleaving by its bytes and the stream's weight, else 1
 abbrev pub cost : ℕ → ℕ → Scheduler → ℕ
 cost bytes priority s = if s.is_interleaved then min bytes s.most_payload * 65536 / max priority 1 else 1
 

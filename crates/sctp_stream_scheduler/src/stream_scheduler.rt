@@ -10,10 +10,10 @@ use sctp_serial::StreamId;
 use std::alloc::{AllocError, Global};
 use std::marker::Model;
 
-/// The streams that have something to send, each with the time at which its next message, or with interleaving its next
-/// fragment, would be sent if all shared the association by their weights (RFC 8260 section 3.6). The stream with the
+/// The streams that have something to send, each with its finish time: when its next fragment would be sent if all shared the
+/// association, with interleaving by their weights (RFC 8260 section 3.6), and without it by turns. The stream with the
 /// least finish time is next; of two with the same, the one with the smaller id. Times are virtual: bytes by weight, or
-/// without interleaving a count of messages. Nothing is drawn, and finding the next stream takes the logarithm of their
+/// without interleaving a count of fragments. Nothing is drawn, and finding the next stream takes the logarithm of their
 /// number.
 #[derive(Drop)]
 pub struct StreamScheduler {

@@ -15,7 +15,7 @@ use sctp_state::SocketEvent;
 use sctp_wire::Checksum;
 use std::alloc::AllocError;
 
-/// The user asks for a shutdown: it goes on once nothing is in flight.
+/// The user asks for a shutdown: it goes on once nothing is in flight, with stalls avoided once nothing is kept or queued.
 #[tactic(auto, using(sctp_endpoint::proofs::GoesOnLemmas::goes_on_same, sctp_endpoint::proofs::GoesOnLemmas::goes_on_through))]
 fn begin_shutdown<C: Checksum>(
     context: &mut Context<C>,

@@ -361,7 +361,8 @@ fn picture(alloc: Global, rows: &[Row]) -> Result<Element, AllocError>
     picture
 }
 
-/// An SVG of 1,000 units' width, in which a row has 14 units' height. Bytes of texts that are no printable ASCII are question marks.
+/// An SVG of 1,000 units' width, in which a row has 14 units' height. Texts are cut behind 56
+/// characters; bytes that are no printable ASCII are question marks.
 pub fn chart(alloc: Global, rows: &[Row]) -> Result<Vec<u8>, AllocError>
     ensures { IfOk result (λ bytes. IsChart rows.now bytes.items) }
 {

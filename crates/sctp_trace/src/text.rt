@@ -201,7 +201,7 @@ fn lines(alloc: Global, conversation: &Conversation) -> Result<Vec<u8>, AllocErr
     Ok(text)
 }
 
-/// A line a row, under the ends' names. Bytes that are no printable ASCII are question marks.
+/// A line a row, under the ends' names. What is longer than its column is cut; bytes that are no printable ASCII are question marks.
 pub fn ladder(alloc: Global, rows: &[Row]) -> Result<Vec<u8>, AllocError>
     ensures { IfOk result (λ text. text.items ≡ ladder_text rows.now) }
 {

@@ -309,7 +309,7 @@ impl RetransmissionQueue {
         self.outstanding.should_send_forward_tsn()
     }
 
-    /// t3-rtx begins anew where items are kept, as those of a record that was taken up (RFC 9260 section 6.3.2).
+    /// t3-rtx begins anew where items are kept, as those of a record that was taken up, and stops where none is (RFC 9260 section 6.3.2).
     pub fn wake(&mut self, now: SocketTime)
         ensures { self.new ≡ wake now self.old }
     {
@@ -320,7 +320,7 @@ impl RetransmissionQueue {
         }
     }
 
-    /// t3-rtx begins anew where the cumulative TSN moved, and runs while something is in flight or missing.
+    /// Where the cumulative TSN moved t3-rtx begins anew, or stops if nothing is kept; it runs while something is in flight or missing.
     fn run_timer(&mut self, now: SocketTime, moved: bool)
         ensures { self.new ≡ record self.old { t3 = t3_after_sack moved self.old.outstanding.items now self.old.t3 } }
     {
@@ -532,7 +532,7 @@ impl RetransmissionQueue {
     }
 
     /// What is sent again, in so much of a packet: whether something is, and the bytes of the chunks. Without memory some of the
-    /// first items count as sent again, and nothing else changes.
+    /// first items count as sent again, and nothing else changes but the packet.
     fn resend<P: TakesFragments>(
         &mut self,
         max_bytes: usize,

@@ -200,13 +200,13 @@ pub totals_as : (m : Bool) (is js : List Item) (t u : Totals) → AreTotals m is
 totals_as m is js t u h a b = subst (λ ks. AreTotals m ks u) (sym a) (subst (λ v. AreTotals m is v) (sym b) h)
 
 -- a part comes for one that adds as much
-pub replaced_same : (old new t : Totals) → HasPart old new t → old.flights ≡ new.flights → old.queued ≡ new.queued → old.fast ≡ new.fast → new.earliest ≡ never
-    → t.packet_bytes < 2 ^ 128 → t.payload_bytes < 2 ^ 128 → t.flights < 2 ^ 64 → t.queued < 2 ^ 64 → t.fast < 2 ^ 64 → t.earliest < 2 ^ 128 → t ≡ replace_part old new t
-replaced_same old new t h flights queued fast latest a b c d e g =
+pub replaced_same : (old new t : Totals) → HasPart old new t → old.flights ≡ new.flights → old.queued ≡ new.queued → old.fast ≡ new.fast → t.earliest ≤ new.earliest
+    → t.packet_bytes < 2 ^ 128 → t.payload_bytes < 2 ^ 128 → t.flights < 2 ^ 64 → t.queued < 2 ^ 64 → t.fast < 2 ^ 64 → t ≡ replace_part old new t
+replaced_same old new t h flights queued fast latest a b c d e =
     let packet : t.packet_bytes ≡ min (t.packet_bytes - old.packet_bytes + new.packet_bytes) (2 ^ 128 - 1) = omega (arith, h.packet, h.same_packet flights, a) in
     let payload : t.payload_bytes ≡ min (t.payload_bytes - old.payload_bytes + new.payload_bytes) (2 ^ 128 - 1) = omega (arith, h.payload, h.same_payload flights, b) in
     let flying : t.flights ≡ min (t.flights - old.flights + new.flights) (2 ^ 64 - 1) = omega (arith, h.flights, flights, c) in
     let waiting : t.queued ≡ min (t.queued - old.queued + new.queued) (2 ^ 64 - 1) = omega (arith, h.queued, queued, d) in
     let faster : t.fast ≡ min (t.fast - old.fast + new.fast) (2 ^ 64 - 1) = omega (arith, h.fast, fast, e) in
-    let moment : t.earliest ≡ min t.earliest new.earliest = omega (arith, latest, g) in
+    let moment : t.earliest ≡ min t.earliest new.earliest = omega (arith, latest) in
     λ j. record { packet_bytes = packet j; payload_bytes = payload j; flights = flying j; queued = waiting j; fast = faster j; earliest = moment j }

@@ -7,7 +7,7 @@ abbrev pub IsLargeOf : (least : ℕ) → Option Item → Type 0
 IsLargeOf least None = Unit {0}
 IsLargeOf least (Some i) = IsAtLeast least i
 
--- if the item at the place waits, its payload has so many bytes
+-- if the item at the place waits, its payload has at least so many bytes
 abbrev pub IsLargeAt : (least place : ℕ) → List Item → Type 0
 IsLargeAt least k is = IsLargeOf least (slice_get is k)
 

@@ -18,6 +18,6 @@ waits_at fast k is = waits_of fast (slice_get is k)
 abbrev pub NoneWaits : (fast : Bool) (from to : ℕ) → List Item → Type 0
 NoneWaits fast from to is = (k : ℕ) → from ≤ k → k < to → waits_at fast k is ≡ false
 
--- if it waits, its payload has so many bytes
+-- if it waits, its payload has at least so many bytes
 abbrev pub IsAtLeast : ℕ → Item → Type 0
 IsAtLeast least i = should_be_retransmitted i ≡ true → least ≤ length i.fragment.payload

@@ -48,7 +48,7 @@ fn stays_listed(how: Change, totals: Totals, old: Totals, new: Totals) -> bool
     if old.queued != new.queued || old.fast != new.fast {
         return false;
     }
-    new.earliest == u128::MAX
+    totals.earliest <= new.earliest
 }
 
 /// Whether what is known of an item by its run stands after its change. One that is acknowledged keeps its bit of

@@ -40,11 +40,17 @@ use std::marker::Model;
 /// What may happen to a kept item.
 #[derive(Clone, Copy)]
 pub enum Change {
+    /// A block of a SACK covers it.
     Ack,
+    /// No block of the last SACK covers it.
     Uncover,
+    /// It is missing: whether it is lost at once, and whether it then waits for the fast packet.
     Nack(bool, bool),
+    /// It is sent once more.
     Retransmit,
+    /// The fast packet had no room for it.
     MissFast,
+    /// Its message is given up.
     Abandon,
 }
 
@@ -162,14 +168,14 @@ fn list_at(items: &VecDeque<Item>, messages: &mut Messages, place: usize)
     messages.list(item.message_id(), place);
 }
 
-/// Makes known which items are of which message, if there is memory for that: anew where more have come since than are kept, so
-/// that keys stay few.
+/// Makes known which items are of which message, if there is memory for that: anew where more have come since than are sorted, so
+/// that most are found among these, or than are kept, so that keys stay few.
 fn list_all(items: &VecDeque<Item>, messages: &mut Messages)
     requires { Finds messages.old items.now.items }
     ensures { Finds messages.new items.now.items }
 {
     let count = items.len();
-    if messages.is_known && messages.added.len() <= count {
+    if messages.is_known && messages.added.len() <= count.min(messages.sorted.len()) {
         return;
     }
     messages.begin();

@@ -1,6 +1,6 @@
 //! The items of each message.
 
-ghost use Rattle.std.specs.Prelude.{◌≡◌, ℕ, ◌+◌, ◌<◌, ◌≤◌, ◌==◌, true, false, IfSome};
+ghost use Rattle.std.specs.Prelude.{◌≡◌, ℕ, ◌+◌, ◌<◌, ◌≤◌, ◌==◌, true, false, length, IfSome};
 ghost use Rattle.std.specs.List.Sorted.{IsNonDecreasing};
 ghost use Rattle.sctp_tx_outstanding.specs.Messages.{pair_key, IsFirstFrom};
 ghost use Rattle.sctp_tx_outstanding.specs.Numbers.{is_listed};
@@ -42,11 +42,28 @@ fn key_of(message_id: OutgoingMessageId, number: u32) -> u64
     u64::from(message_id.0) * (1 << 32) + u64::from(number)
 }
 
-/// The place of the first key from this one on, or of another that is the same.
-fn first_from(sorted: &Vec<u64>, from: u64) -> usize
+/// Whether the keys below the place are below this one, and those from there on aren't.
+fn begins_at(sorted: &Vec<u64>, from: u64, place: usize) -> bool
+    requires ascends { IsNonDecreasing sorted.now.items }
+    requires within { place ≤ length sorted.now.items }
+    ensures { result ≡ true → IsFirstFrom from place sorted.now.items }
+{
+    if place > 0 && sorted[place - 1] >= from {
+        return false;
+    }
+    place == sorted.len() || sorted[place] >= from
+}
+
+/// The place of the first key from this one on, or of another that is the same. It takes no search where each message before has one
+/// item, and so this number is the place.
+fn first_from(sorted: &Vec<u64>, from: u64, number: u64) -> usize
     requires { IsNonDecreasing sorted.now.items }
     ensures { IsFirstFrom from result sorted.now.items }
 {
+    let place = sorted.len().min(number as usize);
+    if begins_at(sorted, from, place) {
+        return place;
+    }
     match sorted.binary_search(&from) {
         Ok(place) => place,
         Err(place) => place,
@@ -61,7 +78,7 @@ fn least_sorted(sorted: &Vec<u64>, from: u64, last: u64) -> u64
     ensures last { result ≤ last }
     ensures none { (n : ℕ) → from ≤ n → n < result → is_listed sorted.now.items n ≡ false }
 {
-    let place = first_from(sorted, from);
+    let place = first_from(sorted, from, from % (1 << 32));
     match sorted.get(place) {
         Some(least) => (*least).min(last),
         None => last,
@@ -86,7 +103,7 @@ fn has_no_other_sorted(sorted: &Vec<u64>, from: u64, key: u64, last: u64) -> boo
     requires { IsNonDecreasing sorted.now.items }
     ensures { result ≡ true → (n : ℕ) → from ≤ n → n ≤ last → (n == key) ≡ false → is_listed sorted.now.items n ≡ false }
 {
-    let place = first_from(sorted, from);
+    let place = first_from(sorted, from, key % (1 << 32));
     let Some(first) = sorted.get(place) else {
         return true;
     };
@@ -119,7 +136,7 @@ fn has_no_other_added(added: &BTreeSet<u64>, from: u64, key: u64, last: u64) -> 
 }
 
 impl Messages {
-    ghost use Rattle.std.specs.Prelude.{◌∷◌, ◌++◌, [], List, length};
+    ghost use Rattle.std.specs.Prelude.{◌∷◌, ◌++◌, [], List};
     ghost use Rattle.sctp_tx_outstanding.specs.Item.{Item};
     ghost use Rattle.sctp_tx_outstanding.specs.Messages.{Finds, Lists, NoneIsOf};
 

@@ -249,7 +249,7 @@ impl OutstandingData {
     }
 
     /// A reset of streams begins: no forward point crosses the next TSN. Where the last reset began at the same one, nothing
-    /// changes.
+    /// changes, nor without memory.
     pub fn begin_reset_streams(&mut self) -> Result<(), AllocError>
         ensures ok { OnOk result (self.new ≡ record self.old { items = begin_reset self.old.items }) }
         ensures err { OnErr result (self.new ≡ self.old) }
@@ -587,8 +587,8 @@ impl OutstandingData {
     ///
     /// Items of which the blocks say what the last SACK's said are passed over as they are settled. Blocks that stand in order, as in a
     /// SACK that was cleaned, are walked along with the items. Others are searched whole for each stretch of items of which they say
-    /// one thing and the last SACK's one, and once more where these are reported missing. Of the payloads that leave a few buffers
-    /// are kept for the next ones.
+    /// one thing and the last SACK's one, and once more where these are reported missing. Of the payloads that leave buffers are
+    /// kept for the next ones, as many as `spares` takes.
     pub fn handle_sack(
         &mut self,
         sack: &SackChunk,

@@ -109,7 +109,7 @@ impl Runs {
         next
     }
 
-    /// The items of a run that wait have payloads of so many bytes.
+    /// The items of a run that wait have payloads of at least so many bytes.
     fn settle_least(&mut self, run: usize, least: usize)
         ensures { (is : List Item) → ((k : ℕ) → run_of self.old.offset k ≡ run → IsLargeAt least k is) → HasRuns self.old is → HasRuns self.new is }
     {

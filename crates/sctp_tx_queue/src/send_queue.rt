@@ -146,7 +146,8 @@ impl SendQueue {
     }
 
     /// Accepts a message, and answers its number. Fewer than 2^32 bytes may wait before it: so there are at most 2^32
-    /// messages, and no sum of their bytes overflows, also once a new association makes them whole again.
+    /// messages, and no sum of their bytes overflows, also once a new association makes them whole again. Without memory nothing
+    /// changes.
     pub fn add(
         &mut self,
         now: SocketTime,
@@ -292,7 +293,7 @@ impl SendQueue {
     /// The next fragment, with a payload of at most `max_payload` bytes, in the scheduler's order. Messages that expired
     /// before they were begun are dropped on the way: each is given up, and ends its lifecycle. Then events say what
     /// amounts fell to their thresholds, and of a message with a lifecycle that it was handed out whole. `None` says that no stream has
-    /// anything to send.
+    /// anything to send. Without memory none is made: some of the expired messages may have been dropped, with their events.
     pub fn produce(
         &mut self,
         now: SocketTime,
@@ -347,15 +348,15 @@ impl SendQueue {
         self.begun.is_some() || self.has_data_to_send()
     }
 
-    /// The amount at which a stream is low.
+    /// The amount, in bytes, at or below which a stream is low.
     pub fn buffered_amount_low_threshold(&self, id: StreamId) -> usize
         ensures { result ≡ (stream id.0 self.now.streams).threshold }
     {
         self.streams.low_threshold(id)
     }
 
-    /// Sets the amount at which a stream is low. Where its amount was above the old one and is at most the new one, an
-    /// event says so.
+    /// Sets the amount, in bytes, at or below which a stream is low. Where its amount was above the old one and is at most the new one, an
+    /// event says so. Without memory nothing changes.
     pub fn set_buffered_amount_low_threshold(
         &mut self,
         id: StreamId,
@@ -388,7 +389,7 @@ impl SendQueue {
         self.streams.priority(id)
     }
 
-    /// Sets the priority of a stream, for its later fragments.
+    /// Sets the priority of a stream, for its later fragments. Without memory nothing changes.
     pub fn set_priority(&mut self, id: StreamId, priority: u16) -> Result<(), AllocError>
         ensures ok { OnOk result (self.new ≡ set_priority id.0 priority self.old) }
         ensures err { OnErr result (self.new ≡ self.old) }
@@ -414,7 +415,7 @@ impl SendQueue {
     }
 
     /// Drops what is left of a message that was given up, where it is the first of its stream, as a partly sent message
-    /// is. Its lifecycle ends.
+    /// is. Its lifecycle ends. Without memory nothing changes.
     pub fn discard(
         &mut self,
         id: StreamId,
@@ -439,7 +440,7 @@ impl SendQueue {
 
     /// Prepares the reset of a stream: its messages of which nothing is sent are given up, and their lifecycles end.
     /// The stream can be reset once its partly sent message has ended, and sends no other one until the reset is
-    /// answered.
+    /// answered. Without memory nothing changes.
     pub fn prepare_reset_stream(
         &mut self,
         id: StreamId,
@@ -522,8 +523,8 @@ impl SendQueue {
 
     /// A new association begins: messages that are partly sent are whole again, each stream sends, and its numbers begin
     /// again. Numbers of messages go on. It takes time by the streams that changed since the last one, or by all that
-    /// were named where 4,096 or more did, or memory lacked for their ids. Without memory this is done for the first streams
-    /// alone, or for none.
+    /// were named where 4,096 or more did, memory lacked for their ids, or a record was taken up since. Without memory this is
+    /// done for the first streams alone, or for none.
     pub fn reset(&mut self) -> Result<(), AllocError>
         ensures ok { OnOk result (self.new ≡ reset self.old) }
         ensures numbers { NumbersGoOn self.old self.new }
@@ -657,7 +658,7 @@ impl SendQueue {
     }
 
     /// The first streams that can be reset and are in no request, by ascending id and at most `most`: they are in one
-    /// from then on.
+    /// from then on. Without memory nothing changes.
     pub fn get_streams_ready_to_reset(&mut self, most: usize) -> Result<Vec<StreamId>, AllocError>
         ensures streams { IfOk result (λ ids. map (λ id. id.0) ids.items ≡ streams_to_request most self.old) }
         ensures queue { OnOk result (self.new ≡ request_resets most self.old) }

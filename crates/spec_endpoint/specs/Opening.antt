@@ -24,7 +24,7 @@ use Rattle.spec_endpoint.specs.Association.{Identity, Tcb, tcb, Phase, CookieEch
 use Rattle.spec_endpoint.specs.Heartbeats.{restart_interval}
 use Rattle.spec_endpoint.specs.Packets.{add, packet_to, new_packet, round_down_to_4, emit_event_in, emit_error, emit}
 use Rattle.spec_endpoint.specs.Sending.{AfterSending, open_with, send_with, send_buffered, send_cookie}
-use Rattle.spec_endpoint.specs.Shutdown.{close_with, send_shutdown_ack}
+use Rattle.spec_endpoint.specs.Shutdown.{errors_if, close_with, send_shutdown_ack}
 
 -- ---- draws: a TSN but the last, a tag but 0 and the last
 
@@ -196,9 +196,9 @@ on_init_ack i s = on_init_ack_in s.endpoint_state.state i s
 
 -- ---- COOKIE ACK
 
--- an event says so, and heartbeats begin
+-- an event says so, and heartbeats begin; with stalls avoided errors count from 0 where the association takes another's place
 abbrev pub enter_connected : {P : Type 0} → Context P → Context P
-enter_connected c = record (emit_event_in OnConnected c) { heartbeats = restart_interval c.now c.heartbeats }
+enter_connected c = record (emit_event_in OnConnected c) { heartbeats = restart_interval c.now c.heartbeats; errors = errors_if c.options.avoid_stalls c.errors }
 
 abbrev pub establish : {P : Type 0} → Tcb → Context P → EndpointState P
 establish t c = open_with Established (send_buffered false t (enter_connected c))

@@ -7,6 +7,7 @@ use Rattle.sctp_state.specs.declared.api.ErrorKind.TheVariants.{TooManyRetries, 
 use Rattle.sctp_state.specs.declared.timer.BackoffAlgorithm.TheVariants.{Exponential}
 use Rattle.sctp_state.specs.Timer.{Timer, timer, start, set_duration}
 use Rattle.sctp_state.specs.RetransmissionTimeout.{rto}
+use Rattle.sctp_state.specs.TxErrorCounter.{ErrorCounter, no_errors}
 use Rattle.sctp_state.specs.Events.{Event, OnClosed, OnAborted, Emitted}
 use Rattle.sctp_rx.specs.DataTracker.{wire_tsn}
 use Rattle.sctp_tx_queue.specs.SendQueue.{Queue, is_empty}
@@ -21,13 +22,17 @@ use Rattle.spec_endpoint.specs.Packets.{add, packet_to, emit_event_in, emit_erro
 abbrev pub ended : {P : Type 0} → Event P → Context P → Context P
 ended e c = record (emit_event_in e c) { heartbeats = stop_heartbeats c.heartbeats }
 
--- with stalls avoided, what waits doesn't go to another association: it is given up
+-- with stalls avoided, neither what waits nor the count of errors goes to another association: it is given up, and they count from 0
 abbrev pub empty_if : {P : Type 0} → (avoids_stalls : Bool) → Queue → Emitted P → Changed P
 empty_if true q emitted = empty q emitted
 empty_if false q emitted = record { queue = q; emitted = emitted }
 
+abbrev pub errors_if : (avoids_stalls : Bool) → ErrorCounter → ErrorCounter
+errors_if true e = no_errors e.limit
+errors_if false e = e
+
 abbrev pub emptied_if : {P : Type 0} → (avoids_stalls : Bool) → Context P → Context P
-emptied_if avoids_stalls c = let x = empty_if avoids_stalls c.queue c.emitted in record c { queue = x.queue; emitted = x.emitted }
+emptied_if avoids_stalls c = let x = empty_if avoids_stalls c.queue c.emitted in record c { queue = x.queue; emitted = x.emitted; errors = errors_if avoids_stalls c.errors }
 
 abbrev pub over : {P : Type 0} → Event P → Context P → Context P
 over e c = emptied_if c.options.avoid_stalls (ended e c)

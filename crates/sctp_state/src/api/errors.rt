@@ -176,7 +176,7 @@ impl From<AllocError> for HandoverError {
 pub enum RestoreError {
     #[error("cannot restore state: socket is not closed")]
     SocketNotClosed = 1,
-    /// The record is none that a socket could have written.
+    /// The record is none that a socket takes up (`SocketHandoverState::is_valid`).
     #[error("handover state is invalid")]
     InvalidState = 2,
     #[error("out of memory")]

@@ -30,7 +30,7 @@ impl Model for ChangedStreams {
     ghost view = { λ c. option_map (λ ids. ids.keys) c.ids };
 }
 
-/// Adds a stream, unless there are enough or memory lacks. The answer is whether it is there.
+/// Adds a stream, unless there are enough or memory lacks. True says that it is there; with enough it is false even then.
 fn add_to(ids: &mut BTreeSet<u16>, id: StreamId) -> bool
     ensures { result ≡ true → ((k : ℕ) → is_among k ids.new.keys ≡ cond (is_at (nat_cmp id.0) k) true (is_among k ids.old.keys)) }
 {

@@ -34,7 +34,7 @@ pub(crate) fn emit_expired(
     Ok(())
 }
 
-/// A message was given up before a fragment of it was sent.
+/// A message was given up before it was fully sent.
 pub(crate) fn emit_dropped(
     events: &mut Events,
     number: OutgoingMessageId,

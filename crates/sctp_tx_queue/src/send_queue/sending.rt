@@ -27,14 +27,14 @@ pub(crate) struct StreamTurn {
     pub size: usize,
 }
 
-/// A turn, and whether the amount of all streams is low after it.
+/// A turn, and whether the amount of all streams falls to its threshold by it.
 #[derive(Clone, Copy)]
 pub(crate) struct CountedTurn {
     pub turn: StreamTurn,
     pub is_total_low: bool,
 }
 
-/// What a stream has to send after a fragment, and which amounts are low then.
+/// What a stream has to send after a fragment, and which amounts fall to their thresholds by it.
 #[derive(Clone, Copy)]
 struct Next {
     bytes: usize,

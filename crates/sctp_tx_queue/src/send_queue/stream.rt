@@ -94,7 +94,7 @@ impl Model for Stream {
     ghost invariant = { λ s. s.buffered.amount ≡ sum_by remaining_bytes s.messages };
 }
 
-/// A message that was dropped before it was fully sent.
+/// What is known of a message that is to be dropped before it is fully sent.
 #[derive(Clone, Copy)]
 pub struct Discarded {
     pub lifecycle_id: Option<LifecycleId>,

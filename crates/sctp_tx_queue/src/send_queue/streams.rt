@@ -515,7 +515,7 @@ impl Streams {
     }
 
     /// The first streams that can be reset and are in no request, by ascending id and at most `most`. Where memory was
-    /// missing to list them, all streams are looked at.
+    /// missing to list them, streams are looked at one by one until so many are found.
     pub(crate) fn ready(&mut self, alloc: Global, most: usize) -> Result<Vec<StreamId>, AllocError>
         ensures ids { IfOk result (λ ids. map (λ id. id.0) ids.items ≡ take most (ready self.old.entries)) }
         ensures same { self.new ≡ self.old }

@@ -13,7 +13,7 @@ use std::alloc::{AllocError, Global};
 use std::collections::BTreeSet;
 
 impl SocketHandoverState {
-    /// Whether a socket could have written this record. A closed socket's always is valid.
+    /// Whether the record is one that a socket takes up. A closed socket's always is.
     pub fn is_valid(&self) -> bool
         ensures { result ≡ is_valid_state (handover_state_of self.now) }
     {
