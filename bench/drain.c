@@ -4,8 +4,9 @@
  * Then the link is good, new packets are given in order, each end takes what is ready, and time goes to each timeout.
  *
  * A run is well where every message that was accepted came once, whole and in its order, or has a record that it was given up; and where both
- * ends come to rest, or close if one was shut down, with never ten minutes in which nothing changes. It isn't judged where an end gave up after
- * too many errors. Prints the seeds of the others, and with the option on, or of a single run, how their ends stand.
+ * ends come to rest, or close if one was shut down, with never ten minutes in which nothing changes, and with the option within three minutes of
+ * the link's being good: a timer that has backed off for a minute, and what follows at once. It isn't judged where an end gave up after too many
+ * errors. Prints the seeds of the others, and with the option on, or of a single run, how their ends stand.
  *
  * The sockets have PIGEON_AVOID_STALLS, but with --off. Status 1: a run with it isn't well; or with --off all are, as if none was looked at. */
 #include "shelfpigeon.h"
@@ -15,7 +16,7 @@
 #include <string.h>
 
 enum { MOST_MESSAGES = 512, LONGEST = 60000, STREAMS = 3, MOST_TURNS = 100000 };
-static const uint64_t MS = 1000000, PATIENCE = UINT64_C(600000000000);
+static const uint64_t MS = 1000000, PATIENCE = UINT64_C(600000000000), LONGEST_DRAIN = UINT64_C(180000000000);
 
 typedef struct packet {
     uint8_t *bytes;
@@ -263,6 +264,7 @@ static void choose(end *at, uint32_t flags, uint32_t most_errors, uint64_t inter
     options.max_receiver_window_buffer_size = windows[draw(5)];
     options.default_stream_buffered_amount_low_threshold = (uint32_t)draw(2) * 1000;
     options.max_retransmissions = most_errors;
+    options.max_burst = draw(4) ? options.max_burst : 1 + (int32_t)draw(3);
     if (!interval)
         options.heartbeat_interval = 0;
     at->options = options;
@@ -389,8 +391,8 @@ static void forget(end *at) {
     at->count = at->next = 0;
 }
 
-static void drain(bool shuts) {
-    uint64_t since = now, of_a = 0, of_b = 0;
+static void drain(bool avoids, bool shuts) {
+    uint64_t begun = now, since = now, of_a = 0, of_b = 0;
     unsigned long turns = 0;
     for (;;) {
         turn(&a, &b);
@@ -412,6 +414,8 @@ static void drain(bool shuts) {
         uint64_t moment = next_moment();
         if (moment == UINT64_MAX || (moment > since && moment - since > PATIENCE))
             is_wrong("stands still");
+        if (avoids && moment - begun > LONGEST_DRAIN)
+            is_wrong("is slow");
         now = moment > now && !fault ? moment : now;
     }
 }
@@ -449,7 +453,7 @@ static bool run(bool avoids, uint64_t seed) {
     uint64_t who = draw(8); /* 1 and 3: a, 2 and 3: b; above: none */
     bool shuts = (who == 1 || who == 3) && shut_down(&a);
     shuts |= (who == 2 || who == 3) && shut_down(&b);
-    drain(shuts);
+    drain(avoids, shuts);
     if (a.exhausted || b.exhausted)
         return true;
     look_for_losses(&a);

@@ -14,7 +14,7 @@ use Rattle.spec_endpoint.specs.Association.{Tcb, Phase, CookieEchoed, Establishe
 use Rattle.spec_endpoint.specs.Packets.{add, new_packet}
 use Rattle.spec_endpoint.specs.Heartbeats.{on_heartbeat_info, ack_by_length, clear_if_last, is_last_info, info_in}
 use Rattle.spec_endpoint.specs.Sending.{take_due_ack, without_duplicates, selective_ack, is_before_cookie_ack}
-use Rattle.spec_endpoint.specs.Shutdown.{on_shutdown, on_shutdown_complete, abort_for_violation, on_abort, on_error, causes_text}
+use Rattle.spec_endpoint.specs.Shutdown.{on_shutdown, on_shutdown_complete, abort_for_violation, refused_if, aborted_in, on_error, causes_text}
 use Rattle.spec_endpoint.specs.StreamReset.{on_reconfig}
 use Rattle.spec_endpoint.specs.Opening.{on_cookie_ack}
 use Rattle.spec_endpoint.specs.Calls.{set_max_message_size}
@@ -62,8 +62,15 @@ module _ {P : Type 0} (avoids : Bool) where
   unknown_if true typ flags value s h = unknown_in s.state typ flags value (emit_unknown_chunk_error typ flags value s.context) h
   unknown_if false typ flags value s h = h
 
-  abort_comes : (phase : Phase) (t : Tcb) (c : Context P) (causes : List CauseTree) → Going avoids phase t c → EndHolds avoids (on_abort causes phase t c)
-  abort_comes phase t c causes h = closes avoids (is_established phase) (OnAborted PeerReported (causes_text causes)) c h.0
+  refused : (b : Bool) (causes : List CauseTree) (tag first : ℕ) (t1 : Timer) (c : Context P) → Same (CookieWait tag first t1) c
+      → EndHolds avoids (refused_if b causes (CookieWait tag first t1) c)
+  refused true causes tag first t1 c h = closes avoids false (OnAborted PeerReported (causes_text causes)) c h.0
+  refused false causes tag first t1 c h = h
+
+  abort_comes : (causes : List CauseTree) (s : State) (c : Context P) → Same s c → EndHolds avoids (aborted_in causes s c)
+  abort_comes causes Closed c h = h
+  abort_comes causes (CookieWait tag first t1) c h = refused c.options.avoid_stalls causes tag first t1 c h
+  abort_comes causes (Open phase t) c h = closes avoids (is_established phase) (OnAborted PeerReported (causes_text causes)) c h.0
 
   opened : (row : Phase → Tcb → Context P → EndpointState P) → ((phase : Phase) (t : Tcb) (c : Context P) → Going avoids phase t c → EndHolds avoids (row phase t c))
       → (s : Endpoint P) → Whole avoids s → EndHolds avoids (where_open row s.endpoint_state)
@@ -75,7 +82,7 @@ module _ {P : Type 0} (avoids : Bool) where
   chunk_holds tag (init_chunk i) s h = init_holds avoids s.endpoint_state.state i s h
   chunk_holds tag (init_ack_chunk i) s h = init_ack_holds avoids s.endpoint_state.state i s h h
   chunk_holds tag (sack_chunk k) s h = on_sack_holds avoids k s.endpoint_state.state s.endpoint_state.context h
-  chunk_holds tag (abort_chunk reflected causes) s h = opened (on_abort causes) (λ phase t c k. abort_comes phase t c causes k) s h
+  chunk_holds tag (abort_chunk reflected causes) s h = abort_comes causes s.endpoint_state.state s.endpoint_state.context h
   chunk_holds tag (error_chunk causes) s h = opened (on_error causes) (λ phase t c k. k) s h
   chunk_holds tag (cookie_echo_chunk cookie) s h = cookie_echo_holds avoids tag cookie s h
   chunk_holds tag cookie_ack_chunk s h = opened on_cookie_ack (cookie_ack_holds avoids) s h

@@ -3,10 +3,10 @@ use Rattle.std.proofs.Common.{◌≡◌, ℕ, ◌≤◌, Bool, true, false, Opti
 use Rattle.std.specs.Prelude.{◌==◌, nat_lt}
 use Rattle.std.proofs.lemmas.Bool.{and_parts}
 use Rattle.sctp_serial.specs.Messages.{Message}
-use Rattle.sctp_wire.specs.Cause.{protocol_violation}
+use Rattle.sctp_wire.specs.Cause.{CauseTree, protocol_violation}
 use Rattle.sctp_packet.specs.Chunk.{ChunkTree, data_chunk, init_chunk, init_ack_chunk, sack_chunk, heartbeat_request_chunk, heartbeat_ack_chunk, abort_chunk, shutdown_chunk, shutdown_ack_chunk, error_chunk, cookie_echo_chunk, cookie_ack_chunk, shutdown_complete_chunk, idata_chunk, re_config_chunk, forward_tsn_chunk, i_forward_tsn_chunk, unknown_chunk}
 use Rattle.sctp_packet.specs.Packet.{PacketTree}
-use Rattle.sctp_state.specs.declared.api.ErrorKind.TheVariants.{ProtocolViolation}
+use Rattle.sctp_state.specs.declared.api.ErrorKind.TheVariants.{PeerReported, ProtocolViolation}
 use Rattle.sctp_state.specs.declared.api.errors.SendError.{SendError}
 use Rattle.sctp_state.specs.declared.api.errors.ResetStreamsError.{ResetStreamsError}
 use Rattle.sctp_state.specs.Options.{Options, SendOptions}
@@ -16,7 +16,7 @@ use Rattle.spec_endpoint.specs.Association.{Tcb, Phase, CookieEchoed, Establishe
 use Rattle.spec_endpoint.specs.Packets.{PacketDraft, add, new_packet, round_down_to_4}
 use Rattle.spec_endpoint.specs.Heartbeats.{on_heartbeat_info, ack_by_length, clear_if_last, is_last_info, info_in}
 use Rattle.spec_endpoint.specs.Sending.{is_before_cookie_ack, selective_ack, take_due_ack, without_duplicates, send_in}
-use Rattle.spec_endpoint.specs.Shutdown.{on_shutdown, on_shutdown_complete, abort_for_violation, on_abort, on_error}
+use Rattle.spec_endpoint.specs.Shutdown.{on_shutdown, on_shutdown_complete, abort_for_violation, refused_if, aborted_in, causes_text, on_error}
 use Rattle.spec_endpoint.specs.StreamReset.{on_reconfig, prepare_all, reset_if, reset_refusal}
 use Rattle.proof_awake.specs.Awake.{is_restore}
 use Rattle.proof_awake.specs.Invariant.{waits}
@@ -39,7 +39,7 @@ use Rattle.proof_awake.proofs.LineCallLemmas.{Same, offered_same, sends_then, of
 use Rattle.proof_awake.proofs.LineEachLemmas.{reconfig_lined}
 use Rattle.proof_awake.proofs.LineTimeLemmas.{advance_lined, connect_lined, init_is_lined, init_ack_lined, cookie_ack_lined, cookie_echo_lined}
 use Rattle.proof_awake.proofs.RowLemmas.{Going, EndHolds}
-use Rattle.proof_awake.proofs.LineRowLemmas.{Big, Lined, EndLined, big_chunk, big_sent, chunk_lined, sent_lined, open_lined, abort_lined, shutdown_lined, on_shutdown_lined, on_shutdown_ack_lined, on_complete_lined, close_lined, on_data_lined, on_forward_lined, on_sack_lined, goes_on_lined}
+use Rattle.proof_awake.proofs.LineRowLemmas.{Big, Lined, EndLined, big_chunk, big_sent, chunk_lined, sent_lined, open_lined, closes_lined, abort_lined, shutdown_lined, on_shutdown_lined, on_shutdown_ack_lined, on_complete_lined, close_lined, on_data_lined, on_forward_lined, on_sack_lined, goes_on_lined}
 use Rattle.proof_awake.proofs.LineLemmas.{limit_added}
 
 -- the line alone counts
@@ -80,13 +80,22 @@ module _ {P : Type 0} (avoids : Bool) where
   unknown_lined true typ flags value s l = unknown_in s.state typ flags value (emit_unknown_chunk_error typ flags value s.context) l
   unknown_lined false typ flags value s l = l
 
+  connect_refused_lined : (b : Bool) (causes : List CauseTree) (s : State) (c : Context P) → Lined avoids s c → EndLined avoids (refused_if b causes s c)
+  connect_refused_lined true causes s c l = closes_lined avoids (OnAborted PeerReported (causes_text causes)) c l.0
+  connect_refused_lined false causes s c l = l
+
+  aborted_lined : (causes : List CauseTree) (s : State) (c : Context P) → Lined avoids s c → EndLined avoids (aborted_in causes s c)
+  aborted_lined causes Closed c l = l
+  aborted_lined causes (CookieWait tag first t1) c l = connect_refused_lined c.options.avoid_stalls causes (CookieWait tag first t1) c l
+  aborted_lined causes (Open phase t) c l = closes_lined avoids (OnAborted PeerReported (causes_text causes)) c l.0
+
   chunk_is_lined : (tag : ℕ) (chunk : ChunkTree) (s : Endpoint P) → chunk_asks_once chunk ≡ true → Whole avoids s → EndLined avoids s.endpoint_state → EndLined avoids (on_chunk tag chunk s).endpoint_state
   chunk_is_lined tag (data_chunk tsn immediate f) s e h l = on_data_lined avoids tsn immediate f s.endpoint_state l
   chunk_is_lined tag (idata_chunk tsn immediate f) s e h l = on_data_lined avoids tsn immediate f s.endpoint_state l
   chunk_is_lined tag (init_chunk i) s e h l = init_is_lined avoids s.endpoint_state.state i s l
   chunk_is_lined tag (init_ack_chunk i) s e h l = init_ack_lined avoids s.endpoint_state.state i s l
   chunk_is_lined tag (sack_chunk k) s e h l = on_sack_lined avoids k s.endpoint_state.state s.endpoint_state.context h l
-  chunk_is_lined tag (abort_chunk reflected causes) s e h l = open_lined avoids (on_abort causes) (λ phase t c k m. (m.0, tt)) s.endpoint_state h l
+  chunk_is_lined tag (abort_chunk reflected causes) s e h l = aborted_lined causes s.endpoint_state.state s.endpoint_state.context l
   chunk_is_lined tag (error_chunk causes) s e h l = open_lined avoids (on_error causes) (λ phase t c k m. m) s.endpoint_state h l
   chunk_is_lined tag (cookie_echo_chunk cookie) s e h l = cookie_echo_lined avoids tag cookie s h l
   chunk_is_lined tag cookie_ack_chunk s e h l = open_lined avoids on_cookie_ack (cookie_ack_lined avoids) s.endpoint_state h l

@@ -1,20 +1,20 @@
 -- A sending leaves no stream in line where no item is kept: a packet with room takes what the queue has.
 use Rattle.std.proofs.Common.{◌≡◌, ℕ, zero, suc, ◌+◌, ◌-◌, ◌*◌, ◌/◌, ◌≤◌, Bool, true, false, min, Option, Some, None, List, [], ◌∷◌, ◌++◌, length, refl, sym, ap, subst, ◌∙◌, arith}
-use Rattle.std.specs.Prelude.{◌==◌, ◌||◌, nat_lt, nat_le, is_some}
+use Rattle.std.specs.Prelude.{◌==◌, ◌&&◌, ◌||◌, not, nat_lt, nat_le, is_some}
 use Rattle.std.specs.List.{sum_by}
-use Rattle.std.proofs.lemmas.Bool.{le-leb}
+use Rattle.std.proofs.lemmas.Bool.{le-leb, and_from}
 use Rattle.sctp_packet.specs.Chunk.{ChunkTree}
 use Rattle.sctp_packet.specs.Written.{chunks_bytes}
 use Rattle.sctp_state.specs.Events.{Emitted}
 use Rattle.sctp_tx_outstanding.specs.Item.{Item, header_size}
-use Rattle.sctp_tx_outstanding.specs.OutstandingData.{flight_part, packet_part}
+use Rattle.sctp_tx_outstanding.specs.OutstandingData.{flight_part, packet_part, queued_part, waiting_items}
 use Rattle.sctp_tx_outstanding.specs.Forward.{is_forward_due}
 use Rattle.sctp_tx_outstanding.specs.Resending.{Resent, resent_below, empty_packet}
 use Rattle.sctp_rx.specs.DataTracker.{is_ack_due}
 use Rattle.sctp_tx_queue.specs.SendQueue.{Queue}
 use Rattle.sctp_tx_queue.specs.Resets.{streams_to_request, request_resets}
 use Rattle.sctp_tx.specs.Windows.{saturate_u64, room_within, may_send}
-use Rattle.sctp_tx.specs.RetransmissionQueue.{Sender}
+use Rattle.sctp_tx.specs.RetransmissionQueue.{Sender, nothing_in_flight}
 use Rattle.sctp_tx.specs.Resent.{flight, sizes, is_interleaved, room_of, may_send_new, resent, start_t3_if}
 use Rattle.sctp_tx.specs.ForwardPoints.{forward_chunk}
 use Rattle.sctp_tx.specs.Sending as fragments
@@ -48,21 +48,29 @@ module _ {P : Type 0} (now : ℕ) where
 
 -- the windows let a fragment go where nothing is kept
 lets_go : (s : Sender) → kept_of s ≡ [] → WindowsHaveRoom s.windows → may_send_new s ≡ true
-lets_go s e w = by (nat_lt s.windows.cwnd s.windows.unfragmented_cwnd)
+lets_go s e w = and_from _ _ wide waits
   where
     -- nothing is in flight
-    quiet : may_send_new s ≡ (nat_lt s.windows.cwnd s.windows.unfragmented_cwnd || nat_le s.windows.mtu (s.windows.cwnd - 0))
+    quiet : may_send (nothing_in_flight s.outstanding.items) (flight s) s.windows ≡ (nat_lt s.windows.cwnd s.windows.unfragmented_cwnd || nat_le s.windows.mtu (s.windows.cwnd - 0))
     quiet = ap (λ (is : List Item). may_send (sum_by flight_part is == 0) (saturate_u64 (sum_by (packet_part s.outstanding.items.is_interleaved) is)) s.windows) e
 
     whole : nat_le s.windows.mtu (s.windows.cwnd - 0) ≡ true
     whole = let a = w.whole in le-leb s.windows.mtu (s.windows.cwnd - 0) (omega (arith, a))
 
-    by : (b : Bool) → may_send_new s ≡ true
-    by b = quiet ∙ (ap (λ (c : Bool). nat_lt s.windows.cwnd s.windows.unfragmented_cwnd || c) whole ∙ either (nat_lt s.windows.cwnd s.windows.unfragmented_cwnd))
-      where
-        either : (c : Bool) → (c || true) ≡ true
-        either true = refl
-        either false = refl
+    either : (c : Bool) → (c || true) ≡ true
+    either true = refl
+    either false = refl
+
+    wide : may_send (nothing_in_flight s.outstanding.items) (flight s) s.windows ≡ true
+    wide = quiet ∙ (ap (λ (c : Bool). nat_lt s.windows.cwnd s.windows.unfragmented_cwnd || c) whole ∙ either (nat_lt s.windows.cwnd s.windows.unfragmented_cwnd))
+
+    -- nor is any to be sent again
+    none : (b : Bool) → not (b && false) ≡ true
+    none true = refl
+    none false = refl
+
+    waits : not (s.windows.avoids_stalls && nat_lt 0 (waiting_items s.outstanding.items)) ≡ true
+    waits = ap (λ (is : List Item). not (s.windows.avoids_stalls && nat_lt 0 (sum_by queued_part is))) e ∙ none s.windows.avoids_stalls
 
 header_most : (b : Bool) → header_size b ≤ 20
 header_most true = omega arith

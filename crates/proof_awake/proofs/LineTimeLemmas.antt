@@ -273,7 +273,7 @@ module _ {P : Type 0} (avoids : Bool) where
   resolved_lined InvalidTag k s o h l = l
 
   read_lined : (tag : ℕ) (r : Result Cookie StateCookieError) (s : Endpoint P) → EndHolds avoids s.endpoint_state → EndLined avoids s.endpoint_state → EndLined avoids (on_read_cookie tag r s).endpoint_state
-  read_lined tag (Ok k) s h l = resolved_lined (resolve_cookie tag k s.endpoint_state.state) k s (beside_in avoids s.endpoint_state.state s.endpoint_state.context h).options h l
+  read_lined tag (Ok k) s h l = resolved_lined (resolve_cookie s.endpoint_state.context.options.avoid_stalls tag k s.endpoint_state.state) k s (beside_in avoids s.endpoint_state.state s.endpoint_state.context h).options h l
   read_lined tag (Err fault) s h l = l
 
   pub cookie_echo_lined : (tag : ℕ) (cookie : List ℕ) (s : Endpoint P) → EndHolds avoids s.endpoint_state → EndLined avoids s.endpoint_state → EndLined avoids (on_cookie_echo tag cookie s).endpoint_state

@@ -147,7 +147,7 @@ module _ {P : Type 0} (avoids : Bool) where
   resolved InvalidTag k s b h = h
 
   read_cookie_holds : (tag : ℕ) (r : Result Cookie StateCookieError) (s : Endpoint P) → Whole s → Whole (on_read_cookie tag r s)
-  read_cookie_holds tag (Ok k) s h = resolved (resolve_cookie tag k s.endpoint_state.state) k s (beside_in s.endpoint_state.state s.endpoint_state.context h) h
+  read_cookie_holds tag (Ok k) s h = resolved (resolve_cookie s.endpoint_state.context.options.avoid_stalls tag k s.endpoint_state.state) k s (beside_in s.endpoint_state.state s.endpoint_state.context h) h
   read_cookie_holds tag (Err fault) s h = h
 
   pub cookie_echo_holds : (tag : ℕ) (cookie : List ℕ) (s : Endpoint P) → Whole s → Whole (on_cookie_echo tag cookie s)

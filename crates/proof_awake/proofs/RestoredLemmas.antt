@@ -9,7 +9,7 @@ use Rattle.sctp_tx_outstanding.specs.OutstandingData.{Items}
 use Rattle.sctp_tx_outstanding.specs.Resending.{Resent}
 use Rattle.sctp_tx_queue.specs.SendQueue.{Queue}
 use Rattle.sctp_tx_queue.specs.Settings.{Changed}
-use Rattle.sctp_tx.specs.RetransmissionQueue.{Sender, kept_running, nothing_in_flight, restart_or_stop, t3_after_sack, step_of}
+use Rattle.sctp_tx.specs.RetransmissionQueue.{Sender, kept_running, nothing_in_flight, restart_or_stop, t3_after_sack, restarts, step_of, windows_by}
 use Rattle.sctp_tx.specs.Resent.{resent, start_t3_if}
 use Rattle.sctp_tx.specs.Sending as fragments
 use Rattle.sctp_tx.specs.Sending.{discard_all, without_discards, filled_with, fill, timed_filling, send}
@@ -41,7 +41,9 @@ after_sack true items now t l = kept_timed (nothing_in_flight items) now _ (left
 after_sack false items now t l = kept_timed (nothing_in_flight items) now t l
 
 pub sack_starts : EachSackStartsT3
-sack_starts now n a_rwnd blocks s emitted l = after_sack (nat_lt s.outstanding.items.acked n) (step_of n blocks s emitted).items now s.t3 l
+sack_starts now n a_rwnd blocks s emitted l =
+    let step = step_of n blocks s emitted in
+    after_sack (restarts (nat_lt s.outstanding.items.acked n) s.windows (windows_by n a_rwnd blocks s step) s.t3) step.items now s.t3 l
 
 -- ---- data
 

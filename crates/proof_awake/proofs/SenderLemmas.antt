@@ -17,8 +17,8 @@ use Rattle.sctp_tx_outstanding.specs.Sack.{acked_bytes, leaving, staying, report
 use Rattle.sctp_tx_queue.specs.SendQueue.{Queue}
 use Rattle.sctp_tx_queue.specs.Produced.{Produced, Turn, produce}
 use Rattle.sctp_tx_queue.specs.Settings.{Changed}
-use Rattle.sctp_tx.specs.Windows.{is_open, saturate_u64}
-use Rattle.sctp_tx.specs.RetransmissionQueue.{Sender, kept_running, nothing_in_flight, restart_or_stop, t3_after_sack, step_of, sender_if, timed_out_sender}
+use Rattle.sctp_tx.specs.Windows.{Windows, is_open, saturate_u64}
+use Rattle.sctp_tx.specs.RetransmissionQueue.{Sender, kept_running, nothing_in_flight, restart_or_stop, t3_after_sack, restarts, step_of, windows_by, sender_if, timed_out_sender}
 use Rattle.sctp_tx.specs.Resent.{may_send_new, resent, resent_fast, resent_by, start_t3_if, send_fast}
 use Rattle.sctp_tx.specs.ForwardPoints.{abandon_expired}
 use Rattle.sctp_tx.specs.Sending.{Filling, QueueStep, item_of, append, offered_payload, queue_step_if, next_turn, fill, discard_all, without_discards, filled_with, timed_filling, send}
@@ -136,10 +136,17 @@ module _ {P : Type 0} (now n a_rwnd : ℕ) (blocks : List GapAckBlock) (s : Send
   sack_times false l (inl z) = inl (none_of_none (is_no_item s.outstanding.items.kept z))
   sack_times false l (inr r) = inr (kept_on (nothing_in_flight after) now s.t3 r)
 
+  abbrev windows : Windows
+  windows = windows_by n a_rwnd blocks s (step_of n blocks s e)
+
+  -- whether t3-rtx begins anew
+  abbrev anew : Bool
+  anew = restarts (nat_lt s.outstanding.items.acked n) s.windows windows s.t3
+
   pub sack_holds : (b valid : Bool) → SenderHolds b s → SenderHolds false (sender_if valid now n a_rwnd blocks s e)
   sack_holds b true h = record {
-    lasts = lasts_if (nat_lt s.outstanding.items.acked n) after now s.t3 h.lasts;
-    timed = sack_times (nat_lt s.outstanding.items.acked n) h.lasts h.timed;
+    lasts = lasts_if anew after now s.t3 h.lasts;
+    timed = sack_times anew h.lasts h.timed;
     some = tt;
     windows = sack_room n a_rwnd (nat_lt s.outstanding.items.acked n) (step_of n blocks s e).is_lossy (saturate_u64 (flight_bytes s.outstanding.items))
         (saturate_u64 (acked_bytes n blocks s.outstanding.items)) (saturate_u64 (flight_payload after)) (next_number after - 1) s.windows h.windows;

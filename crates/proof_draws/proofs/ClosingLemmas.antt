@@ -8,7 +8,7 @@ use Rattle.sctp_rx.specs.DataTracker.{is_ack_due}
 use Rattle.spec_endpoint.specs.Association.{Tcb, Phase, CookieEchoed, Established, ShutdownPending, ShutdownSent, ShutdownReceived, ShutdownAckSent, State, Closed, CookieWait, Open, Context, EndpointState, where_open, Packing}
 use Rattle.spec_endpoint.specs.Packets.{PacketDraft, add, packet_to, new_packet, emit}
 use Rattle.spec_endpoint.specs.Sending.{AfterSending, take_due_ack, without_duplicates, selective_ack, is_before_cookie_ack, open_with, send_with}
-use Rattle.spec_endpoint.specs.Shutdown.{close_with, send_shutdown_ack, PhaseStep, shutdown_in_phase, open_phase_step, shutdown_in, shutdown, shut_by_peer, on_shutdown, complete_shutdown, out_of_the_blue, on_shutdown_ack_open, on_shutdown_ack_in, on_shutdown_ack, on_shutdown_complete, abort, close_in, close, too_many, abort_for_violation, on_abort, on_error}
+use Rattle.spec_endpoint.specs.Shutdown.{close_with, send_shutdown_ack, PhaseStep, shutdown_in_phase, open_phase_step, shutdown_in, shutdown, shut_by_peer, on_shutdown, complete_shutdown, out_of_the_blue, on_shutdown_ack_open, on_shutdown_ack_in, on_shutdown_ack, on_shutdown_complete, abort, close_in, close, too_many, abort_for_violation, on_error, refused_if, aborted_in, aborted}
 use Rattle.spec_endpoint.specs.Input.{ack_if_due, at_end, on_packet_end, repeats, packet_acked, shut_waiting, shut_if}
 use Rattle.spec_endpoint.specs.Opening.{on_cookie_ack}
 use Rattle.proof_draws.specs.NamedChunks.{Names, AreNames}
@@ -128,8 +128,18 @@ module _ {P : Type 0} (n : Names) (are : AreNames n) (pack : Packing P) where
   pub abort_for_violation_named : (reason : List ℕ) (t : Tcb) (c : Context P) → Knows n pack c → abort_for_violation reason (named_tcb n t) (plain pack c) ≡ named_endpoint_state n pack (abort_for_violation reason t c)
   abort_for_violation_named reason t c k = abort_named (protocol_violation reason) (OnAborted ProtocolViolation reason) t c k
 
-  pub on_abort_named : (causes : List CauseTree) → OpenIsNamed n pack (on_abort causes)
-  on_abort_named causes phase t c k = refl
+  connect_refused_named : (b : Bool) (causes : List CauseTree) (st : State) (c : Context P)
+      → refused_if b causes (named_state n st) (plain pack c) ≡ named_endpoint_state n pack (refused_if b causes st c)
+  connect_refused_named true causes st c = refl
+  connect_refused_named false causes st c = refl
+
+  aborted_in_named : (causes : List CauseTree) (st : State) (c : Context P) → aborted_in causes (named_state n st) (plain pack c) ≡ named_endpoint_state n pack (aborted_in causes st c)
+  aborted_in_named causes Closed c = refl
+  aborted_in_named causes (CookieWait tag first t1) c = connect_refused_named c.options.avoid_stalls causes (CookieWait tag first t1) c
+  aborted_in_named causes (Open phase t) c = refl
+
+  pub aborted_named : (causes : List CauseTree) (s : EndpointState P) → aborted causes (named_endpoint_state n pack s) ≡ named_endpoint_state n pack (aborted causes s)
+  aborted_named causes s = aborted_in_named causes s.state s.context
 
   pub on_error_named : (causes : List CauseTree) → OpenIsNamed n pack (on_error causes)
   on_error_named causes phase t c k = refl

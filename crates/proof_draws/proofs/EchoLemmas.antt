@@ -65,7 +65,7 @@ picked ps mine peer tie cookie_tie new (CookieWait tag first t1) = refl
 picked ps mine peer tie cookie_tie new (Open phase t) = refl
 
 draws_by : (tag : ℕ) (k : Cookie) (s : State) (tie : ℕ → ℕ) (new old : ℕ) → ((phase : Phase) (t : Tcb) → s ≡ Open phase t → is_new (resolve_by_tags tag t.identity k) ≡ false)
-    → is_new (resolve_cookie tag k s) ≡ true → new ≡ pick s tie new old
+    → is_new (resolve_cookie false tag k s) ≡ true → new ≡ pick s tie new old
 draws_by tag k Closed tie new old f h = refl
 draws_by tag k (CookieWait own first t1) tie new old f h = refl
 draws_by tag k (Open phase t) tie new old f h = absurd (both_ways (is_new (resolve_by_tags tag t.identity k)) (f phase t refl) h)

@@ -1,5 +1,5 @@
 -- INIT, INIT ACK and COOKIE ECHO under other names, where what is drawn for them are the names of what is drawn.
-use Rattle.std.proofs.Common.{◌≡◌, ℕ, ◌+◌, ◌%◌, ◌^◌, Bool, true, false, Option, Some, None, option_map, Result, Ok, Err, List, [], ◌∷◌, map, codes, refl, sym, ap, ◌∙◌}
+use Rattle.std.proofs.Common.{◌≡◌, ℕ, ◌+◌, ◌%◌, ◌^◌, Bool, true, false, Option, Some, None, option_map, Result, Ok, Err, List, [], ◌∷◌, map, codes, refl, sym, ap, ◌∙◌, ◌&&◌, ◌==◌, not}
 use Rattle.rand_core.specs.Stream.{Stream, next_u32, next_u64}
 use Rattle.sctp_serial.specs.Unwrapped.{u32_space, wire}
 use Rattle.sctp_wire.specs.Parameter.{ParameterTree, heartbeat_info, state_cookie, outgoing_reset_request, incoming_reset_request, ssn_tsn_reset_request, reset_response, add_outgoing_streams_request, add_incoming_streams_request, supported_extensions, forward_tsn_supported, zero_checksum_acceptable, unknown_parameter}
@@ -14,7 +14,7 @@ use Rattle.spec_endpoint.specs.Association.{Tcb, Phase, CookieEchoed, Establishe
 use Rattle.spec_endpoint.specs.Packets.{PacketDraft, add, packet_to, new_packet, round_down_to_4, emit_event_in, emit_error, emit}
 use Rattle.spec_endpoint.specs.Sending.{AfterSending, open_with}
 use Rattle.spec_endpoint.specs.Shutdown.{close_with}
-use Rattle.spec_endpoint.specs.Opening.{tsn_from, tag_from, answer, next_first, on_init_open, on_init_in, on_init, cookie_in, without_cookie, echo, identity_of_init_ack, echo_or_abort, on_init_ack_in, on_init_ack, enter_connected, CookieResolution, EstablishNew, RestartDetected, SimultaneousInit, MaintainExisting, Discard, InvalidTag, resolve_cookie, cookie_ack, anew, maintain_existing, maintain_existing_in, too_late, restarts, restarts_in, restart, on_resolution, on_read_cookie, on_cookie_echo}
+use Rattle.spec_endpoint.specs.Opening.{tsn_from, tag_from, answer, next_first, on_init_open, on_init_in, on_init, cookie_in, without_cookie, echo, identity_of_init_ack, echo_or_abort, on_init_ack_in, on_init_ack, enter_connected, CookieResolution, EstablishNew, RestartDetected, SimultaneousInit, MaintainExisting, Discard, InvalidTag, resolve_cookie, cookie_ack, anew, maintain_existing, maintain_existing_in, too_late, restarts, restarts_in, restart, on_resolution, on_read_cookie, on_cookie_echo, new_unless, new_if}
 use Rattle.proof_draws.specs.NamedChunks.{Names, AreNames, flip, move_by, named_parameter, named_init}
 use Rattle.proof_draws.specs.Names.{named_tcb, named_phase, named_state, named_endpoint_state, named_cookie, plain, with_random}
 use Rattle.proof_draws.specs.Laws.{TiesTell}
@@ -201,13 +201,23 @@ module _ {P : Type 0} (n : Names) (are : AreNames n) (pack : Packing P) where
   verdict_named Discard k s w v d knows = refl
   verdict_named InvalidTag k s w v d knows = refl
 
+  -- an avoided stall makes no control block more
+  still_new : (avoids_stalls : Bool) (tag : ℕ) (k : Cookie) (st : State) → is_new (resolve_cookie avoids_stalls tag k st) ≡ true → is_new (resolve_cookie false tag k st) ≡ true
+  still_new avoids_stalls tag k Closed new = new
+  still_new avoids_stalls tag k (CookieWait my first t1) new = unless (avoids_stalls && not (k.my_tag == my)) (tag == k.my_tag) new
+    where
+      unless : (late own : Bool) → is_new (new_unless late own) ≡ true → is_new (new_if own) ≡ true
+      unless true own h = absurd (cc)
+      unless false own h = h
+  still_new avoids_stalls tag k (Open phase t) new = new
+
   read_named : (tag : ℕ) (r : Result Cookie StateCookieError) (s : EndpointState P) (w v : Stream)
       → ((k : Cookie) → r ≡ Ok k → (phase : Phase) (t : Tcb) → s.state ≡ Open phase t → TiesTell n tag t.identity k)
-      → ((k : Cookie) → r ≡ Ok k → is_new (resolve_cookie tag k s.state) ≡ true → DrawsTie n w v) → Knows n pack s.context
+      → ((k : Cookie) → r ≡ Ok k → is_new (resolve_cookie false tag k s.state) ≡ true → DrawsTie n w v) → Knows n pack s.context
       → (on_read_cookie (n.tag tag) (read_under n r) (with_random v (named_endpoint_state n pack s))).endpoint_state ≡ named_endpoint_state n pack (on_read_cookie tag r (with_random w s)).endpoint_state
   read_named tag (Ok k) s w v ties draws knows =
-      ap (λ (x : CookieResolution). (on_resolution x (named_cookie n k) (with_random v (named_endpoint_state n pack s))).endpoint_state) (judged_named n are tag k s.state (ties k refl))
-      ∙ verdict_named (resolve_cookie tag k s.state) k s w v (draws k refl) knows
+      ap (λ (x : CookieResolution). (on_resolution x (named_cookie n k) (with_random v (named_endpoint_state n pack s))).endpoint_state) (judged_named n are s.context.options.avoid_stalls tag k s.state (ties k refl))
+      ∙ verdict_named (resolve_cookie s.context.options.avoid_stalls tag k s.state) k s w v (λ new. draws k refl (still_new s.context.options.avoid_stalls tag k s.state new)) knows
   read_named tag (Err fault) s w v ties draws knows = refl
 
   pub cookie_echo_named : (tag : ℕ) (cookie : List ℕ) (s : EndpointState P) (w v : Stream) → CookieIsNamed n tag cookie s.state w v → Knows n pack s.context

@@ -24,7 +24,7 @@ use Rattle.spec_endpoint.specs.Association.{Tcb, Phase, CookieEchoed, Establishe
 use Rattle.spec_endpoint.specs.Packets.{PacketDraft, fits, add, has_chunks, packet_to, new_packet, emit_event_in}
 use Rattle.spec_endpoint.specs.ResetRequests.{Request, Requests, is_final, is_last_request, is_next_request, is_known_request, end_or_defer, response_if, handle_response_in}
 use Rattle.spec_endpoint.specs.Sending.{Filling, take_due_ack, ack_if, has_data_to_send, with_ack, forward_added_if, forward_if, with_expired_abandoned, forward_if_time, with_forward, most_streams, request_of, request_if, filled_as, BurstStep, burst_step_if, next_packet, continue_burst, burst, is_before_cookie_ack, send_with, fast_if, send_lost}
-use Rattle.spec_endpoint.specs.Shutdown.{on_shutdown, on_shutdown_ack_in, on_shutdown_complete, abort_for_violation, on_abort, on_error}
+use Rattle.spec_endpoint.specs.Shutdown.{on_shutdown, on_shutdown_ack_in, on_shutdown_complete, abort_for_violation, on_error, refused_if, aborted_in}
 use Rattle.spec_endpoint.specs.Shutdown as closing
 use Rattle.spec_endpoint.specs.Data.{on_data_in, on_data_if, on_data, accepts_fragment, fragment_if, accepts_point, handle_forward_tsn_if, handle_forward_tsn_in, has_room, told_of_drop}
 use Rattle.spec_endpoint.specs.Sack.{clean_blocks, sample_rtt, after_sack, on_sack_in, is_late, sampled_unless}
@@ -32,6 +32,7 @@ use Rattle.spec_endpoint.specs.Sack as acks
 use Rattle.spec_endpoint.specs.Opening.{on_cookie_ack, enter_connected, tcb_by, queue_for, cookie_ack, anew, maintain_existing, maintain_existing_in, restarts, restarts_in, restart, CookieResolution, EstablishNew, RestartDetected, SimultaneousInit, MaintainExisting, Discard, InvalidTag, resolve_cookie, on_resolution, on_read_cookie, on_cookie_echo, long_word}
 use Rattle.spec_endpoint.specs.StreamReset.{Handling, handling, is_ahead, resets_if, outgoing_by, incoming_if, on_parameter, is_outgoing, HandledParameters, handle_next, handle_all, send_responses, finish_reconfig_if, on_reconfig}
 use Rattle.spec_endpoint.specs.Input.{violation, on_unknown_if, is_reported, on_heartbeat, on_chunk, received_if, receive, repeats, repeats_if}
+use Rattle.sctp_wire.specs.Cause.{CauseTree}
 use Rattle.proof_draws.specs.Laws.{NumberFits, NumbersFit, NumbersFitIn, number_fits, is_flowing}
 use Rattle.proof_endpoint.proofs.RowMapsLemmas.{endpoint_state_in}
 
@@ -268,6 +269,15 @@ module _ {P : Type 0} where
 
   -- ---- chunks
 
+  refused_fits : (b : Bool) (causes : List CauseTree) (st : State) (c : Context P) → NumbersFitIn st → NumbersFitIn (refused_if b causes st c).state
+  refused_fits true causes st c h = tt
+  refused_fits false causes st c h = h
+
+  aborted_fits : (causes : List CauseTree) (st : State) (c : Context P) → NumbersFitIn st → NumbersFitIn (aborted_in causes st c).state
+  aborted_fits causes Closed c h = h
+  aborted_fits causes (CookieWait tag first t1) c h = refused_fits c.options.avoid_stalls causes (CookieWait tag first t1) c h
+  aborted_fits causes (Open phase t) c h = tt
+
   chunk_fits : (tag : ℕ) (chunk : ChunkTree) (e : Endpoint P) → is_flowing chunk ≡ true → NumbersFitIn e.endpoint_state.state → NumbersFitIn (on_chunk tag chunk e).endpoint_state.state
   chunk_fits tag (data_chunk tsn immediate f) e k h = data_fits tsn immediate f e.endpoint_state h
   chunk_fits tag (idata_chunk tsn immediate f) e k h = data_fits tsn immediate f e.endpoint_state h
@@ -276,7 +286,7 @@ module _ {P : Type 0} where
   chunk_fits tag (sack_chunk x) e k h = sack_in_fits e.endpoint_state.state x e.endpoint_state.context h
   chunk_fits tag (heartbeat_request_chunk parameters) e k h = where_fits (on_heartbeat parameters) e.endpoint_state (λ phase t c j. j) h
   chunk_fits tag (heartbeat_ack_chunk parameters) e k h = h
-  chunk_fits tag (abort_chunk reflected causes) e k h = where_fits (on_abort causes) e.endpoint_state (λ phase t c j. tt) h
+  chunk_fits tag (abort_chunk reflected causes) e k h = aborted_fits causes e.endpoint_state.state e.endpoint_state.context h
   chunk_fits tag (shutdown_chunk tsn) e k h = where_fits on_shutdown e.endpoint_state (λ phase t c j. j) h
   chunk_fits tag shutdown_ack_chunk e k h = shutdown_ack_fits tag e.endpoint_state.state e.endpoint_state.context h
   chunk_fits tag (error_chunk causes) e k h = where_fits (on_error causes) e.endpoint_state (λ phase t c j. j) h
@@ -364,7 +374,7 @@ module _ {P : Type 0} where
 
   read_fits : (tag : ℕ) (r : Result Cookie StateCookieError) (e : Endpoint P) → ((k : Cookie) → r ≡ Ok k → k.my_initial_tsn < u32_space) → NumbersFitIn e.endpoint_state.state
       → NumbersFitIn (on_read_cookie tag r e).endpoint_state.state
-  read_fits tag (Ok k) e first h = verdict_fits (resolve_cookie tag k e.endpoint_state.state) k e (first k refl) h
+  read_fits tag (Ok k) e first h = verdict_fits (resolve_cookie e.endpoint_state.context.options.avoid_stalls tag k e.endpoint_state.state) k e (first k refl) h
   read_fits tag (Err fault) e first h = h
 
   pub cookie_echo_fits : (tag : ℕ) (cookie : List ℕ) (e : Endpoint P) → ((k : Cookie) → read_cookie cookie ≡ Ok k → k.my_initial_tsn < u32_space) → NumbersFitIn e.endpoint_state.state

@@ -3,7 +3,7 @@ use Rattle.std.proofs.Common.{◌≡◌, ℕ, ◌==◌, Bool, true, false, Optio
 use Rattle.std.proofs.lemmas.Bool.{and_parts, not-true}
 use Rattle.std.specs.List.{list_all}
 use Rattle.sctp_wire.specs.Parameter.{ParameterTree}
-use Rattle.sctp_wire.specs.Cause.{no_user_data, protocol_violation}
+use Rattle.sctp_wire.specs.Cause.{no_user_data, protocol_violation, CauseTree}
 use Rattle.sctp_chunk.specs.declared.sack.GapAckBlock.{GapAckBlock}
 use Rattle.sctp_packet.specs.Chunk.{ChunkTree, FragmentTree, SackTree, data_chunk, idata_chunk, init_chunk, init_ack_chunk, sack_chunk, heartbeat_request_chunk, heartbeat_ack_chunk, abort_chunk, shutdown_chunk, shutdown_ack_chunk, error_chunk, cookie_echo_chunk, cookie_ack_chunk, shutdown_complete_chunk, re_config_chunk, forward_tsn_chunk, i_forward_tsn_chunk, unknown_chunk}
 use Rattle.sctp_capabilities.specs.Capabilities.{Capabilities}
@@ -15,7 +15,7 @@ use Rattle.spec_endpoint.specs.Association.{Tcb, Phase, CookieEchoed, Establishe
 use Rattle.spec_endpoint.specs.Heartbeats.{info_in, is_last_info, clear_if_last, ack_by_length, on_heartbeat_info, on_heartbeat_ack}
 use Rattle.spec_endpoint.specs.Packets.{add, packet_to, new_packet}
 use Rattle.spec_endpoint.specs.Sending.{is_before_cookie_ack, send_lost}
-use Rattle.spec_endpoint.specs.Shutdown.{on_shutdown, out_of_the_blue, on_shutdown_ack_open, on_shutdown_ack_in, on_shutdown_ack, on_shutdown_complete, abort_for_violation, on_abort, on_error, maybe_send_shutdown_or_ack}
+use Rattle.spec_endpoint.specs.Shutdown.{on_shutdown, out_of_the_blue, on_shutdown_ack_open, on_shutdown_ack_in, on_shutdown_ack, on_shutdown_complete, abort_for_violation, on_error, maybe_send_shutdown_or_ack, refused_if, aborted_in, aborted}
 use Rattle.spec_endpoint.specs.Data.{on_no_data, no_data, on_data_in, on_data_if, on_data, on_forward}
 use Rattle.spec_endpoint.specs.Sack.{clean_blocks, sample_rtt, after_sack, on_sack_in, on_sack, is_late, sampled_unless}
 use Rattle.spec_endpoint.specs.Sack as acks
@@ -32,7 +32,7 @@ use Rattle.proof_draws.proofs.FillingLemmas.{send_with_stays, send_lost_stays}
 use Rattle.proof_draws.proofs.SackLemmas.{named_on_sack, go_on_stays}
 use Rattle.proof_draws.proofs.NumberLemmas.{receive_fits, repeats_if_fits}
 use Rattle.proof_draws.proofs.ResetLemmas.{reconfig_stays, reconfig_named}
-use Rattle.proof_draws.proofs.ClosingLemmas.{OpenIsNamed, where_named, on_shutdown_named, shutdown_ack_named, shutdown_complete_named, abort_for_violation_named, on_abort_named, on_error_named, on_cookie_ack_named, repeats_named, ended_named}
+use Rattle.proof_draws.proofs.ClosingLemmas.{OpenIsNamed, where_named, on_shutdown_named, shutdown_ack_named, shutdown_complete_named, abort_for_violation_named, on_error_named, on_cookie_ack_named, repeats_named, ended_named, aborted_named}
 use Rattle.proof_endpoint.proofs.InputMapsLemmas.{received_as}
 
 -- ---- who writes stays
@@ -147,6 +147,15 @@ module _ {P : Type 0} where
   complete_stays ShutdownReceived t c = refl
   complete_stays (ShutdownAckSent t2) t c = refl
 
+  refused_stays : (b : Bool) (causes : List CauseTree) (st : State) (c : Context P) → (refused_if b causes st c).context.pack ≡ c.pack
+  refused_stays true causes st c = refl
+  refused_stays false causes st c = refl
+
+  aborted_stays : (causes : List CauseTree) (st : State) (c : Context P) → (aborted_in causes st c).context.pack ≡ c.pack
+  aborted_stays causes Closed c = refl
+  aborted_stays causes (CookieWait tag first t1) c = refused_stays c.options.avoid_stalls causes (CookieWait tag first t1) c
+  aborted_stays causes (Open phase t) c = refl
+
   chunk_stays : (tag : ℕ) (chunk : ChunkTree) (e : Endpoint P) → is_flowing chunk ≡ true → (on_chunk tag chunk e).endpoint_state.context.pack ≡ e.endpoint_state.context.pack
   chunk_stays tag (data_chunk tsn immediate f) e h = data_stays tsn immediate f e.endpoint_state
   chunk_stays tag (idata_chunk tsn immediate f) e h = data_stays tsn immediate f e.endpoint_state
@@ -155,7 +164,7 @@ module _ {P : Type 0} where
   chunk_stays tag (sack_chunk k) e h = sack_stays k e.endpoint_state
   chunk_stays tag (heartbeat_request_chunk parameters) e h = where_stays (on_heartbeat parameters) e.endpoint_state (λ phase t c. emit_stays (add (heartbeat_ack_chunk parameters) (new_packet c.options t)) c)
   chunk_stays tag (heartbeat_ack_chunk parameters) e h = heartbeat_info_stays (info_in parameters) e.endpoint_state.context
-  chunk_stays tag (abort_chunk reflected causes) e h = where_stays (on_abort causes) e.endpoint_state (λ phase t c. refl)
+  chunk_stays tag (abort_chunk reflected causes) e h = aborted_stays causes e.endpoint_state.state e.endpoint_state.context
   chunk_stays tag (shutdown_chunk tsn) e h = where_stays on_shutdown e.endpoint_state shutdown_stays
   chunk_stays tag shutdown_ack_chunk e h = shutdown_ack_stays tag e.endpoint_state.state e.endpoint_state.context
   chunk_stays tag (error_chunk causes) e h = where_stays (on_error causes) e.endpoint_state (λ phase t c. refl)
@@ -219,25 +228,25 @@ module _ (m : Names) where
   misused_named k (i_forward_tsn_chunk tsn skipped) = refl
   misused_named k (unknown_chunk typ flags value) = refl
 
-  goes_on_named : (chunk : ChunkTree) → allows_next (named_chunk m chunk) ≡ allows_next chunk
-  goes_on_named (data_chunk tsn immediate f) = refl
-  goes_on_named (idata_chunk tsn immediate f) = refl
-  goes_on_named (init_chunk i) = refl
-  goes_on_named (init_ack_chunk i) = refl
-  goes_on_named (sack_chunk h) = refl
-  goes_on_named (heartbeat_request_chunk parameters) = refl
-  goes_on_named (heartbeat_ack_chunk parameters) = refl
-  goes_on_named (abort_chunk reflected causes) = refl
-  goes_on_named (shutdown_chunk tsn) = refl
-  goes_on_named shutdown_ack_chunk = refl
-  goes_on_named (error_chunk causes) = refl
-  goes_on_named (cookie_echo_chunk cookie) = refl
-  goes_on_named cookie_ack_chunk = refl
-  goes_on_named (shutdown_complete_chunk reflected) = refl
-  goes_on_named (re_config_chunk parameters) = refl
-  goes_on_named (forward_tsn_chunk tsn skipped) = refl
-  goes_on_named (i_forward_tsn_chunk tsn skipped) = refl
-  goes_on_named (unknown_chunk typ flags value) = refl
+  goes_on_named : (avoids : Bool) (tag to : ℕ) (st r : State) (chunk : ChunkTree) → is_flowing chunk ≡ true → allows_next avoids to r (named_chunk m chunk) ≡ allows_next avoids tag st chunk
+  goes_on_named avoids tag to st r (data_chunk tsn immediate f) h = refl
+  goes_on_named avoids tag to st r (idata_chunk tsn immediate f) h = refl
+  goes_on_named avoids tag to st r (init_chunk i) h = refl
+  goes_on_named avoids tag to st r (init_ack_chunk i) h = refl
+  goes_on_named avoids tag to st r (sack_chunk k) h = refl
+  goes_on_named avoids tag to st r (heartbeat_request_chunk parameters) h = refl
+  goes_on_named avoids tag to st r (heartbeat_ack_chunk parameters) h = refl
+  goes_on_named avoids tag to st r (abort_chunk reflected causes) h = refl
+  goes_on_named avoids tag to st r (shutdown_chunk tsn) h = refl
+  goes_on_named avoids tag to st r shutdown_ack_chunk h = refl
+  goes_on_named avoids tag to st r (error_chunk causes) h = refl
+  goes_on_named avoids tag to st r (cookie_echo_chunk cookie) h = cc
+  goes_on_named avoids tag to st r cookie_ack_chunk h = refl
+  goes_on_named avoids tag to st r (shutdown_complete_chunk reflected) h = refl
+  goes_on_named avoids tag to st r (re_config_chunk parameters) h = refl
+  goes_on_named avoids tag to st r (forward_tsn_chunk tsn skipped) h = refl
+  goes_on_named avoids tag to st r (i_forward_tsn_chunk tsn skipped) h = refl
+  goes_on_named avoids tag to st r (unknown_chunk typ flags value) h = refl
 
 pub violation_named : (n m : Names) (st : State) (chunk : ChunkTree) → violation (named_state n st) (named_chunk m chunk) ≡ violation st chunk
 violation_named n m Closed chunk = refl
@@ -297,7 +306,7 @@ module _ {P : Type 0} (n : Names) (are : AreNames n) (pack : Packing P) where
   chunk_named tag (sack_chunk k) e h f knows = on_named (on_sack k) (on_sack (named_sack (flip n) k)) e (named_on_sack n are pack k e.endpoint_state knows)
   chunk_named tag (heartbeat_request_chunk parameters) e h f knows = on_open (on_heartbeat parameters) e (heartbeat_named parameters) knows
   chunk_named tag (heartbeat_ack_chunk parameters) e h f knows = on_named (in_context (on_heartbeat_ack parameters)) (in_context (on_heartbeat_ack parameters)) e (ap (λ (c : Context P). record (named_endpoint_state n pack e.endpoint_state) { context = c }) (heartbeat_info_named (info_in parameters) e.endpoint_state.context))
-  chunk_named tag (abort_chunk reflected causes) e h f knows = on_open (on_abort causes) e (on_abort_named n are pack causes) knows
+  chunk_named tag (abort_chunk reflected causes) e h f knows = on_named (aborted causes) (aborted causes) e (aborted_named n are pack causes e.endpoint_state)
   chunk_named tag (shutdown_chunk tsn) e h f knows = on_open on_shutdown e (on_shutdown_named n are pack) knows
   chunk_named tag shutdown_ack_chunk e h f knows = on_named (on_shutdown_ack tag) (on_shutdown_ack (n.tag tag)) e (shutdown_ack_named n are pack tag e.endpoint_state knows)
   chunk_named tag (error_chunk causes) e h f knows = on_open (on_error causes) e (on_error_named n are pack causes) knows
@@ -314,8 +323,10 @@ module _ {P : Type 0} (n : Names) (are : AreNames n) (pack : Packing P) where
   received_if_named (Some reason) tag chunk e h f k =
       ap (λ (x : Endpoint P). received_as false x) (on_open (λ phase t c. abort_for_violation reason t c) e (λ phase t c knows. abort_for_violation_named n are pack reason t c knows) k)
   received_if_named None tag chunk e h f k =
-      ap (λ (b : Bool). received_as b (on_chunk (n.tag tag) (named_chunk (flip n) chunk) (named_end n pack e))) (goes_on_named (flip n) chunk)
-      ∙ ap (λ (x : Endpoint P). received_as (allows_next chunk) x) (chunk_named tag chunk e h f k)
+      let avoids : Bool = e.endpoint_state.context.options.avoid_stalls in
+      let st : State = e.endpoint_state.state in
+      ap (λ (b : Bool). received_as b (on_chunk (n.tag tag) (named_chunk (flip n) chunk) (named_end n pack e))) (goes_on_named (flip n) avoids tag (n.tag tag) st (named_state n st) chunk h)
+      ∙ ap (λ (x : Endpoint P). received_as (allows_next avoids tag st chunk) x) (chunk_named tag chunk e h f k)
 
   receive_named : (tag : ℕ) (chunk : ChunkTree) (e : Endpoint P) → is_flowing chunk ≡ true → NumbersFitIn e.endpoint_state.state → Knows n pack e.endpoint_state.context
       → receive (n.tag tag) (named_chunk (flip n) chunk) (named_end n pack e) ≡ received_as (receive tag chunk e).allows_next (named_end n pack (receive tag chunk e).end)

@@ -1,11 +1,13 @@
 -- Tags are told apart as before: which packets are taken, and what becomes of a cookie that comes back.
-use Rattle.std.proofs.Common.{◌≡◌, ℕ, zero, suc, ◌==◌, ◌||◌, not, Bool, true, false, Option, Some, None, is_some, List, [], ◌∷◌, refl, sym, ap, ◌∙◌}
+use Rattle.std.proofs.Common.{◌≡◌, ℕ, zero, suc, ◌==◌, ◌||◌, not, Bool, true, false, Option, Some, None, is_some, List, [], ◌∷◌, refl, sym, ap, ◌∙◌, ◌&&◌, Result, Ok, Err}
 use Rattle.sctp_packet.specs.Chunk.{ChunkTree, data_chunk, init_chunk, init_ack_chunk, sack_chunk, heartbeat_request_chunk, heartbeat_ack_chunk, abort_chunk, shutdown_chunk, shutdown_ack_chunk, error_chunk, cookie_echo_chunk, cookie_ack_chunk, shutdown_complete_chunk, idata_chunk, re_config_chunk, forward_tsn_chunk, i_forward_tsn_chunk, unknown_chunk}
-use Rattle.sctp_capabilities.specs.StateCookie.{Cookie}
+use Rattle.sctp_capabilities.specs.StateCookie.{Cookie, read_cookie}
 use Rattle.spec_endpoint.specs.Association.{Identity, Tcb, Phase, CookieEchoed, Established, ShutdownPending, ShutdownSent, ShutdownReceived, ShutdownAckSent, State, Closed, CookieWait, Open}
 use Rattle.spec_endpoint.specs.Sending.{is_before_cookie_ack}
 use Rattle.spec_endpoint.specs.Input.{my_tag, has_tag_in, abort_flag, complete_flag, has_shutdown_ack, has_data_chunk, begins_with_cookie, is_single_init, is_early, unless, plain_refusal, has_more_counted, unless_many, packet_refusal_by, packet_refusal}
-use Rattle.spec_endpoint.specs.Opening.{by_tags, new_if, resolve_by_tags, resolve_cookie}
+use Rattle.spec_endpoint.specs.Opening.{by_tags, new_if, resolve_by_tags, resolve_cookie, new_unless, may_restart, is_taken, is_taken_in, goes_on_behind, CookieResolution, EstablishNew, RestartDetected, SimultaneousInit, MaintainExisting, Discard, InvalidTag}
+use Rattle.sctp_capabilities.specs.declared.state_cookie.StateCookieError.{StateCookieError}
+use Rattle.proof_draws.specs.NamedCalls.{read_under}
 use Rattle.proof_draws.specs.NamedChunks.{Names, AreNames, named_chunks}
 use Rattle.proof_draws.specs.Names.{named_identity, named_phase, named_state, named_cookie}
 use Rattle.proof_draws.specs.Laws.{TiesTell}
@@ -263,8 +265,44 @@ module _ (n : Names) (are : AreNames n) where
   compared_named tag i k (TiesTell.under_own own) = by_own_tag tag i k own
   compared_named tag i k (TiesTell.apart same none) = by_ties tag i k same none
 
-  pub judged_named : (tag : ℕ) (k : Cookie) (s : State) → ((phase : Phase) (t : Tcb) → s ≡ Open phase t → TiesTell n tag t.identity k)
-      → resolve_cookie (n.tag tag) (named_cookie n k) (named_state n s) ≡ resolve_cookie tag k s
-  judged_named tag k Closed ties = ap (λ (b : Bool). new_if b) (are.apart tag k.my_tag)
-  judged_named tag k (CookieWait my first t1) ties = ap (λ (b : Bool). new_if b) (are.apart tag k.my_tag)
-  judged_named tag k (Open phase t) ties = compared_named tag t.identity k (ties phase t refl)
+  pub judged_named : (avoids_stalls : Bool) (tag : ℕ) (k : Cookie) (s : State) → ((phase : Phase) (t : Tcb) → s ≡ Open phase t → TiesTell n tag t.identity k)
+      → resolve_cookie avoids_stalls (n.tag tag) (named_cookie n k) (named_state n s) ≡ resolve_cookie avoids_stalls tag k s
+  judged_named avoids_stalls tag k Closed ties = ap (λ (b : Bool). new_if b) (are.apart tag k.my_tag)
+  judged_named avoids_stalls tag k (CookieWait my first t1) ties =
+      ap (λ (b : Bool). new_unless (avoids_stalls && not b) (n.tag tag == n.tag k.my_tag)) (are.apart k.my_tag my)
+      ∙ ap (λ (b : Bool). new_unless (avoids_stalls && not (k.my_tag == my)) b) (are.apart tag k.my_tag)
+  judged_named avoids_stalls tag k (Open phase t) ties = compared_named tag t.identity k (ties phase t refl)
+
+  -- ---- what lies behind it
+
+  may_restart_named : (s : State) → may_restart (named_state n s) ≡ may_restart s
+  may_restart_named Closed = refl
+  may_restart_named (CookieWait my first t1) = refl
+  may_restart_named (Open (CookieEchoed t1 cookie) t) = refl
+  may_restart_named (Open Established t) = refl
+  may_restart_named (Open ShutdownPending t) = refl
+  may_restart_named (Open (ShutdownSent t2) t) = refl
+  may_restart_named (Open ShutdownReceived t) = refl
+  may_restart_named (Open (ShutdownAckSent t2) t) = refl
+
+  taken_named : (v : CookieResolution) (s : State) → is_taken v (named_state n s) ≡ is_taken v s
+  taken_named EstablishNew s = refl
+  taken_named RestartDetected s = may_restart_named s
+  taken_named SimultaneousInit s = refl
+  taken_named MaintainExisting s = refl
+  taken_named Discard s = refl
+  taken_named InvalidTag s = refl
+
+  taken_in_named : (tag : ℕ) (r : Result Cookie StateCookieError) (s : State)
+      → ((k : Cookie) → r ≡ Ok k → (phase : Phase) (t : Tcb) → s ≡ Open phase t → TiesTell n tag t.identity k)
+      → is_taken_in (n.tag tag) (read_under n r) (named_state n s) ≡ is_taken_in tag r s
+  taken_in_named tag (Ok k) s ties =
+      ap (λ (v : CookieResolution). is_taken v (named_state n s)) (judged_named true tag k s (ties k refl)) ∙ taken_named (resolve_cookie true tag k s) s
+  taken_in_named tag (Err fault) s ties = refl
+
+  pub behind_named : (avoids_stalls : Bool) (tag : ℕ) (cookie : List ℕ) (s : State) → read_cookie (n.cookie cookie) ≡ read_under n (read_cookie cookie)
+      → ((k : Cookie) → read_cookie cookie ≡ Ok k → (phase : Phase) (t : Tcb) → s ≡ Open phase t → TiesTell n tag t.identity k)
+      → goes_on_behind avoids_stalls (n.tag tag) (n.cookie cookie) (named_state n s) ≡ goes_on_behind avoids_stalls tag cookie s
+  behind_named true tag cookie s reads ties =
+      ap (λ (r : Result Cookie StateCookieError). is_taken_in (n.tag tag) r (named_state n s)) reads ∙ taken_in_named tag (read_cookie cookie) s ties
+  behind_named false tag cookie s reads ties = refl

@@ -17,7 +17,7 @@ use Rattle.proof_draws.specs.Names.{named_state, named_endpoint_state, with_rand
 use Rattle.proof_draws.specs.Laws.{TiesTell, NumbersFitIn, is_flowing}
 use Rattle.proof_draws.specs.NamedCalls.{is_new, CookieIsNamed, AreNamed, IsNamed, named_received}
 use Rattle.proof_draws.proofs.WritingLemmas.{Knows}
-use Rattle.proof_draws.proofs.TagLemmas.{data_named, refused_named}
+use Rattle.proof_draws.proofs.TagLemmas.{data_named, refused_named, behind_named}
 use Rattle.proof_draws.proofs.ClosingLemmas.{where_named, ended_named}
 use Rattle.proof_draws.proofs.NumberLemmas.{repeats_if_fits, cookie_echo_fits}
 use Rattle.proof_draws.proofs.ReceiveLemmas.{all_stay, repeats_if_stays, violation_named, all_named, repeats_if_named}
@@ -53,7 +53,7 @@ module _ {P : Type 0} (v : Stream) where
   received_quiet : (o : Option (List ℕ)) (tag : ℕ) (chunk : ChunkTree) (e : Endpoint P) → is_flowing chunk ≡ true
       → received_if o tag chunk (worded v e) ≡ received_as (received_if o tag chunk e).allows_next (worded v (received_if o tag chunk e).end)
   received_quiet (Some reason) tag chunk e h = refl
-  received_quiet None tag chunk e h = ap (λ (x : Endpoint P). received_as (allows_next chunk) x) (chunk_quiet tag chunk e h)
+  received_quiet None tag chunk e h = ap (λ (x : Endpoint P). received_as (allows_next e.endpoint_state.context.options.avoid_stalls tag e.endpoint_state.state chunk) x) (chunk_quiet tag chunk e h)
 
   rest_quiet : (rest : Endpoint P → Endpoint P) (b : Bool) (e : Endpoint P) → rest (worded v e) ≡ worded v (rest e)
       → receive_rest rest (received_as b (worded v e)) ≡ worded v (receive_rest rest (received_as b e))
@@ -72,11 +72,10 @@ module _ {P : Type 0} (v : Stream) where
 
 module _ {P : Type 0} where
   -- one that nothing forbids
-  first_received : (tag : ℕ) (c : ChunkTree) (cs : List ChunkTree) (e : Endpoint P) → violation e.endpoint_state.state c ≡ None → allows_next c ≡ true
-      → receive_all tag (c ∷ cs) e ≡ receive_all tag cs (on_chunk tag c e)
-  first_received tag c cs e allowed on =
-      ap (λ (o : Option (List ℕ)). receive_rest (receive_all tag cs) (received_if o tag c e)) allowed
-      ∙ ap (λ (b : Bool). receive_rest (receive_all tag cs) (received_as b (on_chunk tag c e))) on
+  first_received : (tag : ℕ) (c : ChunkTree) (cs : List ChunkTree) (e : Endpoint P) → violation e.endpoint_state.state c ≡ None
+      → receive_all tag (c ∷ cs) e
+      ≡ receive_rest (receive_all tag cs) (received_as (allows_next e.endpoint_state.context.options.avoid_stalls tag e.endpoint_state.state c) (on_chunk tag c e))
+  first_received tag c cs e allowed = ap (λ (o : Option (List ℕ)). receive_rest (receive_all tag cs) (received_if o tag c e)) allowed
 
 init_allowed : (st : State) (i : InitTree) → violation st (init_chunk i) ≡ None
 init_allowed Closed i = refl
@@ -119,7 +118,7 @@ module _ {P : Type 0} where
   repeats_block true (Open ShutdownReceived t) c = λ phase u e. (phase, e)
   repeats_block true (Open (ShutdownAckSent t2) t) c = λ phase u e. (phase, e)
 
-  repeats_judged : (b : Bool) (tag : ℕ) (k : Cookie) (st : State) (c : Context P) → resolve_cookie tag k (repeats_if b (endpoint_state_in st c)).state ≡ resolve_cookie tag k st
+  repeats_judged : (b : Bool) (tag : ℕ) (k : Cookie) (st : State) (c : Context P) → resolve_cookie false tag k (repeats_if b (endpoint_state_in st c)).state ≡ resolve_cookie false tag k st
   repeats_judged false tag k st c = refl
   repeats_judged true tag k Closed c = refl
   repeats_judged true tag k (CookieWait mine first t1) c = refl
@@ -178,24 +177,37 @@ module _ {P : Type 0} (n : Names) (are : AreNames n) (pack : Packing P) where
     knows = all_stay tag cs (with_random w s) h ∙ k;
   }
 
+  -- where both go on, or neither
+  rest_alike : (b : Bool) (tag : ℕ) (cs : List ChunkTree) (x y : Endpoint P) → list_all is_flowing cs ≡ true → FitsFor cs x.endpoint_state.state → Knows n pack x.endpoint_state.context
+      → y.endpoint_state ≡ named_endpoint_state n pack x.endpoint_state
+      → ((receive_rest (receive_all (n.tag tag) (named_chunks (flip n) cs)) (received_as b y)).endpoint_state
+      ≡ named_endpoint_state n pack (receive_rest (receive_all tag cs) (received_as b x)).endpoint_state)
+      × Knows n pack (receive_rest (receive_all tag cs) (received_as b x)).endpoint_state.context
+  rest_alike true tag cs x y h f k alike = (flow_alike tag cs x y h f k alike, all_stay tag cs x h ∙ k)
+  rest_alike false tag cs x y h f k alike = (alike, k)
+
   -- behind a first chunk that both take alike
   first_alike : (tag : ℕ) (c : ChunkTree) (cs : List ChunkTree) (s : EndpointState P) (w v : Stream)
-      → violation s.state c ≡ None → allows_next c ≡ true → allows_next (named_chunk (flip n) c) ≡ true → list_all is_flowing cs ≡ true
+      → violation s.state c ≡ None
+      → allows_next s.context.options.avoid_stalls (n.tag tag) (named_state n s.state) (named_chunk (flip n) c) ≡ allows_next s.context.options.avoid_stalls tag s.state c
+      → list_all is_flowing cs ≡ true
       → FitsFor cs (on_chunk tag c (with_random w s)).endpoint_state.state → Knows n pack (on_chunk tag c (with_random w s)).endpoint_state.context
       → (on_chunk (n.tag tag) (named_chunk (flip n) c) (with_random v (named_endpoint_state n pack s))).endpoint_state ≡ named_endpoint_state n pack (on_chunk tag c (with_random w s)).endpoint_state
       → ReceivedAlike n pack tag (c ∷ cs) s w v
-  first_alike tag c cs s w v allowed on on_named h f k alike =
+  first_alike tag c cs s w v allowed on h f k alike =
       let x : Endpoint P = on_chunk tag c (with_random w s) in
       let d : ChunkTree = named_chunk (flip n) c in
       let r : EndpointState P = named_endpoint_state n pack s in
       let y : Endpoint P = on_chunk (n.tag tag) d (with_random v r) in
-      let here : receive_all tag (c ∷ cs) (with_random w s) ≡ receive_all tag cs x = first_received tag c cs (with_random w s) allowed on in
-      let there : receive_all (n.tag tag) (named_chunks (flip n) (c ∷ cs)) (with_random v r) ≡ receive_all (n.tag tag) (named_chunks (flip n) cs) y =
-      first_received (n.tag tag) d (named_chunks (flip n) cs) (with_random v r) (violation_named n (flip n) s.state c ∙ allowed) on_named in
+      let b : Bool = allows_next s.context.options.avoid_stalls tag s.state c in
+      let here : receive_all tag (c ∷ cs) (with_random w s) ≡ receive_rest (receive_all tag cs) (received_as b x) = first_received tag c cs (with_random w s) allowed in
+      let there : receive_all (n.tag tag) (named_chunks (flip n) (c ∷ cs)) (with_random v r) ≡ receive_rest (receive_all (n.tag tag) (named_chunks (flip n) cs)) (received_as b y) =
+      first_received (n.tag tag) d (named_chunks (flip n) cs) (with_random v r) (violation_named n (flip n) s.state c ∙ allowed)
+      ∙ ap (λ (a : Bool). receive_rest (receive_all (n.tag tag) (named_chunks (flip n) cs)) (received_as a y)) on in
+      let rest = rest_alike b tag cs x y h f k alike in
       record {
-        alike = ap (λ (e : Endpoint P). e.endpoint_state) there
-            ∙ (flow_alike tag cs x y h f k alike ∙ sym (ap (λ (e : Endpoint P). named_endpoint_state n pack e.endpoint_state) here));
-        knows = ap (λ (e : Endpoint P). e.endpoint_state.context.pack) here ∙ (all_stay tag cs x h ∙ k);
+        alike = ap (λ (e : Endpoint P). e.endpoint_state) there ∙ (rest.0 ∙ sym (ap (λ (e : Endpoint P). named_endpoint_state n pack e.endpoint_state) here));
+        knows = ap (λ (e : Endpoint P). e.endpoint_state.context.pack) here ∙ rest.1;
       }
 
   -- the beginning and the end of a packet
@@ -225,21 +237,22 @@ module _ {P : Type 0} (n : Names) (are : AreNames n) (pack : Packing P) where
   taken_as tag cs s w v (AreNamed.init i e is) f k =
       subst (λ (ds : List ChunkTree). HandledAlike n pack tag ds s w v) (sym e)
       (handled_alike tag (init_chunk i ∷ []) s w v
-      (first_alike tag (init_chunk i) [] s w v (init_allowed s.state i) refl refl refl tt ((steps_init i (with_random w s)).pack ∙ k) (init_named n are pack i s w v is k)) k)
+      (first_alike tag (init_chunk i) [] s w v (init_allowed s.state i) refl refl tt ((steps_init i (with_random w s)).pack ∙ k) (init_named n are pack i s w v is k)) k)
   taken_as tag cs s w v (AreNamed.init_ack i e is) f k =
       subst (λ (ds : List ChunkTree). HandledAlike n pack tag ds s w v) (sym e)
       (handled_alike tag (init_ack_chunk i ∷ []) s w v
-      (first_alike tag (init_ack_chunk i) [] s w v (init_ack_allowed s.state i) refl refl refl tt ((steps_init_ack i (with_random w s)).pack ∙ k) (init_ack_named n are pack i s w v is k)) k)
+      (first_alike tag (init_ack_chunk i) [] s w v (init_ack_allowed s.state i) refl refl tt ((steps_init_ack i (with_random w s)).pack ∙ k) (init_ack_named n are pack i s w v is k)) k)
   taken_as tag cs s w v (AreNamed.cookie_echo cookie rest e is h) f k =
       let b : Bool = has_data_chunk rest in
       let r : EndpointState P = repeats_if b s in
       let at : Knows n pack r.context = repeats_if_stays b s ∙ k in
+      let after = cookie_after b tag cookie s.state s.context w v is in
       subst (λ (ds : List ChunkTree). HandledAlike n pack tag ds s w v) (sym e)
       (handled_alike tag (cookie_echo_chunk cookie ∷ rest) s w v
-      (first_alike tag (cookie_echo_chunk cookie) rest r w v (cookie_echo_allowed r.state cookie) refl refl h
+      (first_alike tag (cookie_echo_chunk cookie) rest r w v (cookie_echo_allowed r.state cookie) (behind_named n are r.context.options.avoid_stalls tag cookie r.state after.reads after.ties) h
       (fits_for rest (on_chunk tag (cookie_echo_chunk cookie) (with_random w r)).endpoint_state.state (cookie_echo_fits tag cookie (with_random w r) is.first (repeats_if_fits b s f)))
       ((steps_cookie_echo tag cookie (with_random w r)).pack ∙ at)
-      (cookie_echo_named n are pack tag cookie r w v (cookie_after b tag cookie s.state s.context w v is) at)) k)
+      (cookie_echo_named n are pack tag cookie r w v after at)) k)
 
   pub packet_named : (p : PacketTree) (s : EndpointState P) (w v : Stream) → IsNamed n p s.state w v → Knows n pack s.context
       → (on_packet (named_received n p) (with_random v (named_endpoint_state n pack s))).endpoint_state ≡ named_endpoint_state n pack (on_packet p (with_random w s)).endpoint_state

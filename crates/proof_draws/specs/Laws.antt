@@ -16,7 +16,7 @@ use Rattle.spec_endpoint.specs.ResetRequests.{Request, Requests}
 use Rattle.spec_endpoint.specs.Sending.{after_sending, send_with}
 use Rattle.spec_endpoint.specs.Opening.{tsn_from, tag_from, connect, resolve_cookie, cookie_for, answer, anew, echo, maker, on_cookie_ack}
 use Rattle.spec_endpoint.specs.Calls.{send, send_many, take_message}
-use Rattle.spec_endpoint.specs.Shutdown.{close, shutdown, on_shutdown, on_shutdown_complete, on_abort}
+use Rattle.spec_endpoint.specs.Shutdown.{close, shutdown, on_shutdown, on_shutdown_complete, aborted}
 use Rattle.spec_endpoint.specs.Data.{on_data, on_forward}
 use Rattle.spec_endpoint.specs.Sack.{on_sack}
 use Rattle.spec_endpoint.specs.Input.{packet_refusal, on_packet_end, on_accepted_packet}
@@ -52,8 +52,8 @@ RefusalsAreNamed =
 
 abbrev pub ResolutionsAreNamed : Type 0
 ResolutionsAreNamed =
-    (n : Names) → AreNames n → (tag : ℕ) (k : Cookie) (s : State) → ((phase : Phase) (t : Tcb) → s ≡ Open phase t → TiesTell n tag t.identity k)
-    → resolve_cookie (n.tag tag) (named_cookie n k) (named_state n s) ≡ resolve_cookie tag k s
+    (n : Names) → AreNames n → (avoids_stalls : Bool) (tag : ℕ) (k : Cookie) (s : State) → ((phase : Phase) (t : Tcb) → s ≡ Open phase t → TiesTell n tag t.identity k)
+    → resolve_cookie avoids_stalls (n.tag tag) (named_cookie n k) (named_state n s) ≡ resolve_cookie avoids_stalls tag k s
 
 -- ---- numbers
 
@@ -123,7 +123,7 @@ pub record EndingsAreNamed : Type 0 where
   pub shutdown : RowIsNamed shutdown
   pub on_shutdown : RowIsNamed (where_open on_shutdown)
   pub on_shutdown_complete : RowIsNamed (where_open on_shutdown_complete)
-  pub on_abort : (causes : List CauseTree) → RowIsNamed (where_open (on_abort causes))
+  pub aborted : (causes : List CauseTree) → RowIsNamed (aborted causes)
   pub on_cookie_ack : RowIsNamed (where_open on_cookie_ack)
   pub packet_end : RowIsNamed (where_open on_packet_end)
 

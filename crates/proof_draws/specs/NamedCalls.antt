@@ -92,7 +92,7 @@ is_new InvalidTag = false
 pub record CookieIsNamed (n : Names) (tag : ℕ) (cookie : List ℕ) (s : State) (w v : Stream) : Type 0 where
   pub reads : read_cookie (n.cookie cookie) ≡ read_under n (read_cookie cookie)
   pub ties : (k : Cookie) → read_cookie cookie ≡ Ok k → (phase : Phase) (t : Tcb) → s ≡ Open phase t → TiesTell n tag t.identity k
-  pub draws : (k : Cookie) → read_cookie cookie ≡ Ok k → is_new (resolve_cookie tag k s) ≡ true → DrawsTie n w v
+  pub draws : (k : Cookie) → read_cookie cookie ≡ Ok k → is_new (resolve_cookie false tag k s) ≡ true → DrawsTie n w v
   pub first : (k : Cookie) → read_cookie cookie ≡ Ok k → k.my_initial_tsn < u32_space
 
 -- ---- packets

@@ -12,7 +12,7 @@ use Rattle.spec_endpoint.specs.Association.{Tcb, Phase, CookieEchoed, Establishe
 use Rattle.spec_endpoint.specs.Heartbeats.{info_in, clear_if_last, is_last_info, no_info, ack_by_length, on_heartbeat_info, on_heartbeat_ack}
 use Rattle.spec_endpoint.specs.Packets.{PacketDraft, add, new_packet}
 use Rattle.spec_endpoint.specs.Sending.{take_due_ack, without_duplicates, selective_ack, is_before_cookie_ack}
-use Rattle.spec_endpoint.specs.Shutdown.{abort_for_violation, on_abort, on_error, on_shutdown, on_shutdown_complete}
+use Rattle.spec_endpoint.specs.Shutdown.{abort_for_violation, on_error, on_shutdown, on_shutdown_complete}
 use Rattle.spec_endpoint.specs.Opening.{on_cookie_ack}
 use Rattle.spec_endpoint.specs.StreamReset.{on_reconfig}
 use Rattle.spec_endpoint.specs.Input.{packet_refusal, is_reported, unrecognized_chunk_error, report_unrecognized_in, emit_unknown_chunk_error, on_unknown_if, on_heartbeat, AfterChunk, in_endpoint_state, on_chunk, violation, received_if, receive, receive_rest, receive_all, has_data_chunk, repeats, repeats_if, ack_if_due, at_end, on_packet_end, on_accepted_packet, count_packet_at as counts_row, packet_if, on_packet, on_no_packet, packet_acked, shut_waiting, shut_if}
@@ -75,7 +75,7 @@ module _ {P : Type 0} {call : Call} {R : EndWithPacket P → EndWithPacket P →
   does_on_chunk tag (init_chunk i) s h right = does_init k tag i h s
   does_on_chunk tag (init_ack_chunk i) s h right = does_init_ack k tag i h s
   does_on_chunk tag (sack_chunk a) s h right = does_sack k s.draws tag a s.endpoint_state h
-  does_on_chunk tag (abort_chunk reflected causes) s h right = does_where_open k s.draws (on_abort causes) s.endpoint_state (does_abort k s.draws causes)
+  does_on_chunk tag (abort_chunk reflected causes) s h right = does_abort k s.draws causes s.endpoint_state
   does_on_chunk tag (error_chunk causes) s h right = does_where_open k s.draws (on_error causes) s.endpoint_state (does_error k s.draws causes)
   does_on_chunk tag (cookie_echo_chunk cookie) s h right = does_cookie_echo k tag cookie s h
   does_on_chunk tag cookie_ack_chunk s h right = does_where_open k s.draws on_cookie_ack s.endpoint_state (does_cookie_ack k tag s.draws h)

@@ -10,7 +10,7 @@ use Rattle.spec_endpoint.specs.Association.{Tcb, Phase, CookieEchoed, Establishe
 use Rattle.spec_endpoint.specs.Heartbeats.{info_in, clear_if_last, is_last_info, no_info, ack_by_length, on_heartbeat_info, on_heartbeat_ack}
 use Rattle.spec_endpoint.specs.Packets.{add, new_packet, emit_chunk}
 use Rattle.spec_endpoint.specs.Sending.{AfterSending, take_due_ack, without_duplicates, selective_ack, is_before_cookie_ack, open_with}
-use Rattle.spec_endpoint.specs.Shutdown.{send_shutdown, abort_for_violation, on_abort, on_error, on_shutdown, on_shutdown_ack, on_shutdown_complete, PhaseStep, open_phase_step}
+use Rattle.spec_endpoint.specs.Shutdown.{send_shutdown, abort_for_violation, aborted, on_error, on_shutdown, on_shutdown_ack, on_shutdown_complete, PhaseStep, open_phase_step}
 use Rattle.spec_endpoint.specs.Data.{on_data, on_forward}
 use Rattle.spec_endpoint.specs.Sack.{on_sack}
 use Rattle.spec_endpoint.specs.Opening.{on_cookie_ack}
@@ -18,7 +18,7 @@ use Rattle.spec_endpoint.specs.StreamReset.{on_reconfig}
 use Rattle.spec_endpoint.specs.Input.{packet_refusal, is_reported, unrecognized_chunk_error, report_unrecognized_in, emit_unknown_chunk_error, on_unknown_if, on_unknown, on_heartbeat, AfterChunk, in_endpoint_state, on_chunk, allows_next, violation, received_if, receive, receive_rest, receive_all, has_data_chunk, repeats, repeats_if, ack_if_due, at_end, on_packet_end, on_accepted_packet, count_packet_at, packet_if, on_packet, on_no_packet, packet_acked, shut_waiting, shut_if}
 use Rattle.proof_endpoint.specs.Mapped.{Mapping, map_context, map_endpoint_state, map_end}
 use Rattle.proof_endpoint.proofs.SendingMapsLemmas.{maps_emit_error, maps_emit_chunk, maps_send_with}
-use Rattle.proof_endpoint.proofs.RowMapsLemmas.{OpenMaps, maps_where_open, maps_in_state, maps_send_shutdown, maps_on_shutdown, maps_shutdown_ack, maps_shutdown_complete, maps_abort_for_violation, maps_on_abort, maps_on_error, maps_data, maps_forward, maps_on_sack, maps_go_on}
+use Rattle.proof_endpoint.proofs.RowMapsLemmas.{OpenMaps, maps_where_open, maps_in_state, maps_send_shutdown, maps_on_shutdown, maps_shutdown_ack, maps_shutdown_complete, maps_abort_for_violation, maps_aborted, maps_on_error, maps_data, maps_forward, maps_on_sack, maps_go_on}
 use Rattle.proof_endpoint.proofs.ResetMapsLemmas.{maps_reconfig}
 use Rattle.proof_endpoint.proofs.OpeningMapsLemmas.{maps_stands, maps_init, maps_init_ack, maps_cookie_ack, maps_cookie_echo, maps_emit_parse_error}
 
@@ -88,7 +88,7 @@ module _ {P Q : Type 0} (f : Mapping P Q) where
   maps_chunk tag (init_chunk i) s = maps_init f i s
   maps_chunk tag (init_ack_chunk i) s = maps_init_ack f i s
   maps_chunk tag (sack_chunk k) s = maps_on_endpoint_state (on_sack k) (on_sack k) s (maps_on_sack f k s.endpoint_state)
-  maps_chunk tag (abort_chunk reflected causes) s = maps_on_open (on_abort causes) (on_abort causes) s (maps_on_abort f causes)
+  maps_chunk tag (abort_chunk reflected causes) s = maps_on_endpoint_state (aborted causes) (aborted causes) s (maps_aborted f causes s.endpoint_state)
   maps_chunk tag (error_chunk causes) s = maps_on_open (on_error causes) (on_error causes) s (maps_on_error f causes)
   maps_chunk tag (cookie_echo_chunk cookie) s = maps_cookie_echo f tag cookie s
   maps_chunk tag cookie_ack_chunk s = maps_on_open on_cookie_ack on_cookie_ack s (maps_cookie_ack f)
@@ -107,7 +107,8 @@ module _ {P Q : Type 0} (f : Mapping P Q) where
   maps_received_if (Some reason) tag chunk s =
       ap (λ (e : Endpoint Q). received_as false e)
       (maps_on_open (λ phase t c. abort_for_violation reason t c) (λ phase t c. abort_for_violation reason t c) s (λ phase t c. maps_abort_for_violation f reason t c))
-  maps_received_if None tag chunk s = ap (λ (e : Endpoint Q). received_as (allows_next chunk) e) (maps_chunk tag chunk s)
+  maps_received_if None tag chunk s =
+      ap (λ (e : Endpoint Q). received_as (allows_next s.endpoint_state.context.options.avoid_stalls tag s.endpoint_state.state chunk) e) (maps_chunk tag chunk s)
 
   maps_receive : (tag : ℕ) (chunk : ChunkTree) (s : Endpoint P) → receive tag chunk (map_end f s) ≡ map_received f (receive tag chunk s)
   maps_receive tag chunk s = maps_received_if (violation s.endpoint_state.state chunk) tag chunk s

@@ -10,7 +10,7 @@ use Rattle.spec_endpoint.specs.Association.{Tcb, Phase, CookieEchoed, Establishe
 use Rattle.spec_endpoint.specs.Heartbeats.{info_in, clear_if_last, is_last_info, no_info, ack_by_length, on_heartbeat_info, on_heartbeat_ack}
 use Rattle.spec_endpoint.specs.Packets.{PacketDraft, add, new_packet}
 use Rattle.spec_endpoint.specs.Sending.{take_due_ack, without_duplicates, selective_ack, is_before_cookie_ack}
-use Rattle.spec_endpoint.specs.Shutdown.{abort_for_violation, on_abort, on_error, on_shutdown, on_shutdown_complete}
+use Rattle.spec_endpoint.specs.Shutdown.{abort_for_violation, on_error, on_shutdown, on_shutdown_complete}
 use Rattle.spec_endpoint.specs.Opening.{on_cookie_ack}
 use Rattle.spec_endpoint.specs.StreamReset.{on_reconfig}
 use Rattle.spec_endpoint.specs.Input.{packet_refusal, is_reported, unrecognized_chunk_error, report_unrecognized_in, emit_unknown_chunk_error, on_unknown_if, on_unknown, on_heartbeat, AfterChunk, in_endpoint_state, on_chunk, violation, received_if, receive, receive_rest, receive_all, has_data_chunk, repeats, repeats_if, ack_if_due, at_end, on_packet_end, on_accepted_packet, count_packet, count_packet_at, packet_if, on_packet, on_no_packet, packet_acked, shut_waiting, shut_if}
@@ -18,7 +18,7 @@ use Rattle.spec_endpoint.specs.Laws.{ends, endings_after, endings_by, endings_un
 use Rattle.proof_endpoint.proofs.StepsLemmas.{most_bytes, Goes, Steps, EndSteps}
 use Rattle.proof_endpoint.proofs.GoesLemmas.{small_add, small_new, goes_silent, goes_same, goes_through, goes_then, goes_last, goes_emit_error, goes_emit_chunk}
 use Rattle.proof_endpoint.proofs.SendingStepsLemmas.{goes_send_with}
-use Rattle.proof_endpoint.proofs.RowStepsLemmas.{OpenSteps, steps_context, steps_same, steps_where_open, goes_send_shutdown, steps_abort_for_violation, steps_abort, steps_error, steps_data, steps_forward, steps_sack, steps_shut_by_peer, steps_shutdown_ack, steps_shutdown_complete, goes_on}
+use Rattle.proof_endpoint.proofs.RowStepsLemmas.{OpenSteps, steps_context, steps_same, steps_where_open, goes_send_shutdown, steps_abort_for_violation, steps_aborted, steps_error, steps_data, steps_forward, steps_sack, steps_shut_by_peer, steps_shutdown_ack, steps_shutdown_complete, goes_on}
 use Rattle.proof_endpoint.proofs.ResetStepsLemmas.{steps_reconfig}
 use Rattle.proof_endpoint.proofs.OpeningStepsLemmas.{steps_init, steps_init_ack, steps_cookie_ack, steps_emit_parse_error, steps_cookie_echo}
 
@@ -71,7 +71,7 @@ module _ {P : Type 0} where
   steps_chunk tag (init_chunk i) s = steps_init i s
   steps_chunk tag (init_ack_chunk i) s = steps_init_ack i s
   steps_chunk tag (sack_chunk k) s = steps_sack k s.endpoint_state
-  steps_chunk tag (abort_chunk reflected causes) s = steps_where_open (on_abort causes) s.endpoint_state (steps_abort causes)
+  steps_chunk tag (abort_chunk reflected causes) s = steps_aborted causes s.endpoint_state
   steps_chunk tag (error_chunk causes) s = steps_where_open (on_error causes) s.endpoint_state (steps_error causes)
   steps_chunk tag (cookie_echo_chunk cookie) s = steps_cookie_echo tag cookie s
   steps_chunk tag cookie_ack_chunk s = steps_where_open on_cookie_ack s.endpoint_state steps_cookie_ack

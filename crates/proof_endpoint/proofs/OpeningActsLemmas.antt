@@ -1,5 +1,5 @@
 -- The walk over the rows: the handshake.
-use Rattle.std.proofs.Common.{◌≡◌, ℕ, ◌<◌, ◌^◌, subst, arith, ◌==◌, not, Bool, true, false, Option, Some, None, Result, Ok, Err, List, [], ◌∷◌, codes, refl}
+use Rattle.std.proofs.Common.{◌≡◌, ℕ, ◌<◌, ◌^◌, subst, arith, ◌==◌, not, Bool, true, false, Option, Some, None, Result, Ok, Err, List, [], ◌∷◌, codes, refl, ◌&&◌}
 use Rattle.rand_core.specs.Stream.{Stream}
 use Rattle.sctp_wire.specs.Cause.{missing_mandatory_parameter, cookie_received_while_shutting_down}
 use Rattle.sctp_packet.specs.Chunk.{ChunkTree, InitTree, init_chunk, init_ack_chunk, abort_chunk, error_chunk, cookie_echo_chunk, cookie_ack_chunk, shutdown_ack_chunk}
@@ -13,7 +13,7 @@ use Rattle.sctp_state.specs.Events.{OnConnectionRestarted, OnAborted}
 use Rattle.spec_endpoint.specs.Association.{Tcb, tcb, Phase, CookieEchoed, Established, ShutdownPending, ShutdownSent, ShutdownReceived, ShutdownAckSent, State, Closed, CookieWait, Open, Context, Endpoint}
 use Rattle.spec_endpoint.specs.Packets.{PacketDraft, fits, add, packet_to, new_packet, round_down_to_4, emit_event_in, emit}
 use Rattle.spec_endpoint.specs.Sending.{is_before_cookie_ack}
-use Rattle.spec_endpoint.specs.Opening.{long_word, init_of, init_ack_of, next_first, send_init, t1_init, connect_in, connect, agreed_by, answers, answers_new, answers_again, on_init_open, on_init_in, on_init, cookie_in, without_cookie, t1_cookie, identity_of_init_ack, echo_or_abort, on_init_ack_in, on_init_ack, enter_connected, on_cookie_ack, CookieResolution, EstablishNew, RestartDetected, SimultaneousInit, MaintainExisting, Discard, InvalidTag, by_tags, new_if, resolve_by_tags, resolve_cookie, cookie_ack, tcb_by, establishes as establishes_by, maintain_existing, too_late, restarts as restarts_by, restarts_in, on_resolution, on_read_cookie, on_cookie_echo}
+use Rattle.spec_endpoint.specs.Opening.{long_word, init_of, init_ack_of, next_first, send_init, t1_init, connect_in, connect, agreed_by, answers, answers_new, answers_again, on_init_open, on_init_in, on_init, cookie_in, without_cookie, t1_cookie, identity_of_init_ack, echo_or_abort, on_init_ack_in, on_init_ack, enter_connected, on_cookie_ack, CookieResolution, EstablishNew, RestartDetected, SimultaneousInit, MaintainExisting, Discard, InvalidTag, by_tags, new_if, new_unless, resolve_by_tags, resolve_cookie, cookie_ack, tcb_by, establishes as establishes_by, maintain_existing, too_late, restarts as restarts_by, restarts_in, on_resolution, on_read_cookie, on_cookie_echo}
 use Rattle.spec_endpoint.specs.Laws.{Call, Connect}
 use Rattle.proof_endpoint.proofs.ReceivedLemmas.{FitsCookie, FitsRead, read_fits}
 use Rattle.proof_endpoint.proofs.OwnChunksLemmas.{fair_shutdown_ack, fair_too_late, fair_missing}
@@ -263,13 +263,19 @@ module _ {P : Type 0} {call : Call} {R : EndWithPacket P → EndWithPacket P →
     does_new_if true s is may = does_anew s.endpoint_state.context.options.avoid_stalls s.endpoint_state.context s (calm s) (may refl)
     does_new_if false s is may = does_invalid s
 
-    does_judged : (st : State) (s : Endpoint P) → R (calm (end_in st s)) (calm (on_resolution (resolve_cookie tag a st) a (end_in st s)))
+    does_unless : (late b : Bool) (s : Endpoint P) → (tag == a.my_tag) ≡ b → ((b ≡ true) → R (calm s) (opened_by s.endpoint_state.context.options.avoid_stalls a (calm s)))
+        → R (calm s) (calm (on_resolution (new_unless late b) a s))
+    does_unless true b s is may = k.same (calm s)
+    does_unless false b s is may = does_new_if b s is may
+
+    does_judged : (st : State) (s : Endpoint P)
+        → R (calm (end_in st s)) (calm (on_resolution (resolve_cookie s.endpoint_state.context.options.avoid_stalls tag a st) a (end_in st s)))
     does_judged Closed s =
         let e : Endpoint P = end_in Closed s in
         does_new_if (tag == a.my_tag) e refl (λ own. k.opening (opens tag a (calm e) h refl own))
     does_judged (CookieWait my_tag first t1) s =
         let e : Endpoint P = end_in (CookieWait my_tag first t1) s in
-        does_new_if (tag == a.my_tag) e refl (λ own. k.opening (opens tag a (calm e) h refl own))
+        does_unless (s.endpoint_state.context.options.avoid_stalls && not (a.my_tag == my_tag)) (tag == a.my_tag) e refl (λ own. k.opening (opens tag a (calm e) h refl own))
     does_judged (Open phase t) s = does_verdict_open (resolve_by_tags tag t.identity a) phase t s refl
 
   does_read_cookie : (tag : ℕ) (cookie : List ℕ) (r : Result Cookie StateCookieError) (s : Endpoint P) → BringsChunk call tag (cookie_echo_chunk cookie)

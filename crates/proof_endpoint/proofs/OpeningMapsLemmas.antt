@@ -221,7 +221,7 @@ module _ {P Q : Type 0} (f : Mapping P Q) where
   maps_verdict InvalidTag k s = maps_emit_parse_error (codes "Received CookieEcho with invalid verification tag") s
 
   maps_read_cookie : (tag : ℕ) (r : Result Cookie StateCookieError) (s : Endpoint P) → on_read_cookie tag r (map_end f s) ≡ map_end f (on_read_cookie tag r s)
-  maps_read_cookie tag (Ok k) s = maps_verdict (resolve_cookie tag k s.endpoint_state.state) k s
+  maps_read_cookie tag (Ok k) s = maps_verdict (resolve_cookie s.endpoint_state.context.options.avoid_stalls tag k s.endpoint_state.state) k s
   maps_read_cookie tag (Err fault) s = maps_emit_parse_error (refusal_text fault) s
 
   pub maps_cookie_echo : (tag : ℕ) (cookie : List ℕ) (s : Endpoint P) → on_cookie_echo tag cookie (map_end f s) ≡ map_end f (on_cookie_echo tag cookie s)

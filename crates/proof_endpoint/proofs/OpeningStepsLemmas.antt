@@ -202,7 +202,7 @@ module _ {P : Type 0} where
   steps_verdict InvalidTag k s = steps_emit_parse_error (codes "Received CookieEcho with invalid verification tag") s
 
   steps_read_cookie : (tag : ℕ) (r : Result Cookie StateCookieError) (s : Endpoint P) → EndSteps s (on_read_cookie tag r s)
-  steps_read_cookie tag (Ok k) s = steps_verdict (resolve_cookie tag k s.endpoint_state.state) k s
+  steps_read_cookie tag (Ok k) s = steps_verdict (resolve_cookie s.endpoint_state.context.options.avoid_stalls tag k s.endpoint_state.state) k s
   steps_read_cookie tag (Err fault) s = steps_emit_parse_error (refusal_text fault) s
 
   pub steps_cookie_echo : (tag : ℕ) (cookie : List ℕ) (s : Endpoint P) → EndSteps s (on_cookie_echo tag cookie s)

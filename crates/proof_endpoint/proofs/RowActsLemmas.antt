@@ -14,10 +14,11 @@ use Rattle.sctp_tx_outstanding.specs.Sack.{is_valid}
 use Rattle.sctp_rx.specs.DataTracker as tracker
 use Rattle.sctp_rx.specs.ReassemblyQueue.{admits_fragment, admits_point}
 use Rattle.sctp_tx.specs.RetransmissionQueue.{SackAnswer, Invalid, Valid, sender_if, emitted_if, answer_if}
+use Rattle.sctp_state.specs.Timer.{Timer}
 use Rattle.spec_endpoint.specs.Association.{Tcb, Phase, CookieEchoed, Established, ShutdownPending, ShutdownSent, ShutdownReceived, ShutdownAckSent, State, Closed, CookieWait, Open, Context, EndpointState, where_open}
 use Rattle.spec_endpoint.specs.Packets.{PacketDraft, packet_to, emit_chunk}
 use Rattle.spec_endpoint.specs.Sending.{AfterSending, is_before_cookie_ack, send_lost}
-use Rattle.spec_endpoint.specs.Shutdown.{t2_shutdown, close_with, send_shutdown, send_shutdown_ack, PhaseStep, is_quiet, pending_next, received_next, maybe_send_shutdown_or_ack, shutdown_in_phase, shutdown_in, shutdown, shut_by_peer, on_shutdown, complete_shutdown, out_of_the_blue, on_shutdown_ack_open, on_shutdown_ack_in, on_shutdown_ack, on_shutdown_complete, abort, close_in, close, too_many, abort_for_violation, causes_text, on_abort, on_error}
+use Rattle.spec_endpoint.specs.Shutdown.{t2_shutdown, close_with, send_shutdown, send_shutdown_ack, PhaseStep, is_quiet, pending_next, received_next, maybe_send_shutdown_or_ack, shutdown_in_phase, shutdown_in, shutdown, shut_by_peer, on_shutdown, complete_shutdown, out_of_the_blue, on_shutdown_ack_open, on_shutdown_ack_in, on_shutdown_ack, on_shutdown_complete, abort, close_in, close, too_many, abort_for_violation, causes_text, refused_if, aborted_in, aborted, on_error}
 use Rattle.spec_endpoint.specs.Data.{no_data, on_no_data, not_connected, has_room, accepts_tsn, accepts_fragment, told_of_drop, take_fragment, fragment_if, on_data_in, on_data_if, on_data, accepts_point, handle_forward_tsn, handle_forward_tsn_if, handle_forward_tsn_in, on_forward}
 use Rattle.spec_endpoint.specs.Sack.{clean_blocks, is_late, sampled_unless, sample_rtt, clear_errors_if, send_after, after_sack, no_block, on_sack_in, on_sack}
 use Rattle.spec_endpoint.specs.Input.{misuse, violation}
@@ -175,8 +176,18 @@ module _ {P : Type 0} {call : Call} {R : EndWithPacket P → EndWithPacket P →
   does_abort_for_violation reason text phase t c =
       does_aborted (protocol_violation reason) (OnAborted ProtocolViolation reason) phase t c refl (record { fits = tt; text = text; of_its_variant = tt })
 
-  pub does_abort : (causes : List CauseTree) → OpenActs R w (on_abort causes)
-  does_abort causes phase t c = does_closed (OnAborted PeerReported (causes_text causes)) (Open phase t) c refl refl
+  does_refused : (b : Bool) (causes : List CauseTree) (tag first : ℕ) (t1 : Timer) (c : Context P)
+      → R (idle (CookieWait tag first t1) c w) (placed (refused_if b causes (CookieWait tag first t1) c) w)
+  does_refused true causes tag first t1 c = does_closed (OnAborted PeerReported (causes_text causes)) (CookieWait tag first t1) c refl refl
+  does_refused false causes tag first t1 c = k.same (idle (CookieWait tag first t1) c w)
+
+  does_aborted_in : (causes : List CauseTree) (s : State) (c : Context P) → R (idle s c w) (placed (aborted_in causes s c) w)
+  does_aborted_in causes Closed c = k.same (idle Closed c w)
+  does_aborted_in causes (CookieWait tag first t1) c = does_refused c.options.avoid_stalls causes tag first t1 c
+  does_aborted_in causes (Open phase t) c = does_closed (OnAborted PeerReported (causes_text causes)) (Open phase t) c refl refl
+
+  pub does_abort : (causes : List CauseTree) (s : EndpointState P) → R (placed s w) (placed (aborted causes s) w)
+  does_abort causes s = does_aborted_in causes s.state s.context
 
   pub does_error : (causes : List CauseTree) → OpenActs R w (on_error causes)
   does_error causes phase t c = does_emit_error k PeerReported (causes_text causes) (Open phase t) c w

@@ -15,7 +15,7 @@ use Rattle.spec_endpoint.specs.Association.{Tcb, Phase, CookieEchoed, Establishe
 use Rattle.spec_endpoint.specs.Heartbeats.{stop_heartbeats}
 use Rattle.spec_endpoint.specs.Packets.{add, packet_to, emit_error, emit_chunk}
 use Rattle.spec_endpoint.specs.Sending.{AfterSending, is_before_cookie_ack, open_with, send_buffered, send_lost}
-use Rattle.spec_endpoint.specs.Shutdown.{ended, errors_if, emptied_if, over, close_with, t2_shutdown, send_shutdown, send_shutdown_ack, PhaseStep, phase_step, pending_next, received_next, maybe_send_shutdown_or_ack, shutdown_in_phase, open_phase_step, shutdown_in, shutdown, shut_by_peer, on_shutdown, complete_shutdown, out_of_the_blue, on_shutdown_ack_open, on_shutdown_ack_in, on_shutdown_ack, on_shutdown_complete, abort, close_in, close, too_many, abort_for_violation, causes_text, on_abort, on_error, is_quiet}
+use Rattle.spec_endpoint.specs.Shutdown.{ended, errors_if, emptied_if, over, close_with, t2_shutdown, send_shutdown, send_shutdown_ack, PhaseStep, phase_step, pending_next, received_next, maybe_send_shutdown_or_ack, shutdown_in_phase, open_phase_step, shutdown_in, shutdown, shut_by_peer, on_shutdown, complete_shutdown, out_of_the_blue, on_shutdown_ack_open, on_shutdown_ack_in, on_shutdown_ack, on_shutdown_complete, abort, close_in, close, too_many, abort_for_violation, causes_text, on_abort, refused_if, aborted_in, aborted, on_error, is_quiet}
 use Rattle.spec_endpoint.specs.Data.{no_data, on_no_data, not_connected, on_data_in, on_data_if, on_data, on_forward}
 use Rattle.spec_endpoint.specs.Sack.{clean_blocks, sample_rtt, clear_errors_if, send_after, after_sack, on_clean_sack, no_block, on_sack_in, on_sack, is_late, sampled_unless}
 use Rattle.spec_endpoint.specs.Sack as acks
@@ -188,8 +188,20 @@ module _ {P Q : Type 0} (f : Mapping P Q) where
   pub maps_abort_for_violation : (reason : List ℕ) (t : Tcb) (c : Context P) → abort_for_violation reason t (map_context f c) ≡ map_endpoint_state f (abort_for_violation reason t c)
   maps_abort_for_violation reason t c = maps_abort (protocol_violation reason) (OnAborted ProtocolViolation reason) t c
 
-  pub maps_on_abort : (causes : List CauseTree) → OpenMaps f (on_abort causes) (on_abort causes)
+  maps_on_abort : (causes : List CauseTree) → OpenMaps f (on_abort causes) (on_abort causes)
   maps_on_abort causes phase t c = maps_closed (OnAborted PeerReported (causes_text causes)) c
+
+  maps_refused : (b : Bool) (causes : List CauseTree) (st : State) (c : Context P) → refused_if b causes st (map_context f c) ≡ map_endpoint_state f (refused_if b causes st c)
+  maps_refused true causes st c = maps_closed (OnAborted PeerReported (causes_text causes)) c
+  maps_refused false causes st c = refl
+
+  maps_aborted_in : (causes : List CauseTree) (st : State) (c : Context P) → aborted_in causes st (map_context f c) ≡ map_endpoint_state f (aborted_in causes st c)
+  maps_aborted_in causes Closed c = refl
+  maps_aborted_in causes (CookieWait tag first t1) c = maps_refused c.options.avoid_stalls causes (CookieWait tag first t1) c
+  maps_aborted_in causes (Open phase t) c = maps_on_abort causes phase t c
+
+  pub maps_aborted : (causes : List CauseTree) (s : EndpointState P) → aborted causes (map_endpoint_state f s) ≡ map_endpoint_state f (aborted causes s)
+  maps_aborted causes s = maps_aborted_in causes s.state s.context
 
   pub maps_on_error : (causes : List CauseTree) → OpenMaps f (on_error causes) (on_error causes)
   maps_on_error causes phase t c = maps_in_state (Open phase t) (emit_error PeerReported (causes_text causes) c) _ (maps_emit_error f PeerReported (causes_text causes) c)

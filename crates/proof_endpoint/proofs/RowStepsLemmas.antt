@@ -10,10 +10,11 @@ use Rattle.sctp_tx_outstanding.specs.OutstandingData.{number_of}
 use Rattle.sctp_tx_outstanding.specs.Sack.{is_valid}
 use Rattle.sctp_rx.specs.DataTracker as tracker
 use Rattle.sctp_tx.specs.RetransmissionQueue.{SackAnswer, Invalid, Valid, sender_if, emitted_if, answer_if}
+use Rattle.sctp_state.specs.Timer.{Timer}
 use Rattle.spec_endpoint.specs.Association.{Tcb, Phase, CookieEchoed, Established, ShutdownPending, ShutdownSent, ShutdownReceived, ShutdownAckSent, State, Closed, CookieWait, Open, Context, EndpointState, open_as, with_context, where_open}
 use Rattle.spec_endpoint.specs.Packets.{PacketDraft, add, packet_to, emit_chunk}
 use Rattle.spec_endpoint.specs.Sending.{is_before_cookie_ack, send_lost}
-use Rattle.spec_endpoint.specs.Shutdown.{ended, close_with, send_shutdown, send_shutdown_ack, PhaseStep, pending_next, received_next, maybe_send_shutdown_or_ack, shutdown_in_phase, shutdown_in, shutdown, on_shutdown, complete_shutdown, out_of_the_blue, on_shutdown_ack_open, on_shutdown_ack_in, on_shutdown_ack, on_shutdown_complete, abort, close_in, close, too_many, abort_for_violation, causes_text, on_abort, on_error, is_quiet}
+use Rattle.spec_endpoint.specs.Shutdown.{ended, close_with, send_shutdown, send_shutdown_ack, PhaseStep, pending_next, received_next, maybe_send_shutdown_or_ack, shutdown_in_phase, shutdown_in, shutdown, on_shutdown, complete_shutdown, out_of_the_blue, on_shutdown_ack_open, on_shutdown_ack_in, on_shutdown_ack, on_shutdown_complete, abort, close_in, close, too_many, abort_for_violation, causes_text, refused_if, aborted_in, aborted, on_error, is_quiet}
 use Rattle.spec_endpoint.specs.Data.{no_data, on_no_data, not_connected, on_data_in, on_data_if, on_data, handle_forward_tsn_in, on_forward}
 use Rattle.spec_endpoint.specs.Sack.{clean_blocks, sample_rtt, clear_errors_if, send_after, after_sack, on_clean_sack, no_block, on_sack_in, on_sack, is_late, sampled_unless}
 use Rattle.spec_endpoint.specs.Sack as acks
@@ -176,8 +177,17 @@ module _ {P : Type 0} where
   pub steps_abort_for_violation : (reason : List ℕ) → OpenSteps (λ phase t c. abort_for_violation {P = P} reason t c)
   steps_abort_for_violation reason phase t c = goes_aborted (protocol_violation reason) (OnAborted ProtocolViolation reason) t c (λ d. tt) refl
 
-  pub steps_abort : (causes : List CauseTree) → OpenSteps (on_abort {P = P} causes)
-  steps_abort causes phase t c = goes_closed (OnAborted PeerReported (causes_text causes)) c tt refl
+  steps_refused : (b : Bool) (causes : List CauseTree) (tag first : ℕ) (t1 : Timer) (c : Context P) → StepsFrom (CookieWait tag first t1) c (refused_if b causes (CookieWait tag first t1) c)
+  steps_refused true causes tag first t1 c = goes_closed (OnAborted PeerReported (causes_text causes)) c tt refl
+  steps_refused false causes tag first t1 c = goes_same c
+
+  steps_aborted_in : (causes : List CauseTree) (st : State) (c : Context P) → StepsFrom st c (aborted_in causes st c)
+  steps_aborted_in causes Closed c = goes_same c
+  steps_aborted_in causes (CookieWait tag first t1) c = steps_refused c.options.avoid_stalls causes tag first t1 c
+  steps_aborted_in causes (Open phase t) c = goes_closed (OnAborted PeerReported (causes_text causes)) c tt refl
+
+  pub steps_aborted : (causes : List CauseTree) (s : EndpointState P) → Steps s (aborted causes s)
+  steps_aborted causes s = steps_aborted_in causes s.state s.context
 
   pub steps_error : (causes : List CauseTree) → OpenSteps (on_error {P = P} causes)
   steps_error causes phase t c = goes_emit_error PeerReported (causes_text causes) c

@@ -1,5 +1,5 @@
 -- A cookie that comes back, over every trace: who made it, and what becomes of it.
-use Rattle.std.proofs.Common.{◌≡◌, ℕ, ◌==◌, not, Bool, true, false, Option, Some, None, Ok, List, [], ◌∷◌, ◌++◌, codes, inl, inr, refl, sym, ap, subst, ◌∙◌}
+use Rattle.std.proofs.Common.{◌≡◌, ℕ, ◌==◌, not, Bool, true, false, Option, Some, None, Ok, List, [], ◌∷◌, ◌++◌, codes, inl, inr, refl, sym, ap, subst, ◌∙◌, ◌&&◌}
 use Rattle.std.proofs.lemmas.Bool.Decides.{nat_tests}
 use Rattle.std.proofs.Common.{arith}
 use Rattle.sctp_wire.specs.Cause.{cookie_received_while_shutting_down}
@@ -11,7 +11,7 @@ use Rattle.sctp_state.specs.Options.{Options}
 use Rattle.sctp_state.specs.declared.api.ErrorKind.TheVariants.{ParseFailed, WrongSequence}
 use Rattle.spec_endpoint.specs.Association.{Tcb, Phase, CookieEchoed, Established, ShutdownPending, ShutdownSent, ShutdownReceived, ShutdownAckSent, State, Closed, CookieWait, Open, Context, Endpoint}
 use Rattle.spec_endpoint.specs.Packets.{PacketDraft, new_packet, fits, add, emit_event_in, emit}
-use Rattle.spec_endpoint.specs.Opening.{long_word, enter_connected, cookie_ack, tcb_by, establishes, CookieResolution, EstablishNew, RestartDetected, SimultaneousInit, MaintainExisting, Discard, InvalidTag, new_if, resolve_cookie, resolve_by_tags, by_tags, maintain_existing, too_late, restarts_in, on_resolution}
+use Rattle.spec_endpoint.specs.Opening.{long_word, enter_connected, cookie_ack, tcb_by, establishes, CookieResolution, EstablishNew, RestartDetected, SimultaneousInit, MaintainExisting, Discard, InvalidTag, new_if, resolve_cookie, resolve_by_tags, by_tags, maintain_existing, too_late, restarts_in, on_resolution, new_unless}
 use Rattle.spec_endpoint.specs.Laws.{ReceiveNoPacket}
 use Rattle.proof_endpoint.specs.Mapped.{Carried}
 use Rattle.proof_endpoint.proofs.OpeningStepsLemmas.{end_in}
@@ -261,8 +261,15 @@ module _ (o : Options) (past : List (Event Carried)) (y : Past) (fine : AreValid
     judged_new true st s inv = anew s.endpoint_state.context.options.avoid_stalls (view_of st) s.endpoint_state.context (end_in st s) inv
     judged_new false st s inv = invalid st s inv
 
+    judged_unless : (late b : Bool) (st : State) (s : Endpoint Carried) → InvAt g x y (calm (end_in st s))
+        → Goes g y n echoed (noted [] (on_resolution (new_unless late b) k (end_in st s)).endpoint_state.state n) (on_resolution (new_unless late b) k (end_in st s))
+    judged_unless true b st s inv = goes_held g y n echoed (end_in st s) known inv
+    judged_unless false b st s inv = judged_new b st s inv
+
     pub does_judged : (st : State) (s : Endpoint Carried) → InvAt g x y (calm (end_in st s))
-        → Goes g y n echoed (noted [] (on_resolution (resolve_cookie tag k st) k (end_in st s)).endpoint_state.state n) (on_resolution (resolve_cookie tag k st) k (end_in st s))
+        → Goes g y n echoed (noted [] (on_resolution (resolve_cookie s.endpoint_state.context.options.avoid_stalls tag k st) k (end_in st s)).endpoint_state.state n)
+        (on_resolution (resolve_cookie s.endpoint_state.context.options.avoid_stalls tag k st) k (end_in st s))
     does_judged Closed s inv = judged_new (tag == k.my_tag) Closed s inv
-    does_judged (CookieWait my_tag first t1) s inv = judged_new (tag == k.my_tag) (CookieWait my_tag first t1) s inv
+    does_judged (CookieWait my_tag first t1) s inv =
+        judged_unless (s.endpoint_state.context.options.avoid_stalls && not (k.my_tag == my_tag)) (tag == k.my_tag) (CookieWait my_tag first t1) s inv
     does_judged (Open phase t) s inv = judged_open (resolve_by_tags tag t.identity k) phase t s refl inv

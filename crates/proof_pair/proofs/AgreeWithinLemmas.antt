@@ -1,6 +1,6 @@
 -- Within a packet: what is held between two chunks was held before it or is held after it, and an end that emitted that it is
 -- connected holds an association after it.
-use Rattle.std.proofs.Common.{◌≡◌, ℕ, ◌==◌, ◌||◌, Bool, true, false, Option, Some, None, Result, Ok, Err, List, [], ◌∷◌, ◌++◌, ◌⊎◌, inl, inr, All, codes, length, refl, sym, ap, subst, ◌∙◌}
+use Rattle.std.proofs.Common.{◌≡◌, ℕ, ◌==◌, ◌||◌, Bool, true, false, Option, Some, None, Result, Ok, Err, List, [], ◌∷◌, ◌++◌, ◌⊎◌, inl, inr, All, codes, length, refl, sym, ap, subst, ◌∙◌, ◌&&◌, not}
 use Rattle.std.specs.List.{list_all}
 use Rattle.std.proofs.lemmas.List.Elements.{All-nil, All-cons, All-head, All-tail}
 use Rattle.std.proofs.lemmas.Bool.{and_parts, both_ways}
@@ -17,7 +17,7 @@ use Rattle.spec_endpoint.specs.Packets.{PacketDraft, packet_to, round_down_to_4,
 use Rattle.spec_endpoint.specs.Data.{on_data_if}
 use Rattle.spec_endpoint.specs.Sack as acknowledging
 use Rattle.spec_endpoint.specs.StreamReset.{Handling, finish_reconfig_if}
-use Rattle.spec_endpoint.specs.Opening.{CookieResolution, EstablishNew, RestartDetected, SimultaneousInit, MaintainExisting, Discard, InvalidTag, new_if, resolve_by_tags, cookie_in, echo_or_abort, on_resolution, on_read_cookie}
+use Rattle.spec_endpoint.specs.Opening.{CookieResolution, EstablishNew, RestartDetected, SimultaneousInit, MaintainExisting, Discard, InvalidTag, new_if, resolve_by_tags, cookie_in, echo_or_abort, on_resolution, on_read_cookie, new_unless}
 use Rattle.sctp_rx.specs.DataTracker.{is_ack_due}
 use Rattle.spec_endpoint.specs.Sending.{take_due_ack}
 use Rattle.spec_endpoint.specs.Input.{AfterChunk, receive, received_if, receive_all, receive_rest, violation, on_chunk, in_endpoint_state, ack_if_due, at_end, packet_acked, shut_waiting, shut_if, on_packet_end}
@@ -232,11 +232,17 @@ module _ (p : PacketTree) where
   judged_new false k st s none h =
       emitted_error s.endpoint_state.context.emitted.events (OnError ParseFailed (codes "Received CookieEcho with invalid verification tag")) refl none h
 
+  judged_unless : (late b : Bool) (k : Cookie) (st : State) (s : Endpoint Carried) → has_connected s.endpoint_state.context.emitted.events ≡ false
+      → Stands (on_resolution (new_unless late b) k (end_in st s))
+  judged_unless true b k st s none h = absurd (both_ways true (sym h ∙ none) refl)
+  judged_unless false b k st s none h = judged_new b k st s none h
+
   read_as : (r : Result Cookie StateCookieError) (st : State) (s : Endpoint Carried) → has_connected s.endpoint_state.context.emitted.events ≡ false
       → Stands (on_read_cookie tag r (end_in st s))
   read_as (Err fault) st s none h = emitted_error s.endpoint_state.context.emitted.events (OnError ParseFailed (refusal_text fault)) refl none h
   read_as (Ok k) Closed s none h = judged_new (tag == k.my_tag) k Closed s none h
-  read_as (Ok k) (CookieWait own first t1) s none h = judged_new (tag == k.my_tag) k (CookieWait own first t1) s none h
+  read_as (Ok k) (CookieWait own first t1) s none h =
+      judged_unless (s.endpoint_state.context.options.avoid_stalls && not (k.my_tag == own)) (tag == k.my_tag) k (CookieWait own first t1) s none h
   read_as (Ok k) (Open phase t) s none h = judged_open (resolve_by_tags tag t.identity k) k phase t s
 
   came_back : (cookie : List ℕ) (st : State) (s : Endpoint Carried) → has_connected s.endpoint_state.context.emitted.events ≡ false

@@ -25,6 +25,7 @@ ghost use Rattle.spec_endpoint.specs.Input as table;
 use rand_core::Rng;
 use sctp_endpoint::{Context, Phase, State, TransmissionControlBlock};
 use sctp_handshake::cookie_echo::{handle_cookie_ack, handle_cookie_echo};
+use sctp_handshake::cookies::goes_on_behind;
 use sctp_handshake::judging::{packet_word, policy};
 use sctp_handshake::opening::{handle_init, handle_init_ack};
 use sctp_handshake::validation::{has_data, refusal_of};
@@ -221,11 +222,12 @@ fn dispatch<R: Rng, C: Checksum>(
     }
 }
 
-/// Whether the chunk behind this one is looked at: an unknown chunk may end the packet.
-fn allows_next(chunk: &Chunk) -> bool
-    ensures { result ≡ table.allows_next (chunk_tree chunk.now) }
+/// Whether the chunk behind this one is looked at: an unknown chunk may end the packet, and with stalls avoided a COOKIE ECHO that isn't taken.
+fn allows_next(avoids_stalls: bool, tag: u32, state: &State, chunk: &Chunk) -> bool
+    ensures { result ≡ table.allows_next avoids_stalls tag (state_of state.now) (chunk_tree chunk.now) }
 {
     match chunk {
+        Chunk::CookieEcho(echo) => goes_on_behind(avoids_stalls, tag, &echo.cookie, state),
         Chunk::Unknown(unknown) => is_passed_over(unknown.typ),
         _ => true,
     }
@@ -254,7 +256,7 @@ fn receive<R: Rng, C: Checksum>(
         handle_misuse(state, context, misuse)?;
         return Ok(false);
     }
-    let goes_on = allows_next(&chunk);
+    let goes_on = allows_next(context.options.avoid_stalls, tag, state, &chunk);
     dispatch(state, context, rng, tag, chunk)?;
     Ok(goes_on)
 }

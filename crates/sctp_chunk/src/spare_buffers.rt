@@ -39,7 +39,7 @@ impl SpareBuffers {
         }
     }
 
-    /// A copy of the bytes, in the last of these buffers where it is neither too small nor over twice as large. One that is too
+    /// A copy of the bytes, in the last of these buffers where it is neither too small nor more than a byte over twice as large. One that is too
     /// small is let go.
     #[inline(always)]
     pub fn copy(&mut self, alloc: Global, bytes: &[u8]) -> Result<Vec<u8>, AllocError>

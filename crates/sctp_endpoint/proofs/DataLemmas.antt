@@ -13,7 +13,7 @@ use Rattle.sctp_tx.proofs.IdleLemmas.{idle_send}
 use Rattle.spec_endpoint.specs.Association.{Context}
 use Rattle.spec_endpoint.specs.Heartbeats.{restart_interval_if}
 use Rattle.spec_endpoint.specs.Packets.{PacketDraft, add, add_all, room}
-use Rattle.spec_endpoint.specs.Sending.{Filling, data_chunk_of, is_small, with_data, with_fragments}
+use Rattle.spec_endpoint.specs.Sending.{Filling, data_chunk_of, is_small, small_window, with_data, with_fragments}
 use Rattle.sctp_endpoint.specs.declared.transmission_control_block.TransmissionControlBlock.{TransmissionControlBlock}
 use Rattle.sctp_endpoint.specs.Views.{ContextValue, filling_of}
 
@@ -64,7 +64,7 @@ module _ {P : Type 0} (x : Filling P) where
   all_added packet s c queue emitted is_immediate is_sent added small same sender in_queue in_events some context =
       let f = sent (room x.packet) in
       let cwnd : x.tcb.sender.windows.cwnd ≡ f.sender.windows.cwnd = sym same ∙ ap (λ (t : Sender). t.windows.cwnd) sender in
-      let is : is_immediate ≡ is_small x.context.options f.sender = small ∙ ap (λ (n : ℕ). nat_lt n (x.context.options.immediate_sack_under_cwnd_mtus * x.context.options.mtu)) cwnd in
+      let is : is_immediate ≡ is_small x.context.options f.sender = small ∙ ap (λ (n : ℕ). nat_lt n (small_window x.context.options)) cwnd in
       ap (λ (p : PacketDraft). filling p s c) (added ∙ packet_added is_immediate is)
       ∙ (ap (λ (t : Sender). filling (with_data x).packet t c) sender
       ∙ (ap (λ (d : Context P). filling (with_data x).packet f.sender d) context
@@ -83,15 +83,15 @@ module _ {C : Type 0} (word_of : C → List ℕ → ℕ) (p : PacketDraft) (t : 
       × (queue ≡ (sent x n).queue) × (emitted ≡ (sent x n).emitted) × (is_sent ≡ nat_lt 0 (length (sent x n).chunks))
 
   pub data_added : (packet : PacketDraft) (s : Sender) (c : Context (List ℕ)) (queue : Queue) (emitted : Emitted (List ℕ)) (is_sent b : Bool)
-      → v ≡ now → most ≡ room p → cwnd ≡ x.tcb.sender.windows.cwnd → limit ≡ now.options.immediate_sack_under_cwnd_mtus * now.options.mtu
+      → v ≡ now → most ≡ room p → cwnd ≡ x.tcb.sender.windows.cwnd → limit ≡ small_window now.options
       → packet ≡ taken_all (taken x.tcb.capabilities.message_interleaving (nat_lt cwnd limit)) (sent x most).chunks p → s ≡ (sent x most).sender
       → queue ≡ (sent x most).queue → emitted ≡ (sent x most).emitted → is_sent ≡ nat_lt 0 (length (sent x most).chunks)
       → s.windows.cwnd ≡ x.tcb.sender.windows.cwnd → is_sent ≡ b → c ≡ context_with x queue emitted b
       → filling x packet s c ≡ with_data (filling_of word_of p t now)
   data_added packet s c queue emitted is_sent b viewed room_is cwnd_is limit_is added sender in_queue in_events some same is context =
       let all : Taken packet s queue emitted is_sent (room p) = subst (Taken packet s queue emitted is_sent) room_is (added, sender, in_queue, in_events, some) in
-      let limit_here : limit ≡ v.options.immediate_sack_under_cwnd_mtus * v.options.mtu =
-      limit_is ∙ ap (λ (u : ContextValue C). u.options.immediate_sack_under_cwnd_mtus * u.options.mtu) (sym viewed)
+      let limit_here : limit ≡ small_window v.options =
+      limit_is ∙ ap (λ (u : ContextValue C). small_window u.options) (sym viewed)
       in
       let small : nat_lt cwnd limit ≡ is_small v.options x.tcb.sender =
       ap (λ (n : ℕ). nat_lt n limit) cwnd_is ∙ ap (λ (n : ℕ). nat_lt x.tcb.sender.windows.cwnd n) limit_here

@@ -1,5 +1,6 @@
 pub mod BurstLemmas
 pub mod DataLemmas
+pub mod ForwardLemmas
 pub mod GoesOnLemmas
 pub mod KeepsReadyLemmas
 pub mod GrownLemmas

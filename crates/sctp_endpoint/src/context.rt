@@ -221,8 +221,8 @@ impl<C: Checksum> Context<C> {
         ensures ok { OnOk result (context_of C.word_of self.new ≡ closing.emptied_if self.old.options.avoid_stalls (context_of C.word_of self.old)) }
         ensures goes_on { GoesOn self.old self.new }
     {
+        self.forget_errors();
         if self.options.avoid_stalls {
-            self.tx_error_counter.reset();
             self.send_queue.empty(&mut self.events)?;
         }
         Ok(())

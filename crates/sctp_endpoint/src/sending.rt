@@ -5,7 +5,7 @@ ghost use Rattle.sctp_tx_outstanding.specs.Views.{chunk_of};
 ghost use Rattle.sctp_state.specs.Events.{numbers_of};
 ghost use Rattle.spec_endpoint.specs.Packets.{add_all};
 ghost use Rattle.std.specs.Duration.{as_nanos};
-ghost use Rattle.spec_endpoint.specs.Sending.{burst_with, carrying, data_chunks, filled_as, forward_if, forward_pause, most_streams, request_of, request_started, send_buffered, send_cookie, send_lost, send_with, next_packet, with_ack, with_data, with_forward, with_request, send_in};
+ghost use Rattle.spec_endpoint.specs.Sending.{burst_with, carrying, data_chunks, filled_as, forward_if, forward_pause, most_streams, request_of, request_started, send_buffered, send_cookie, send_lost, send_with, small_window, next_packet, with_ack, with_data, with_forward, with_request, send_in};
 ghost use Rattle.spec_endpoint.specs.Calls.{ready_in};
 ghost use Rattle.sctp_endpoint.specs.GoesOn.{GoesOn};
 ghost use Rattle.sctp_endpoint.specs.Views.{context_of, filling_of, after_sending_of, tcb_of, endpoint_state_of, state_of};
@@ -87,16 +87,19 @@ impl<C: Checksum> Context<C> {
             return Ok(());
         }
         let pause = tcb.rto.srtt().min(Duration::from_millis(200));
-        self.limit_forward_tsn_until = self.clock + self.forward_pause(pause);
+        self.limit_forward_tsn_until = self.clock + self.forward_pause(tcb, pause);
         Ok(())
     }
 
-    /// With stalls avoided the end of this span is waited for: it is a millisecond at least.
-    fn forward_pause(&self, span: Duration) -> Duration
-        ensures { as_nanos result ≡ forward_pause self.now.options.avoid_stalls (as_nanos span) }
+    /// With stalls avoided the end of this span is waited for: it is a millisecond at least, and backs off as t3-rtx does, to 200 ms at most.
+    fn forward_pause(&self, tcb: &TransmissionControlBlock, span: Duration) -> Duration
+        ensures { as_nanos result ≡ forward_pause self.now.options.avoid_stalls (tcb_of tcb.now).sender.t3 (as_nanos span) }
     {
         if self.options.avoid_stalls {
-            span.max(Duration::from_millis(1))
+            tcb.retransmission_queue.backed_off(
+                span.max(Duration::from_millis(1)),
+                Duration::from_millis(200),
+            )
         } else {
             span
         }
@@ -193,11 +196,15 @@ impl<C: Checksum> Context<C> {
         Ok(())
     }
 
-    /// Below this window the peer is asked to acknowledge at once (RFC 7053).
+    /// Below this window the peer is asked to acknowledge at once (RFC 7053): with stalls avoided below any, where a burst has one packet.
     fn immediate_sack_cwnd(&self) -> usize
-        ensures { result ≡ self.now.options.immediate_sack_under_cwnd_mtus * self.now.options.mtu }
+        ensures { result ≡ small_window self.now.options }
     {
-        self.options.immediate_sack_under_cwnd_mtus * self.options.mtu
+        if self.options.avoid_stalls && self.max_burst() < 2 {
+            usize::MAX
+        } else {
+            self.options.immediate_sack_under_cwnd_mtus * self.options.mtu
+        }
     }
 
     /// What goes into the first packet of a burst beside data.

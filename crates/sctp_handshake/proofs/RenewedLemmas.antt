@@ -25,14 +25,15 @@ peer_in (Some a) = a.peer_tag
 not_same : (n m : ℕ) → not (n == m) ≡ true → n ≡ m → ⊥
 not_same n m other e = grind (arith, nat_tests)
 
-pub renewed : (tag : ℕ) (k : Cookie) (s t : State) → begins_anew (resolve_cookie tag k s) ≡ true → association_in t ≡ Some (association_by k) → KeepsReady s t
-renewed tag k Closed t r a = from_nothing Closed t refl
-renewed tag k (CookieWait own first t1) t r a = from_nothing (CookieWait own first t1) t refl
-renewed tag k (Open phase u) t r a = inr (λ e. not_same k.peer_tag u.identity.peer_tag (other_peer _ _ _ _ r) (ap peer_in (sym a ∙ e)))
+pub renewed : (avoids_stalls : Bool) (tag : ℕ) (k : Cookie) (s t : State) → begins_anew (resolve_cookie avoids_stalls tag k s) ≡ true → association_in t ≡ Some (association_by k) → KeepsReady s t
+renewed avoids_stalls tag k Closed t r a = from_nothing Closed t refl
+renewed avoids_stalls tag k (CookieWait own first t1) t r a = from_nothing (CookieWait own first t1) t refl
+renewed avoids_stalls tag k (Open phase u) t r a = inr (λ e. not_same k.peer_tag u.identity.peer_tag (other_peer _ _ _ _ r) (ap peer_in (sym a ∙ e)))
 
 -- what a cookie left, where memory ran out
-pub left_by_cookie : {T F : Type 0} (result : Result T F) (resolution : CookieResolution) (tag : ℕ) (k : Cookie) (s t : State) → resolution ≡ resolve_cookie tag k s
+pub left_by_cookie : {T F : Type 0} (result : Result T F) (resolution : CookieResolution) (avoids_stalls : Bool) (tag : ℕ) (k : Cookie) (s t : State)
+    → resolution ≡ resolve_cookie avoids_stalls tag k s
     → OnErr result ((ready_in t ≡ ready_in s) ⊎ ((begins_anew resolution ≡ true) × (association_in t ≡ Some (association_by k)))) → OnErr result (KeepsReady s t)
-left_by_cookie (Ok x) resolution tag k s t is left = tt
-left_by_cookie (Err x) resolution tag k s t is (inl same) = keeps_same s t same
-left_by_cookie (Err x) resolution tag k s t is (inr both) = renewed tag k s t (sym (ap begins_anew is) ∙ both.0) both.1
+left_by_cookie (Ok x) resolution avoids_stalls tag k s t is left = tt
+left_by_cookie (Err x) resolution avoids_stalls tag k s t is (inl same) = keeps_same s t same
+left_by_cookie (Err x) resolution avoids_stalls tag k s t is (inr both) = renewed avoids_stalls tag k s t (sym (ap begins_anew is) ∙ both.0) both.1

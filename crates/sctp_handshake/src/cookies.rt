@@ -9,7 +9,7 @@ ghost use Rattle.sctp_handshake.specs.ResolutionView.{resolution_of};
 ghost use Rattle.spec_endpoint.specs.Opening as table;
 
 use sctp_capabilities::{Capabilities, StateCookie};
-use sctp_endpoint::{Context, Identity, State, TransmissionControlBlock};
+use sctp_endpoint::{Context, Identity, Phase, State, TransmissionControlBlock};
 use sctp_wire::Checksum;
 use std::alloc::AllocError;
 
@@ -68,13 +68,61 @@ fn new_if_own(tag: u32, cookie: &StateCookie) -> CookieResolution
     }
 }
 
-/// What becomes of a cookie in a packet under this tag.
-pub fn resolve_cookie(tag: u32, cookie: &StateCookie, state: &State) -> CookieResolution
-    ensures { resolution_of result ≡ table.resolve_cookie tag (cookie_of cookie.now) (state_of state.now) }
+/// What becomes of a cookie in a packet under this tag. With stalls avoided an end that connects discards the cookie of another connect.
+pub fn resolve_cookie(
+    avoids_stalls: bool,
+    tag: u32,
+    cookie: &StateCookie,
+    state: &State,
+) -> CookieResolution
+    ensures { resolution_of result ≡ table.resolve_cookie avoids_stalls tag (cookie_of cookie.now) (state_of state.now) }
 {
     match state {
-        State::Closed | State::CookieWait(_) => new_if_own(tag, cookie),
+        State::Closed => new_if_own(tag, cookie),
+        State::CookieWait(wait) => {
+            if avoids_stalls && cookie.my_tag != wait.verification_tag {
+                return CookieResolution::Discard;
+            }
+            new_if_own(tag, cookie)
+        }
         State::Open(_, tcb) => resolve_by_tags(tag, tcb.identity, cookie),
+    }
+}
+
+/// Whether a restart isn't too late: no SHUTDOWN ACK went out (RFC 9260 section 5.2.4 A).
+fn may_restart(state: &State) -> bool
+    ensures { result ≡ table.may_restart (state_of state.now) }
+{
+    match state {
+        State::Open(Phase::ShutdownAckSent(_), _) => false,
+        _ => true,
+    }
+}
+
+/// Whether the cookie is taken of which this becomes.
+fn is_taken(resolution: CookieResolution, state: &State) -> bool
+    ensures { result ≡ table.is_taken (resolution_of resolution) (state_of state.now) }
+{
+    match resolution {
+        CookieResolution::EstablishNew
+        | CookieResolution::SimultaneousInit
+        | CookieResolution::MaintainExisting => true,
+        CookieResolution::RestartDetected => may_restart(state),
+        CookieResolution::Discard | CookieResolution::InvalidTag => false,
+    }
+}
+
+/// Whether what lies behind a COOKIE ECHO in its packet is looked at: with stalls avoided not where the cookie isn't taken (RFC 9260
+/// section 5.1.5).
+pub fn goes_on_behind(avoids_stalls: bool, tag: u32, cookie: &[u8], state: &State) -> bool
+    ensures { result ≡ table.goes_on_behind avoids_stalls tag cookie.now (state_of state.now) }
+{
+    if !avoids_stalls {
+        return true;
+    }
+    match StateCookie::from_bytes(cookie) {
+        Ok(cookie) => is_taken(resolve_cookie(true, tag, &cookie, state), state),
+        Err(_) => false,
     }
 }
 

@@ -16,7 +16,8 @@ pub struct FoundItem<'a> {
     pub rest: &'a [u8],
 }
 
-/// The item at the front of the bytes.
+/// The item at the front of the bytes. None where there are under four bytes, or the length that stands there, header included, is
+/// under 4 or greater than the number of bytes.
 pub fn find_item(bytes: &[u8]) -> Option<FoundItem<'_>>
     ensures item { IfSome result (λ found. Takes bytes.now
         (record { first = found.first; second = found.second; value = found.value.now }) found.rest.now) }

@@ -1,4 +1,4 @@
-//! Parameters: each kind read, written and shown (RFC 9260 sections 3.3.2 and 3.3.5, RFC 6525, RFC 3758, RFC 5061, RFC 9653).
+//! Parameters: each kind read, written and shown (RFC 9260 sections 3.3.2, 3.3.3 and 3.3.5, RFC 6525, RFC 3758, RFC 5061, RFC 9653).
 #![tactic(auto)]
 
 mod check;

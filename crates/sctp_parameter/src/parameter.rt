@@ -1,4 +1,4 @@
-//! The parameters of INIT, INIT ACK and HEARTBEAT.
+//! The parameters of INIT, INIT ACK, HEARTBEAT and HEARTBEAT ACK.
 #![tactic(auto, unfolding(sctp_wire::specs::Parameter::parameter_value, sctp_wire::specs::ParameterText::parameter_text))]
 
 ghost use Rattle.std.specs.Prelude.{IfOk, IfErr, Some};

@@ -69,6 +69,10 @@ cap_at (Some most) span = min span most
 abbrev pub backoff : Timer → ℕ → ℕ
 backoff t k = min (cap_at t.most (backed_off t.backoff t.duration k)) longest
 
+-- another span, doubled as often as the timer expired since its start, up to the most
+abbrev pub backed_off_with : Timer → (span most : ℕ) → ℕ
+backed_off_with t span most = min (cap_at (Some most) (backed_off Exponential span (more t.expiries))) longest
+
 -- whether it is the last
 abbrev pub is_last_expiry : Option ℕ → ℕ → Bool
 is_last_expiry None k = false

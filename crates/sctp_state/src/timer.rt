@@ -44,7 +44,7 @@ impl Model for Timer {
 }
 
 impl Timer {
-    ghost use Rattle.sctp_state.specs.Timer.{timer, start, stop, expire, is_due, is_running, next_expiry, set_duration, backed_off, cap_at, longest, is_last_expiry};
+    ghost use Rattle.sctp_state.specs.Timer.{timer, start, stop, expire, is_due, is_running, next_expiry, set_duration, backed_off, backed_off_with, cap_at, longest, is_last_expiry};
 
     /// A stopped timer. After more than `max_restarts` expiries it stops by itself, and no wait after an expiry is
     /// longer than `max_backoff_duration`.
@@ -122,6 +122,13 @@ impl Timer {
         self.next_expiry.is_some()
     }
 
+    /// How often it has expired since it was started last.
+    pub fn expiry_count(&self) -> u64
+        ensures { result ≡ self.now.expiries }
+    {
+        self.expiry_count
+    }
+
     /// Sets the duration, from the next start or expiry on.
     pub fn set_duration(&mut self, duration: Duration)
         ensures { self.new ≡ set_duration (as_nanos duration) self.old }
@@ -134,6 +141,15 @@ impl Timer {
         ensures { as_nanos result ≡ self.now.duration }
     {
         self.duration
+    }
+
+    /// Another span, doubled as often as the timer expired since it was started last, at most `most`.
+    pub fn backed_off_with(&self, span: Duration, most: Duration) -> Duration
+        ensures { as_nanos result ≡ backed_off_with self.now (as_nanos span) (as_nanos most) }
+    {
+        let count = self.expiry_count.saturating_add(1);
+        let nanos = Timer::doubled(BackoffAlgorithm::Exponential, span, count);
+        Timer::bounded(nanos, Some(most))
     }
 
     /// Whether the timer stops at its expiry of this number.

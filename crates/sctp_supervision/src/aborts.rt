@@ -76,24 +76,44 @@ fn abort_by_violation<C: Checksum>(
     context.emit_aborted(ErrorKind::ProtocolViolation, misuse.text())
 }
 
-/// ABORT: the association ends at once, and nothing answers it (RFC 9260 section 9.1).
+/// The end is closed, as the peer's causes say.
+#[tactic(auto, using(sctp_endpoint::proofs::GoesOnLemmas::goes_on_same, sctp_endpoint::proofs::GoesOnLemmas::goes_on_through))]
+fn end_by_peer<C: Checksum>(
+    state: &mut State,
+    context: &mut Context<C>,
+    causes: &[ErrorCause],
+) -> Result<(), AllocError>
+    ensures ok { OnOk result (endpoint_state_of C.word_of state.new context.new
+        ≡ closing.close_with (OnAborted ErrorKind.PeerReported (closing.causes_text (map cause_tree causes.now))) (context_of C.word_of context.old)) }
+    ensures goes_on { GoesOn context.old context.new }
+    ensures err { OnErr result (state.new ≡ state.old) }
+{
+    emit_abort(context, causes)?;
+    state.enter(State::Closed);
+    Ok(())
+}
+
+/// ABORT: the association ends at once, and nothing answers it (RFC 9260 section 9.1); with stalls avoided a connect too.
 #[tactic(auto, using(sctp_endpoint::proofs::GoesOnLemmas::goes_on_same, sctp_endpoint::proofs::GoesOnLemmas::goes_on_through))]
 pub fn handle_abort<C: Checksum>(
     state: &mut State,
     context: &mut Context<C>,
     causes: &[ErrorCause],
 ) -> Result<(), AllocError>
-    ensures ok { OnOk result (endpoint_state_of C.word_of state.new context.new ≡ where_open (closing.on_abort (map cause_tree causes.now)) (endpoint_state_of C.word_of state.old context.old)) }
+    ensures ok { OnOk result (endpoint_state_of C.word_of state.new context.new ≡ closing.aborted (map cause_tree causes.now) (endpoint_state_of C.word_of state.old context.old)) }
     ensures goes_on { GoesOn context.old context.new }
     ensures err { OnErr result (state.new ≡ state.old) }
 {
     match state {
-        State::Closed | State::CookieWait(_) => Ok(()),
-        State::Open(_, _) => {
-            emit_abort(context, causes)?;
-            state.enter(State::Closed);
-            Ok(())
+        State::Closed => Ok(()),
+        State::CookieWait(_) => {
+            if context.options.avoid_stalls {
+                end_by_peer(state, context, causes)
+            } else {
+                Ok(())
+            }
         }
+        State::Open(_, _) => end_by_peer(state, context, causes),
     }
 }
 

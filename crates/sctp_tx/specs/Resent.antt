@@ -1,9 +1,9 @@
 -- What is sent again, and what that leaves (RFC 9260 sections 6.3.3, 7.2.4).
-use Rattle.std.specs.Prelude.{ℕ, ◌+◌, ◌-◌, nat_lt, min, Bool, true, false, List, length}
+use Rattle.std.specs.Prelude.{ℕ, ◌+◌, ◌-◌, ◌&&◌, not, nat_lt, min, Bool, true, false, List, length}
 use Rattle.std.specs.List.{sum_by}
 use Rattle.sctp_chunk.specs.Chunk.{FragmentTree}
 use Rattle.sctp_tx_outstanding.specs.Item.{size_of}
-use Rattle.sctp_tx_outstanding.specs.OutstandingData.{flight_bytes}
+use Rattle.sctp_tx_outstanding.specs.OutstandingData.{flight_bytes, waiting_items}
 use Rattle.sctp_tx_outstanding.specs.Resending.{Resent, resend}
 use Rattle.sctp_tx.specs.Windows.{saturate_u64, consume_rwnd, room, may_send}
 use Rattle.sctp_tx.specs.RetransmissionQueue.{Sender, nothing_in_flight, kept_running}
@@ -21,7 +21,7 @@ abbrev pub room_of : Sender → ℕ
 room_of s = room (nothing_in_flight s.outstanding.items) (flight s) s.windows
 
 abbrev pub may_send_new : Sender → Bool
-may_send_new s = may_send (nothing_in_flight s.outstanding.items) (flight s) s.windows
+may_send_new s = may_send (nothing_in_flight s.outstanding.items) (flight s) s.windows && not (s.windows.avoids_stalls && nat_lt 0 (waiting_items s.outstanding.items))
 
 -- ---- what is sent again
 

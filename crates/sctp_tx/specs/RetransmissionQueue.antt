@@ -11,7 +11,7 @@ use Rattle.sctp_tx_outstanding.specs.Losses.{Step}
 use Rattle.sctp_tx_outstanding.specs.Sack.{receive_sack, acked_bytes, sample}
 use Rattle.sctp_tx.specs.declared.retransmission_queue.HandleSackResult as given
 use Rattle.sctp_tx.specs.declared.retransmission_queue.HandleSackResult.TheVariants as results
-use Rattle.sctp_tx.specs.Windows.{Windows, at_first, grow, recovering, timed_out, maybe_exit_fast_recovery, is_open, update_rwnd, saturate_u64}
+use Rattle.sctp_tx.specs.Windows.{Windows, at_first, grow, recovering, timed_out, maybe_exit_fast_recovery, is_open, update_rwnd, reopens, saturate_u64}
 
 pub record Sender : Type 0 where
   pub outstanding : Outstanding
@@ -37,12 +37,17 @@ nothing_in_flight s = flight_items s == 0
 abbrev pub kept_running : (is_quiet : Bool) → ℕ → Timer → Timer
 kept_running is_quiet now t = if is_running t || is_quiet then t else start now t
 
--- the cumulative TSN moved
+-- it begins anew
 abbrev pub restart_or_stop : (is_empty : Bool) → ℕ → Timer → Timer
 restart_or_stop is_empty now t = if is_empty then stop t else start now t
 
-abbrev pub t3_after_sack : (moved : Bool) → Items → ℕ → Timer → Timer
-t3_after_sack moved s now t = kept_running (nothing_in_flight s) now (if moved then restart_or_stop (length s.kept == 0) now t else t)
+abbrev pub t3_after_sack : (restarts : Bool) → Items → ℕ → Timer → Timer
+t3_after_sack restarts s now t = kept_running (nothing_in_flight s) now (if restarts then restart_or_stop (length s.kept == 0) now t else t)
+
+-- The timer begins anew where the cumulative TSN moved; with stalls avoided also, once it backed off, where the peer's window opens: what is in
+-- flight was sent into a closed one (section 6.1 rule A).
+abbrev pub restarts : (moved : Bool) → (before after : Windows) → Timer → Bool
+restarts moved before after t = moved || (reopens before after && nat_lt 0 t.expiries)
 
 -- what is kept is timed from now on
 abbrev pub wake : ℕ → Sender → Sender
@@ -67,12 +72,16 @@ windows_after n a_rwnd moved is_lossy before acked payload exit w =
 abbrev pub step_of : {P : Type 0} → (cumulative : ℕ) → List GapAckBlock → Sender → Emitted P → Step P
 step_of n blocks s emitted = receive_sack n blocks (not (is_open n s.windows)) s.outstanding.items emitted
 
+abbrev pub windows_by : {P : Type 0} → (cumulative a_rwnd : ℕ) → List GapAckBlock → Sender → Step P → Windows
+windows_by n a_rwnd blocks s step =
+    windows_after n a_rwnd (nat_lt s.outstanding.items.acked n) step.is_lossy (saturate_u64 (flight_bytes s.outstanding.items))
+    (saturate_u64 (acked_bytes n blocks s.outstanding.items)) (saturate_u64 (flight_payload step.items)) (next_number step.items - 1) s.windows
+
 abbrev pub handle_sack_by : {P : Type 0} → ℕ → (cumulative a_rwnd : ℕ) → List GapAckBlock → Sender → Step P → Sender
-handle_sack_by now n a_rwnd blocks s step = record s {
+handle_sack_by now n a_rwnd blocks s step = let w = windows_by n a_rwnd blocks s step in record s {
   outstanding = record s.outstanding { items = step.items };
-  windows = windows_after n a_rwnd (nat_lt s.outstanding.items.acked n) step.is_lossy (saturate_u64 (flight_bytes s.outstanding.items))
-      (saturate_u64 (acked_bytes n blocks s.outstanding.items)) (saturate_u64 (flight_payload step.items)) (next_number step.items - 1) s.windows;
-  t3 = t3_after_sack (nat_lt s.outstanding.items.acked n) step.items now s.t3;
+  windows = w;
+  t3 = t3_after_sack (restarts (nat_lt s.outstanding.items.acked n) s.windows w s.t3) step.items now s.t3;
 }
 
 abbrev pub handle_sack : {P : Type 0} → ℕ → (cumulative a_rwnd : ℕ) → List GapAckBlock → Sender → Emitted P → Sender

@@ -1,9 +1,9 @@
 //! What is sent again, and when (RFC 9260 sections 6.3 and 7.2).
 
-ghost use Rattle.std.specs.Prelude.{◌≡◌, ◌-◌, ◌==◌, min, ◌^◌, ◌<◌, ◌≤◌, ◌||◌, [], suc, nat_lt, length, map, is_some, true, false, IsTrue, OnOk, OnErr, IfOk, IfSome, Ok};
+ghost use Rattle.std.specs.Prelude.{◌≡◌, ◌-◌, ◌==◌, min, ◌^◌, ◌<◌, ◌≤◌, ◌&&◌, ◌||◌, not, [], suc, nat_lt, length, map, is_some, true, false, IsTrue, OnOk, OnErr, IfOk, IfSome, Ok};
 ghost use Rattle.std.specs.Duration.{as_nanos};
 ghost use Rattle.sctp_state.specs.Options.{options_of, IsValid};
-ghost use Rattle.sctp_state.specs.Timer.{is_due, next_expiry, set_duration};
+ghost use Rattle.sctp_state.specs.Timer.{backed_off_with, is_due, next_expiry, set_duration};
 ghost use Rattle.sctp_tx_outstanding.specs.OutstandingData.{number_of, wire_tsn, next_number, flight_bytes, flight_payload, flight_items, fast_items, begin_reset};
 ghost use Rattle.sctp_tx_outstanding.specs.Losses.{nack_all, expire_outstanding};
 ghost use Rattle.sctp_tx_outstanding.specs.Forward.{is_forward_due};
@@ -135,6 +135,13 @@ impl RetransmissionQueue {
         self.t3_rtx.set_duration(rto);
     }
 
+    /// This span, doubled as often as t3-rtx expired since it was started last, at most `most`.
+    pub fn backed_off(&self, span: Duration, most: Duration) -> Duration
+        ensures { as_nanos result ≡ backed_off_with self.now.t3 (as_nanos span) (as_nanos most) }
+    {
+        self.t3_rtx.backed_off_with(span, most)
+    }
+
     /// The TSN that the next fragment takes.
     pub fn next_tsn(&self) -> Tsn
         ensures { result.0 ≡ wire_tsn self.now.outstanding (next_number self.now.outstanding.items) }
@@ -258,13 +265,23 @@ impl RetransmissionQueue {
             before: self.outstanding.unacked_packet_bytes(),
         };
         let is_open = self.windows.is_open_at(number);
+        let was_shut = self.windows.is_shut();
         let info = self
             .outstanding
             .handle_sack(sack, !is_open, &mut self.spares, events)?;
         self.let_spares_go();
         self.update_windows(sack.a_rwnd, ack, info);
-        self.run_timer(now, ack.moved);
+        let restarts = self.restarts_timer(ack.moved, was_shut);
+        self.run_timer(now, restarts);
         Ok(info.bytes_acked)
+    }
+
+    /// Whether t3-rtx begins anew: the cumulative TSN moved, or the peer's window was shut and opened once the timer backed off, so that what is in
+    /// flight was sent into a closed one.
+    fn restarts_timer(&self, moved: bool, was_shut: bool) -> bool
+        ensures { result ≡ (moved || ((was_shut && not (self.now.windows.rwnd == 0)) && nat_lt 0 self.now.t3.expiries)) }
+    {
+        moved || was_shut && self.windows.rwnd() != 0 && self.t3_rtx.expiry_count() > 0
     }
 
     /// Where nothing is outstanding no buffer is kept.
@@ -320,11 +337,11 @@ impl RetransmissionQueue {
         }
     }
 
-    /// Where the cumulative TSN moved t3-rtx begins anew, or stops if nothing is kept; it runs while something is in flight or missing.
-    fn run_timer(&mut self, now: SocketTime, moved: bool)
-        ensures { self.new ≡ record self.old { t3 = t3_after_sack moved self.old.outstanding.items now self.old.t3 } }
+    /// Where it begins anew, t3-rtx stops if nothing is kept; it runs while something is in flight or missing.
+    fn run_timer(&mut self, now: SocketTime, restarts: bool)
+        ensures { self.new ≡ record self.old { t3 = t3_after_sack restarts self.old.outstanding.items now self.old.t3 } }
     {
-        if moved {
+        if restarts {
             self.wake(now);
         }
         self.keep_running(now);
@@ -360,10 +377,13 @@ impl RetransmissionQueue {
         Ok(true)
     }
 
-    /// Whether the windows let new fragments go.
+    /// Whether the windows let new fragments go, and with stalls avoided none is to be sent again.
     pub fn can_send_data(&self) -> bool
         ensures { result ≡ may_send_new self.now }
     {
+        if self.windows.avoids_stalls && self.outstanding.has_data_to_be_retransmitted() {
+            return false;
+        }
         let is_quiet = self.outstanding.unacked_items() == 0;
         let flight = self.outstanding.unacked_packet_bytes();
         self.windows.may_send(is_quiet, flight)

@@ -1,4 +1,4 @@
-//! Fields: numbers of two and four bytes, the most significant byte first, and lists of entries of one width.
+//! Fields: numbers of two, four and eight bytes, the most significant byte first, and lists of entries of one width.
 
 ghost use Rattle.std.specs.Prelude.{◌≡◌, ◌≢◌, ◌⊎◌, ℕ, ◌+◌, ◌*◌, ◌%◌, ◌^◌, ◌<◌, ◌≤◌, List, [], ◌++◌, length, All, IfOk, OnErr, IfErr, OnOk};
 ghost use Rattle.std.specs.List.{flat_map};

@@ -29,7 +29,8 @@ pub trait SerializableTlv {
     fn value_size(&self) -> usize
         ensures { result ≡ min (length (item_of self.now).value) (2 ^ 64 - 1) };
 
-    /// Whether the parts agree with one another: a response has both TSNs or neither.
+    /// Whether the parts agree with one another: a response has both TSNs or neither, the entries of a forward point are those of
+    /// its chunk's type, and parameters in a chunk are whole.
     fn is_whole(&self) -> bool
         ensures { result ≡ parts_agree self.now };
 

@@ -19,11 +19,11 @@ use Rattle.spec_endpoint.specs.Association.{Tcb, Phase, CookieEchoed, Establishe
 use Rattle.spec_endpoint.specs.Heartbeats.{on_heartbeat_ack}
 use Rattle.spec_endpoint.specs.Packets.{add, round_down_to_4, new_packet, emit_error, emit_chunk}
 use Rattle.spec_endpoint.specs.Sending.{take_due_ack, without_duplicates, selective_ack, is_before_cookie_ack, open_with, send_with}
-use Rattle.spec_endpoint.specs.Shutdown.{open_phase_step, maybe_send_shutdown_or_ack, send_shutdown, on_shutdown, on_shutdown_ack, on_shutdown_complete, abort_for_violation, on_abort, on_error}
+use Rattle.spec_endpoint.specs.Shutdown.{open_phase_step, maybe_send_shutdown_or_ack, send_shutdown, on_shutdown, on_shutdown_ack, on_shutdown_complete, abort_for_violation, aborted, on_error}
 use Rattle.spec_endpoint.specs.Data.{on_data, on_forward}
 use Rattle.spec_endpoint.specs.Sack.{on_sack}
 use Rattle.spec_endpoint.specs.StreamReset.{on_reconfig}
-use Rattle.spec_endpoint.specs.Opening.{with_endpoint_state, emit_parse_error, on_init, on_init_ack, on_cookie_ack, on_cookie_echo}
+use Rattle.spec_endpoint.specs.Opening.{with_endpoint_state, emit_parse_error, goes_on_behind, on_init, on_init_ack, on_cookie_ack, on_cookie_echo}
 
 -- ---- which packets are taken (RFC 9260 section 8.5)
 
@@ -199,7 +199,7 @@ on_chunk tag (idata_chunk tsn immediate f) s = in_endpoint_state (on_data tsn im
 on_chunk tag (init_chunk i) s = on_init i s
 on_chunk tag (init_ack_chunk i) s = on_init_ack i s
 on_chunk tag (sack_chunk k) s = in_endpoint_state (on_sack k) s
-on_chunk tag (abort_chunk reflected causes) s = in_endpoint_state (where_open (on_abort causes)) s
+on_chunk tag (abort_chunk reflected causes) s = in_endpoint_state (aborted causes) s
 on_chunk tag (error_chunk causes) s = in_endpoint_state (where_open (on_error causes)) s
 on_chunk tag (cookie_echo_chunk cookie) s = on_cookie_echo tag cookie s
 on_chunk tag cookie_ack_chunk s = in_endpoint_state (where_open on_cookie_ack) s
@@ -213,10 +213,11 @@ on_chunk tag shutdown_ack_chunk s = in_endpoint_state (on_shutdown_ack tag) s
 on_chunk tag (shutdown_complete_chunk reflected) s = in_endpoint_state (where_open on_shutdown_complete) s
 on_chunk tag (re_config_chunk parameters) s = in_endpoint_state (where_open (on_reconfig parameters)) s
 
--- an unknown chunk without the bit for it ends the packet
-abbrev pub allows_next : ChunkTree → Bool
-allows_next (unknown_chunk typ flags value) = is_passed_over typ
-allows_next chunk = true
+-- an unknown chunk without the bit for it ends the packet; with stalls avoided a COOKIE ECHO that isn't taken as well
+abbrev pub allows_next : (avoids_stalls : Bool) → (tag : ℕ) → State → ChunkTree → Bool
+allows_next avoids_stalls tag s (unknown_chunk typ flags value) = is_passed_over typ
+allows_next avoids_stalls tag s (cookie_echo_chunk cookie) = goes_on_behind avoids_stalls tag cookie s
+allows_next avoids_stalls tag s chunk = true
 
 abbrev pub violation : State → ChunkTree → Option (List ℕ)
 violation Closed chunk = None
@@ -228,7 +229,10 @@ abort_for_violation_in reason s = where_open (λ phase t c. abort_for_violation 
 
 abbrev pub received_if : {P : Type 0} → (violation : Option (List ℕ)) → (tag : ℕ) → ChunkTree → Endpoint P → AfterChunk P
 received_if (Some reason) tag chunk s = record { end = in_endpoint_state (abort_for_violation_in reason) s; allows_next = false }
-received_if None tag chunk s = record { end = on_chunk tag chunk s; allows_next = allows_next chunk }
+received_if None tag chunk s = record {
+  end = on_chunk tag chunk s;
+  allows_next = allows_next s.endpoint_state.context.options.avoid_stalls tag s.endpoint_state.state chunk;
+}
 
 -- one that what was negotiated forbids ends the association
 abbrev pub receive : {P : Type 0} → (tag : ℕ) → ChunkTree → Endpoint P → AfterChunk P

@@ -1,5 +1,5 @@
 -- How an association is opened (RFC 9260 section 5). These rows alone draw words.
-use Rattle.std.specs.Prelude.{ℕ, ◌+◌, ◌-◌, ◌%◌, ◌^◌, ◌==◌, ◌||◌, not, nat_eq, nat_lt, min, Bool, true, false, Option, Some, None, Result, Ok, Err, List, [], ◌∷◌, ◌++◌, length, codes}
+use Rattle.std.specs.Prelude.{ℕ, ◌+◌, ◌-◌, ◌%◌, ◌^◌, ◌==◌, ◌&&◌, ◌||◌, not, nat_eq, nat_lt, min, Bool, true, false, Option, Some, None, Result, Ok, Err, List, [], ◌∷◌, ◌++◌, length, codes}
 use Rattle.std.specs.List.{starts_with}
 use Rattle.rand_core.specs.Stream.{next_u32, next_u64}
 use Rattle.sctp_wire.specs.Parameter.{ParameterTree, state_cookie}
@@ -238,10 +238,15 @@ new_if false = InvalidTag
 abbrev pub resolve_by_tags : (tag : ℕ) → Identity → Cookie → CookieResolution
 resolve_by_tags tag i k = by_tags (not (tag == i.my_tag)) (not (k.peer_tag == i.peer_tag)) (k.tie_tag == i.tie) (k.tie_tag == 0)
 
-abbrev pub resolve_cookie : (tag : ℕ) → Cookie → State → CookieResolution
-resolve_cookie tag k Closed = new_if (tag == k.my_tag)
-resolve_cookie tag k (CookieWait my_tag first t1) = new_if (tag == k.my_tag)
-resolve_cookie tag k (Open phase t) = resolve_by_tags tag t.identity k
+-- an end that connects: with stalls avoided the cookie of another connect is silently discarded, as one of an earlier association
+abbrev pub new_unless : (is_late is_own : Bool) → CookieResolution
+new_unless true is_own = Discard
+new_unless false is_own = new_if is_own
+
+abbrev pub resolve_cookie : (avoids_stalls : Bool) → (tag : ℕ) → Cookie → State → CookieResolution
+resolve_cookie avoids_stalls tag k Closed = new_if (tag == k.my_tag)
+resolve_cookie avoids_stalls tag k (CookieWait my_tag first t1) = new_unless (avoids_stalls && not (k.my_tag == my_tag)) (tag == k.my_tag)
+resolve_cookie avoids_stalls tag k (Open phase t) = resolve_by_tags tag t.identity k
 
 -- with data behind it
 abbrev pub cookie_ack : {P : Type 0} → (peer_tag : ℕ) → Tcb → Context P → AfterSending P
@@ -325,8 +330,36 @@ on_resolution Discard k s = s
 on_resolution InvalidTag k s = emit_parse_error (codes "Received CookieEcho with invalid verification tag") s
 
 abbrev pub on_read_cookie : {P : Type 0} → (tag : ℕ) → Result Cookie StateCookieError → Endpoint P → Endpoint P
-on_read_cookie tag (Ok k) s = on_resolution (resolve_cookie tag k s.endpoint_state.state) k s
+on_read_cookie tag (Ok k) s = on_resolution (resolve_cookie s.endpoint_state.context.options.avoid_stalls tag k s.endpoint_state.state) k s
 on_read_cookie tag (Err fault) s = emit_parse_error (refusal_text fault) s
+
+-- a restart comes too late for an association that shuts down (RFC 9260 section 5.2.4 A)
+abbrev pub may_restart : State → Bool
+may_restart Closed = true
+may_restart (CookieWait tag first t1) = true
+may_restart (Open (CookieEchoed t1 cookie) t) = true
+may_restart (Open Established t) = true
+may_restart (Open ShutdownPending t) = true
+may_restart (Open (ShutdownSent t2) t) = true
+may_restart (Open ShutdownReceived t) = true
+may_restart (Open (ShutdownAckSent t2) t) = false
+
+-- with stalls avoided nothing behind a cookie that isn't taken is looked at (RFC 9260 section 5.1.5)
+abbrev pub is_taken : CookieResolution → State → Bool
+is_taken EstablishNew s = true
+is_taken RestartDetected s = may_restart s
+is_taken SimultaneousInit s = true
+is_taken MaintainExisting s = true
+is_taken Discard s = false
+is_taken InvalidTag s = false
+
+abbrev pub is_taken_in : (tag : ℕ) → Result Cookie StateCookieError → State → Bool
+is_taken_in tag (Ok k) s = is_taken (resolve_cookie true tag k s) s
+is_taken_in tag (Err fault) s = false
+
+abbrev pub goes_on_behind : (avoids_stalls : Bool) → (tag : ℕ) → List ℕ → State → Bool
+goes_on_behind true tag cookie s = is_taken_in tag (read_cookie cookie) s
+goes_on_behind false tag cookie s = true
 
 -- COOKIE ECHO, in a packet under this tag
 abbrev pub on_cookie_echo : {P : Type 0} → (tag : ℕ) → List ℕ → Endpoint P → Endpoint P

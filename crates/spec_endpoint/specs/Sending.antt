@@ -1,10 +1,11 @@
 -- What goes into packets: in the first of a burst an acknowledgement, a forward point and a request to reset streams where
 -- they are due, and in each as much data as the windows let go (RFC 9260 section 6.1).
-use Rattle.std.specs.Prelude.{ℕ, zero, suc, ◌-◌, ◌*◌, ◌/◌, ◌||◌, not, nat_lt, nat_le, ◌==◌, min, max, Bool, true, false, Option, Some, None, is_some, List, [], ◌∷◌, length, map}
+use Rattle.std.specs.Prelude.{ℕ, zero, suc, ◌-◌, ◌*◌, ◌/◌, ◌^◌, ◌&&◌, ◌||◌, not, nat_lt, nat_le, ◌==◌, min, max, Bool, true, false, Option, Some, None, is_some, List, [], ◌∷◌, length, map}
 use Rattle.sctp_serial.specs.Time.{later}
 use Rattle.sctp_packet.specs.Chunk.{ChunkTree, FragmentTree, fragment_chunk, sack_chunk, cookie_echo_chunk}
 use Rattle.sctp_state.specs.Numbers.{ms}
 use Rattle.sctp_state.specs.Options.{Options}
+use Rattle.sctp_state.specs.Timer.{Timer, backed_off_with}
 use Rattle.sctp_state.specs.RetransmissionTimeout.{rto, srtt}
 use Rattle.sctp_tx_outstanding.specs.OutstandingData.{fast_items, begin_reset, next_number}
 use Rattle.sctp_tx_outstanding.specs.OutstandingData as items
@@ -67,14 +68,14 @@ force_ack t = record t { tracker = record t.tracker { tracker = tracker.force_ac
 
 -- ---- forward points (RFC 3758 section 3.5)
 
--- with stalls avoided this moment is waited for: it lies ahead
-abbrev pub forward_pause : (avoids_stalls : Bool) → (span : ℕ) → ℕ
-forward_pause true span = max (1 * ms) span
-forward_pause false span = span
+-- with stalls avoided this moment is waited for: it lies ahead, and backs off as t3-rtx does
+abbrev pub forward_pause : (avoids_stalls : Bool) → (t3 : Timer) → (span : ℕ) → ℕ
+forward_pause true t3 span = backed_off_with t3 (max (1 * ms) span) (200 * ms)
+forward_pause false t3 span = span
 
 -- not sooner again than after a round trip, of which at most 200 ms count
 abbrev pub forward_later : {P : Type 0} → Tcb → Context P → Context P
-forward_later t c = record c { forward_from = later c.now (forward_pause c.options.avoid_stalls (min (200 * ms) (srtt t.rtt))) }
+forward_later t c = record c { forward_from = later c.now (forward_pause c.options.avoid_stalls t.sender.t3 (min (200 * ms) (srtt t.rtt))) }
 
 abbrev pub forward_added_if : {P : Type 0} → (fits : Bool) → Filling P → Filling P
 forward_added_if true x = record x { packet = add (forward_chunk x.tcb.sender) x.packet; context = forward_later x.tcb x.context }
@@ -153,9 +154,17 @@ data_chunk_of = fragment_chunk
 abbrev pub data_chunks : Tcb → (is_immediate : Bool) → List (ℕ × FragmentTree) → List ChunkTree
 data_chunks t is_immediate chunks = map (data_chunk_of t.capabilities.message_interleaving is_immediate) chunks
 
--- with a small window the peer is asked to acknowledge at once (RFC 7053)
+-- with a small window the peer is asked to acknowledge at once (RFC 7053); with stalls avoided always where a burst has one packet, which the
+-- next one waits for
+abbrev pub small_window_if : (has_one_packet : Bool) → Options → ℕ
+small_window_if true o = 2 ^ 64 - 1
+small_window_if false o = o.immediate_sack_under_cwnd_mtus * o.mtu
+
+abbrev pub small_window : Options → ℕ
+small_window o = small_window_if (o.avoid_stalls && nat_lt o.max_burst 2) o
+
 abbrev pub is_small : Options → Sender → Bool
-is_small o s = nat_lt s.windows.cwnd (o.immediate_sack_under_cwnd_mtus * o.mtu)
+is_small o s = nat_lt s.windows.cwnd (small_window o)
 
 -- data asks the peer as well: the next heartbeat is an interval away
 abbrev pub with_fragments : {P : Type 0} → fragments.Filling P → Filling P → Filling P

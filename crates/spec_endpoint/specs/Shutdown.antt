@@ -174,7 +174,7 @@ too_many t c =
 abbrev pub abort_for_violation : {P : Type 0} → List ℕ → Tcb → Context P → EndpointState P
 abort_for_violation reason t c = abort (protocol_violation reason) (OnAborted ProtocolViolation reason) t c
 
--- ---- ABORT and ERROR, with a control block
+-- ---- ABORT and ERROR
 
 -- each behind a comma
 abbrev pub behind_commas : List CauseTree → List ℕ
@@ -187,6 +187,19 @@ causes_text (cause ∷ causes) = cause_text cause ++ behind_commas causes
 
 abbrev pub on_abort : {P : Type 0} → List CauseTree → Phase → Tcb → Context P → EndpointState P
 on_abort causes phase t c = close_with (OnAborted PeerReported (causes_text causes)) c
+
+-- with stalls avoided it ends a connect too
+abbrev pub refused_if : {P : Type 0} → (avoids_stalls : Bool) → List CauseTree → State → Context P → EndpointState P
+refused_if true causes s c = close_with (OnAborted PeerReported (causes_text causes)) c
+refused_if false causes s c = record { state = s; context = c }
+
+abbrev pub aborted_in : {P : Type 0} → List CauseTree → State → Context P → EndpointState P
+aborted_in causes Closed c = record { state = Closed; context = c }
+aborted_in causes (CookieWait tag first t1) c = refused_if c.options.avoid_stalls causes (CookieWait tag first t1) c
+aborted_in causes (Open phase t) c = on_abort causes phase t c
+
+abbrev pub aborted : {P : Type 0} → List CauseTree → EndpointState P → EndpointState P
+aborted causes s = aborted_in causes s.state s.context
 
 abbrev pub on_error : {P : Type 0} → List CauseTree → Phase → Tcb → Context P → EndpointState P
 on_error causes phase t c = open_as phase t (emit_error PeerReported (causes_text causes) c)

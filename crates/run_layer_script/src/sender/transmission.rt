@@ -74,13 +74,17 @@ fn asked(sender: &RetransmissionQueue, line: &Line<'_>) -> Answer {
     }
 }
 
-/// `expires`: when t3-rtx does.
+/// `expires`: when t3-rtx does. `backs MS MS`: the first span as that has backed off, at most the second.
 fn settle(sender: &mut RetransmissionQueue, line: &Line<'_>, output: &mut Output) -> Answer {
     match line.name {
         "rto" => sender.update_rto(line.first.millis()),
         "set-window" => sender.set_cwnd(line.first.size),
         "begin-reset" => return done(sender.begin_reset_streams()),
         "expires" => return output.text("#", &[millis_of(Some(sender.next_timeout()))]),
+        "backs" => {
+            let span = sender.backed_off(line.first.millis(), line.second.millis());
+            return Answer::Number(span.as_millis() as u64);
+        }
         "point" => return point(sender, output),
         _ => return asked(sender, line),
     }

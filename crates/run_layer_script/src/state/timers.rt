@@ -26,7 +26,7 @@ pub fn timer(line: &Line<'_>) -> Timer {
 }
 
 impl Subject for Timer {
-    /// `start MS`, `expire MS`, `duration MS`, `stop`, `running`, `next`, `lasts`.
+    /// `start MS`, `expire MS`, `duration MS`, `stop`, `running`, `next`, `lasts`, `expiries`, `backed MS MS`.
     fn obey(&mut self, line: &Line<'_>, _output: &mut Output) -> Answer {
         let time = line.first.millis();
         let now = SocketTime::zero() + time;
@@ -35,6 +35,10 @@ impl Subject for Timer {
             "expire" => return Answer::Flag(self.expire(now)),
             "duration" => self.set_duration(time),
             "stop" => self.stop(),
+            "backed" => {
+                let span = self.backed_off_with(time, line.second.millis());
+                return Answer::Number(span.as_nanos());
+            }
             name => return ask(self, name),
         }
         Answer::Done
@@ -46,6 +50,7 @@ fn ask(timer: &Timer, name: &str) -> Answer {
         "running" => Answer::Flag(timer.is_running()),
         "next" => next(timer),
         "lasts" => Answer::Number(timer.duration().as_nanos()),
+        "expiries" => Answer::Number(timer.expiry_count() as u128),
         _ => Answer::Unknown,
     }
 }

@@ -109,7 +109,7 @@ pub trait DcSctpSocket {
     fn messages_ready_count(&self) -> usize;
 
     /// What stands in the way of a handover: nothing where the socket is closed; where it is neither closed nor connected,
-    /// that; else reset requests and streams that wait for a reset, data that is missing or isn't whole, a loss that is
+    /// that; else reset requests and streams that wait for a reset, data that is missing, isn't whole or isn't in turn, a loss that is
     /// being recovered from, and, unless `enable_handover_with_outstanding_data` is set, messages and fragments that wait.
     fn get_handover_readiness(&self) -> HandoverReadiness;
 

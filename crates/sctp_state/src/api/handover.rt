@@ -213,6 +213,7 @@ pub struct HandoverUnorderedStream {
 /// All that this end received.
 #[derive(Debug, Drop)]
 pub struct HandoverReceive {
+    /// Whether a DATA or I-DATA chunk came: the first one is acknowledged at once.
     pub seen_packet: bool,
     /// The number up to which all came.
     pub last_cumulative_acked_tsn: u32,

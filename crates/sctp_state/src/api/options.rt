@@ -104,7 +104,8 @@ pub struct Options {
     /// Not read.
     pub heartbeat_interval_include_rtt: bool,
     /// What finds damage in place of the checksum (RFC 9653): any number but 0, which is none. Then packets that come may carry
-    /// the word 0, and those that are sent carry it once the peer announced the same method, but for a COOKIE ECHO.
+    /// the word 0, and those that are sent carry it once the peer announced the same method, but for a COOKIE ECHO, an ABORT
+    /// for want of a cookie, and a SHUTDOWN COMPLETE out of the blue.
     pub zero_checksum_alternate_error_detection_method: ZeroChecksumAlternateErrorDetectionMethod,
     /// Whether packets are taken whatever their checksum. For tests.
     pub disable_checksum_verification: bool,
@@ -112,9 +113,12 @@ pub struct Options {
     pub enable_handover_with_outstanding_data: bool,
     /// Whether the socket does what the RFCs ask where the original stands still, or loses; our own, and off by default. The next TSN is taken above
     /// nine tenths of the window too, with room for `max_message_size` more (RFC 9260 section 6.2); a drop, and a window that opens again, is
-    /// told at once; forward points that are due, and what a restored socket took up, are timed (RFC 3758 section 3.5, RFC 9260 section 6.3.2);
-    /// `shutdown` waits for the queue (section 9.2); T3-rtx and the timer of reset requests back off to `rto_max` at most (section 6.3.3); and
-    /// what waits as an association ends is given up, each message with its record.
+    /// told at once, and T3-rtx begins anew where the peer's opens (section 6.1); what is to be sent again goes before new fragments (section 6.1);
+    /// forward points that are due, and what a restored socket took up, are timed (RFC 3758 section 3.5, RFC 9260 section 6.3.2); where a burst
+    /// has one packet, each asks for an acknowledgement at once (RFC 7053); an end that connects takes its own cookie alone, nothing behind a
+    /// cookie that isn't taken (RFC 9260 sections 5.1.5, 5.2.4), and an ABORT (section 9.1); `shutdown` waits for the queue (section 9.2); T3-rtx
+    /// and the timer of reset requests back off to `rto_max` at most (section 6.3.3); and as an association ends what waits is given up, each
+    /// message with its record, and errors begin to count from 0 (section 8.1).
     pub avoid_stalls: bool,
 }
 

@@ -4,7 +4,7 @@ ghost use Rattle.std.specs.Prelude.{◌≡◌, is_some};
 ghost use Rattle.sctp_state.specs.Handover.{transmission_of};
 ghost use Rattle.sctp_state.specs.Options.{options_of, IsValid};
 ghost use Rattle.sctp_tx.specs.Handover.{windows_from};
-ghost use Rattle.sctp_tx.specs.Windows.{at_first, grow, recovering, timed_out, maybe_exit_fast_recovery, is_open, update_rwnd, consume_rwnd, room, may_send};
+ghost use Rattle.sctp_tx.specs.Windows.{at_first, grow, recovering, timed_out, maybe_exit_fast_recovery, is_open, update_rwnd, consume_rwnd, is_shut, room, may_send};
 
 use crate::retransmission_queue::congestion_control::CongestionControl;
 use sctp_state::Options;
@@ -19,6 +19,8 @@ pub struct Windows {
     pub rwnd: usize,
     /// Below this congestion window new fragments may be smaller than a packet.
     pub unfragmented_cwnd: usize,
+    /// Whether new fragments wait for what is to be sent again (RFC 9260 section 6.1 rule C), and a window that opens is used.
+    pub avoids_stalls: bool,
 }
 
 impl Model for Windows {
@@ -26,7 +28,7 @@ impl Model for Windows {
 
     ghost Value = { Windows };
 
-    ghost view = { λ w. windows_of w.congestion w.rwnd w.unfragmented_cwnd };
+    ghost view = { λ w. windows_of w.congestion w.rwnd w.unfragmented_cwnd w.avoids_stalls };
 }
 
 impl Windows {
@@ -39,6 +41,7 @@ impl Windows {
             congestion: CongestionControl::new(options, a_rwnd as usize),
             rwnd: a_rwnd as usize,
             unfragmented_cwnd: options.avoid_fragmentation_cwnd_mtus * options.mtu,
+            avoids_stalls: options.avoid_stalls,
         }
     }
 
@@ -112,11 +115,14 @@ impl Windows {
         self.congestion.recover(exit);
     }
 
-    /// The timer of retransmissions expired.
+    /// The timer of retransmissions expired. With stalls avoided that ends a fast recovery: slow start follows (RFC 9260 section 7.2.3).
     pub fn time_out(&mut self)
         ensures { self.new ≡ timed_out self.old }
     {
         self.congestion.time_out();
+        if self.avoids_stalls {
+            self.congestion.fast_recovery_exit = None;
+        }
     }
 
     /// All TSNs up to this one, unwrapped, are acknowledged.
@@ -131,6 +137,13 @@ impl Windows {
         ensures { self.new ≡ update_rwnd a_rwnd payload self.old }
     {
         self.rwnd = (a_rwnd as usize).saturating_sub(payload);
+    }
+
+    /// Whether the peer's window is closed, and will be used once it opens: with stalls avoided alone.
+    pub fn is_shut(&self) -> bool
+        ensures { result ≡ is_shut self.now }
+    {
+        self.avoids_stalls && self.rwnd == 0
     }
 
     /// Chunks of this size in all, with padding, go out.

@@ -5,4 +5,4 @@ use Rattle.sctp_handshake.proofs.cookie_echo.handle_cookie_echo.Goals as goal
 
 pub returns-in-Ok-clause-ready : goal.returns-in-Ok-clause-ready
 returns-in-Ok-clause-ready g c =
-    left_by_cookie c.on_resolution.result _ c.args.tag (cookie_of c.in-Ok.cookie) (state_of c.args.state.now) (state_of c.on_resolution.new.state) c.resolve_cookie-resolution.ensures c.on_resolution.ensures.left
+    left_by_cookie c.on_resolution.result _ _ c.args.tag (cookie_of c.in-Ok.cookie) (state_of c.args.state.now) (state_of c.on_resolution.new.state) c.resolve_cookie-resolution.ensures c.on_resolution.ensures.left

@@ -70,7 +70,7 @@ impl HandoverReadiness {
     pub const PENDING_STREAM_RESET: HandoverReadiness = HandoverReadiness(16);
     /// The peer's reset waits for data that is to come first.
     pub const STREAM_RESET_DEFERRED: HandoverReadiness = HandoverReadiness(64);
-    /// Fragments of messages that are not whole are held.
+    /// Fragments are held, of messages that are not whole or not yet in turn.
     pub const STREAM_HAS_UNASSEMBLED_CHUNKS: HandoverReadiness = HandoverReadiness(128);
     /// Fragments are not acknowledged.
     pub const RETRANSMISSION_QUEUE_OUTSTANDING_DATA: HandoverReadiness = HandoverReadiness(512);
