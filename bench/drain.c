@@ -4,9 +4,9 @@
  * Then the link is good, new packets are given in order, each end takes what is ready, and time goes to each timeout.
  *
  * A run is well where every message that was accepted came once, whole and in its order, or has a record that it was given up; and where both
- * ends come to rest, or close if one was shut down, with never ten minutes in which nothing changes, and with the option within three minutes of
- * the link's being good: a timer that has backed off for a minute, and what follows at once. It isn't judged where an end gave up after too many
- * errors. Prints the seeds of the others, and with the option on, or of a single run, how their ends stand.
+ * ends come to rest, or close if one was shut down, with never ten minutes in which nothing changes; with the option within three minutes of the
+ * link's being good, and a millisecond for each byte that is to come: a message longer than its window comes a packet every 200 ms. It isn't judged
+ * where an end gave up after too many errors. Prints the seeds of the others, and with the option on, or of a single run, how their ends stand.
  *
  * The sockets have PIGEON_AVOID_STALLS, but with --off. Status 1: a run with it isn't well; or with --off all are, as if none was looked at. */
 #include "shelfpigeon.h"
@@ -391,8 +391,19 @@ static void forget(end *at) {
     at->count = at->next = 0;
 }
 
+static bool is_lost(const message *it) {
+    return !it->came && !it->given_up;
+}
+
+static uint64_t bytes_to_come(const end *at) {
+    uint64_t bytes = 0;
+    for (size_t i = 0; i < at->accepted; i++)
+        bytes += is_lost(&at->messages[i]) ? at->messages[i].length : 0;
+    return bytes;
+}
+
 static void drain(bool avoids, bool shuts) {
-    uint64_t begun = now, since = now, of_a = 0, of_b = 0;
+    uint64_t until = now + LONGEST_DRAIN + (bytes_to_come(&a) + bytes_to_come(&b)) * MS, since = now, of_a = 0, of_b = 0;
     unsigned long turns = 0;
     for (;;) {
         turn(&a, &b);
@@ -414,14 +425,10 @@ static void drain(bool avoids, bool shuts) {
         uint64_t moment = next_moment();
         if (moment == UINT64_MAX || (moment > since && moment - since > PATIENCE))
             is_wrong("stands still");
-        if (avoids && moment - begun > LONGEST_DRAIN)
+        if (avoids && moment > until)
             is_wrong("is slow");
         now = moment > now && !fault ? moment : now;
     }
-}
-
-static bool is_lost(const message *it) {
-    return !it->came && !it->given_up;
 }
 
 static void look_for_losses(const end *at) {
