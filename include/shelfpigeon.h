@@ -519,10 +519,12 @@ static inline uint32_t pigeon_borrow_event(pigeon_socket *socket, pigeon_event *
  *
  * pigeon_channels_handle_input takes the place of pigeon_handle_input, by which channels would see what two packets brought in another order, and
  * pigeon_channels_borrow_event that of pigeon_borrow_event, pigeon_poll_event, pigeon_borrow_message and pigeon_next_message: what those take the
- * channels don't see. Nor is pigeon_send or pigeon_reset_stream called for a stream that has a channel. A channel's number is its stream's:
+ * channels don't see. Nor is pigeon_send or pigeon_reset_stream called for a stream that has a channel; and any stream that the peer resets is
+ * reset in turn, by which what waits on it is dropped. A channel's number is its stream's:
  * pigeon_buffered_amount, pigeon_set_buffered_amount_low_threshold and pigeon_buffered_amount_low_threshold take it, and PIGEON_BUFFERED_AMOUNT_LOW
  * says it; a threshold stays with the stream, also for a channel that is opened there later. Channels end with their association, each with its
- * PIGEON_CHANNEL_CLOSED before PIGEON_ON_CLOSED, PIGEON_ON_ABORTED or PIGEON_ON_CONNECTION_RESTARTED; a record that is handed over has none.
+ * PIGEON_CHANNEL_CLOSED before PIGEON_ON_CLOSED, PIGEON_ON_ABORTED or PIGEON_ON_CONNECTION_RESTARTED; a record that is handed over has none. One
+ * on a stream that the association doesn't have as it begins has its own before PIGEON_ON_CONNECTED.
  * pigeon_advance_time too may end it: an owner who connects again takes events behind it before it opens or sends. A channel that is opened between
  * is closed with the old association, and what was sent goes out in the next one.
  *
@@ -584,7 +586,7 @@ static inline uint32_t pigeon_channel_open(pigeon_socket *socket, const pigeon_c
                                      strlen(protocol), channel);
 }
 
-/* A channel that both ends have agreed on beforehand, by any number that is free; it is open at once. Whether the association
+/* A channel that both ends have agreed on beforehand, by any number that is free; it is open at once. Whether an association that stands
  * has its stream isn't looked at: the lesser of negotiated_maximum_incoming_streams and negotiated_maximum_outgoing_streams of the
  * metrics says it. PIGEON_INVALID_SIZE, PIGEON_INVALID_ARGUMENT, PIGEON_NOT_UTF8, PIGEON_STREAM_IN_USE, PIGEON_NO_ROOM: nothing changes. */
 uint32_t pigeon_channel_negotiate_sized(pigeon_socket *socket, uint32_t channel, const void *options, size_t size, const uint8_t *label,
@@ -603,8 +605,8 @@ static inline uint32_t pigeon_channel_negotiate(pigeon_socket *socket, uint32_t 
 uint32_t pigeon_channel_send(pigeon_socket *socket, uint32_t channel, uint32_t kind, const uint8_t *payload, size_t length);
 
 /* Closes a channel: what was accepted is sent, then its stream is reset. PIGEON_CHANNEL_CLOSED tells when that is done. Where the peer closes
- * a channel, also one that is being closed here, what waits for it is dropped, as by Chromium. Where the reset is refused (of a channel that was
- * negotiated, before there is an association; by a peer without RFC 6525, or that denies it) its number stays in use until the association ends.
+ * a channel, also one that is being closed here, what waits for it is dropped, as by Chromium. Before there is an association the reset waits for
+ * it. Where it is refused (by a peer without RFC 6525, or that denies it) the channel's number stays in use until the association ends.
  * Advance the time first. PIGEON_NO_CHANNEL. */
 uint32_t pigeon_channel_close(pigeon_socket *socket, uint32_t channel);
 

@@ -56,7 +56,7 @@ class Channel:
         check(end._library.pigeon_channel_send(end._at, self.id, kind, payload, len(payload)))
 
     def close(self) -> None:
-        """Closes the channel, behind what was sent. The event ChannelClosed says when that is done."""
+        """Closes the channel, behind what was sent and not before there is an association. The event ChannelClosed says when that is done."""
         end = self._open()
         check(end._library.pigeon_channel_close(end._at, self.id))
 

@@ -1,5 +1,7 @@
 # SPDX-License-Identifier: Apache-2.0
 """Sockets and channels over memory, in virtual time."""
+import re
+
 import pytest
 
 import shelfpigeon
@@ -28,8 +30,9 @@ SECOND = 10**9
 class World:
     """Two ends, and the packets between them."""
 
-    def __init__(self, a, b):
+    def __init__(self, a, b, carried=lambda packet: packet):
         self.ends = (a, b)
+        self.carried = carried
         self.now = 0
         self.told = {a: [], b: []}
 
@@ -50,7 +53,7 @@ class World:
         for event in end.events():
             if isinstance(event, events.Packet):
                 packets += 1
-                other.handle_input(event.data)
+                other.handle_input(self.carried(event.data))
             else:
                 self.told[end].append(event)
         return packets
@@ -304,12 +307,82 @@ def test_channels_that_are_agreed_on(channels):
     assert channels.came(b) == ["by the last number"]
 
 
-def test_what_comes_behind_a_reset_that_was_refused():
+def test_a_channel_that_is_closed_before_the_association():
     with Channels(Role.CLIENT) as a, Channels(Role.SERVER) as b:
         world = World(a, b)
         mine, theirs = a.negotiate(5), b.negotiate(5)
-        mine.close()  # its reset is refused, as there is no association
+        mine.close()  # its reset waits for the association
+        world.settle()
+        assert not mine.is_closed
         a.connect()
+        world.settle()
+        assert events.ChannelClosed(mine) in world.told[a] and events.ChannelClosed(theirs) in world.told[b]
+        a.negotiate(5)
+
+
+def test_a_channel_that_is_closed_while_the_answer_to_the_reset_before_is_lost():
+    streams = {"announced_maximum_incoming_streams": 2, "announced_maximum_outgoing_streams": 2}
+    with Channels(Role.CLIENT, Options.for_webrtc(**streams)) as a, Channels(Role.SERVER, Options.for_webrtc(**streams)) as b:
+        world = World(a, b)
+        a.connect()
+        world.settle()
+        first = a.open("first")
+        world.settle()
+        first.close()
+        world.take(a)
+        world.take(b)
+        lost = list(a.events())  # the answer to the reset of the other end is among them
+        assert events.ChannelClosed(first) in lost and any(isinstance(it, events.Packet) for it in lost)
+        second = a.open("second")
+        assert second.id == first.id
+        world.take(a)
+        second.close()
+        world.settle(10 * SECOND)
+        assert events.ChannelClosed(second) in world.told[a]
+        assert world.kinds(b).count(events.ChannelClosed) == 2
+
+
+def test_a_channel_that_the_other_end_does_not_have(channels):
+    a, b = channels.ends
+    alone = a.negotiate(7)
+    alone.close()
+    channels.settle()
+    assert events.ChannelClosed(alone) in channels.told[a]
+    assert events.ChannelClosed not in channels.kinds(b)
+    b.negotiate(7)
+
+
+def test_a_channel_on_a_stream_that_the_association_does_not_have():
+    with Channels(Role.CLIENT) as a, Channels(Role.SERVER, Options.for_webrtc(announced_maximum_incoming_streams=4)) as b:
+        world = World(a, b)
+        opened = [a.open("early") for _ in range(3)]
+        a.connect()
+        world.settle()
+        assert [it.is_closed for it in opened] == [False, False, True]
+        kinds = world.kinds(a)
+        assert kinds.index(events.ChannelClosed) < kinds.index(events.Connected)
+
+
+def without_resets(packet: bytes) -> bytes:
+    """An INIT or an INIT ACK that doesn't say that its sender resets streams."""
+    if packet[12] not in (1, 2):
+        return packet
+    packet = re.sub(rb"(\x80\x08\x00.)\x82", lambda found: found[1] + b"\x83", packet, count=1, flags=re.DOTALL)
+    rest = 2**32 - 1
+    for byte in packet[:8] + bytes(4) + packet[12:]:
+        rest ^= byte
+        for _ in range(8):
+            rest = rest >> 1 ^ (0x82F63B78 if rest & 1 else 0)
+    return packet[:8] + (rest ^ 2**32 - 1).to_bytes(4, "little") + packet[12:]
+
+
+def test_what_comes_behind_a_reset_that_was_refused():
+    with Channels(Role.CLIENT) as a, Channels(Role.SERVER) as b:
+        world = World(a, b, without_resets)
+        mine, theirs = a.negotiate(5), b.negotiate(5)
+        a.connect()
+        world.settle()
+        mine.close()  # its reset is refused, as the peer takes none
         world.settle()
         assert events.ChannelClosed(mine) in world.told[a] and mine.is_closed
         theirs.send("late")

@@ -15,7 +15,7 @@ use Rattle.spec_endpoint.specs.Packets.{PacketDraft, header_to, fits, added_if, 
 use Rattle.spec_endpoint.specs.ResetRequests.{Outcome, Unsettled, Done, Denied, outcome, request_chunk}
 use Rattle.spec_endpoint.specs.Shutdown.{ended, over}
 use Rattle.spec_endpoint.specs.StreamReset.{on_outcome}
-use Rattle.spec_endpoint.specs.Sending.{selective_ack, data_chunk_of, data_chunks, fast_most, is_small}
+use Rattle.spec_endpoint.specs.Sending.{selective_ack, data_chunk_of, data_chunks, fast_most, asks_at_once}
 use Rattle.spec_endpoint.specs.Laws.{Call, called, ending}
 use Rattle.proof_endpoint.specs.Mapped.{Carried}
 use Rattle.proof_endpoint.specs.ReadBack.{as_carried}
@@ -209,7 +209,7 @@ module _ (call : Call) where
   on_sending (sends phase t m) h =
       let act : SendingAct Carried call = sends phase t m in
       let f : fragments.Filling Carried = fragments_of t m in
-      let small : Bool = is_small m.context.options f.sender in
+      let small : Bool = asks_at_once m.context.options t.sender in
       let k = adds_all m.context.pack m.context.emitted.events m.packet (data_chunks t small f.chunks) (data_asks t.capabilities.message_interleaving small f.chunks) h in
       quiet m m.context.emitted (after_sending act).context.emitted refl (sending_act_emits_no_packet_or_status act) (add_all (data_chunks t small f.chunks) m.packet).chunks k
   on_sending (sends_fast phase t m some) h =

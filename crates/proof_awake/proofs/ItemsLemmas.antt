@@ -3,6 +3,8 @@ use Rattle.std.proofs.Common.{◌≡◌, ℕ, zero, suc, Bool, true, false, cond
 use Rattle.std.specs.Prelude.{◌==◌, ◌||◌, ◌-◌, option_map, unwrap_or, slice_get, nat_le}
 use Rattle.sctp_state.specs.Events.{Emitted}
 use Rattle.sctp_state.specs.declared.api.GivenUpCause.TheVariants.{Retransmissions}
+use Rattle.sctp_tx_outstanding.specs.declared.item.MissIndication.{MissIndication}
+use Rattle.sctp_tx_outstanding.specs.declared.item.MissIndication.TheVariants.{Timeout}
 use Rattle.sctp_tx_outstanding.specs.Item.{Item, is_fast, should_be_retransmitted, nack, mark_as_retransmitted, miss_fast}
 use Rattle.sctp_tx_outstanding.specs.OutstandingData.{Items, Outstanding, change_at, flight_items}
 use Rattle.sctp_tx_outstanding.specs.Losses.{Step, abandon_message, abandon_with_record, change_items, is_to_be_abandoned, loses, nack_item, nack_at, nack_below, nack_all, first_step, given_up_if, expired_at, expire_below, expire_outstanding}
@@ -30,32 +32,32 @@ pub none_abandoned : (number : ℕ) (s : Items) → Alike s.kept (abandon_messag
 none_abandoned number s = none_given_up number s s.kept refl
 
 module _ {P : Type 0} where
-  none_missing : (at_once fast : Bool) (k : ℕ) (i : Item) (x : Step P) → Alike x.items.kept (nack_item at_once fast k i x).items.kept
-  none_missing at_once fast k i x = go (is_to_be_abandoned x.items.is_partial at_once i)
+  none_missing : (indication : MissIndication) (fast : Bool) (k : ℕ) (i : Item) (x : Step P) → Alike x.items.kept (nack_item indication fast k i x).items.kept
+  none_missing indication fast k i x = go (is_to_be_abandoned x.items.is_partial indication i)
     where
       given : Step P
       given = abandon_with_record i.number (Retransmissions (i.sent - 1)) x
 
       missing : Step P
-      missing = record x { items = change_items k (nack at_once fast) x.items; is_lossy = x.is_lossy || loses at_once i }
+      missing = record x { items = change_items k (nack indication fast) x.items; is_lossy = x.is_lossy || loses indication i }
 
       go : (b : Bool) → Alike x.items.kept (let y : Step P = cond b given missing in y).items.kept
       go true = none_abandoned i.number x.items
-      go false = none_changed k (nack at_once fast) x.items.kept
+      go false = none_changed k (nack indication fast) x.items.kept
 
-  none_at : (at_once fast : Bool) (k : ℕ) (x : Step P) → Alike x.items.kept (nack_at at_once fast k x).items.kept
-  none_at at_once fast k x = go (slice_get x.items.kept k)
+  none_at : (indication : MissIndication) (fast : Bool) (k : ℕ) (x : Step P) → Alike x.items.kept (nack_at indication fast k x).items.kept
+  none_at indication fast k x = go (slice_get x.items.kept k)
     where
-      go : (o : Option Item) → Alike x.items.kept (unwrap_or (option_map (λ i. nack_item at_once fast k i x) o) x).items.kept
+      go : (o : Option Item) → Alike x.items.kept (unwrap_or (option_map (λ i. nack_item indication fast k i x) o) x).items.kept
       go None = refl
-      go (Some i) = none_missing at_once fast k i x
+      go (Some i) = none_missing indication fast k i x
 
-  pub none_below : (at_once fast : Bool) (n : ℕ) (x : Step P) → Alike x.items.kept (nack_below at_once fast n x).items.kept
-  none_below at_once fast zero x = refl
-  none_below at_once fast (suc n) x = none_at at_once fast n (nack_below at_once fast n x) ∙ none_below at_once fast n x
+  pub none_below : (indication : MissIndication) (fast : Bool) (n : ℕ) (x : Step P) → Alike x.items.kept (nack_below indication fast n x).items.kept
+  none_below indication fast zero x = refl
+  none_below indication fast (suc n) x = none_at indication fast n (nack_below indication fast n x) ∙ none_below indication fast n x
 
   pub none_lost : (s : Items) (e : Emitted P) → Alike s.kept (nack_all s e).items.kept
-  none_lost s e = none_below true false (length s.kept) (first_step s e)
+  none_lost s e = none_below Timeout false (length s.kept) (first_step s e)
 
   none_expired_if : (o : Option ℕ) (x : Step P) → Alike x.items.kept (given_up_if o x).items.kept
   none_expired_if None x = refl

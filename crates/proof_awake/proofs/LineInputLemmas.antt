@@ -1,5 +1,5 @@
 -- Packets and calls leave no stream in line where no item is kept.
-use Rattle.std.proofs.Common.{◌≡◌, ℕ, ◌≤◌, Bool, true, false, Option, Some, None, List, [], ◌∷◌, length, refl, sym, ap, subst, ◌∙◌, arith}
+use Rattle.std.proofs.Common.{◌≡◌, ℕ, ◌≤◌, ◌&&◌, Bool, true, false, Option, Some, None, List, [], ◌∷◌, length, refl, sym, ap, subst, ◌∙◌, arith}
 use Rattle.std.specs.Prelude.{◌==◌, nat_lt}
 use Rattle.std.proofs.lemmas.Bool.{and_parts}
 use Rattle.sctp_serial.specs.Messages.{Message}
@@ -15,7 +15,7 @@ use Rattle.sctp_rx.specs.DataTracker.{is_ack_due}
 use Rattle.spec_endpoint.specs.Association.{Tcb, Phase, CookieEchoed, Established, ShutdownPending, ShutdownSent, ShutdownReceived, ShutdownAckSent, State, Closed, CookieWait, Open, Context, EndpointState, Endpoint, where_open}
 use Rattle.spec_endpoint.specs.Packets.{PacketDraft, add, new_packet, round_down_to_4}
 use Rattle.spec_endpoint.specs.Heartbeats.{on_heartbeat_info, ack_by_length, clear_if_last, is_last_info, info_in}
-use Rattle.spec_endpoint.specs.Sending.{is_before_cookie_ack, selective_ack, take_due_ack, without_duplicates, send_in}
+use Rattle.spec_endpoint.specs.Sending.{is_before_cookie_ack, selective_ack, take_due_ack, without_duplicates, send_unless, send_in}
 use Rattle.spec_endpoint.specs.Shutdown.{on_shutdown, on_shutdown_complete, abort_for_violation, refused_if, aborted_in, causes_text, on_error}
 use Rattle.spec_endpoint.specs.StreamReset.{on_reconfig, prepare_all, reset_if, reset_refusal}
 use Rattle.proof_awake.specs.Awake.{is_restore}
@@ -197,7 +197,11 @@ module _ {P : Type 0} (avoids : Bool) where
 
   -- a sending
   in_phase : (phase : Phase) (t : Tcb) (c : Context P) → Big avoids c → HasNoLine (send_in phase t c) → EndLined avoids (send_in phase t c)
-  in_phase phase t c b n = (big_sent avoids (is_before_cookie_ack phase) (new_packet c.options t) t c b, n)
+  in_phase phase t c b n = (go (is_before_cookie_ack phase && c.options.avoid_stalls), n)
+    where
+      go : (waits : Bool) → Big avoids (send_unless waits (is_before_cookie_ack phase) t c).context
+      go true = b
+      go false = big_sent avoids (is_before_cookie_ack phase) (new_packet c.options t) t c b
 
   in_state : (s : State) (d : Context P) → Big avoids d → HasNoLine (where_open send_in (record { state = s; context = d })) → EndLined avoids (where_open send_in (record { state = s; context = d }))
   in_state Closed d b n = (b, n)

@@ -25,7 +25,7 @@ use Rattle.proof_refines.proofs.FilledLemmas.{filled_by}
 use Rattle.spec_endpoint.specs.Association.{Tcb, Context}
 use Rattle.spec_endpoint.specs.Packets.{PacketDraft, room, fits, added_if, add, add_all, is_some_chunk, has_chunks, emit_if}
 use Rattle.spec_endpoint.specs.ResetRequests.{Request, request_chunk}
-use Rattle.spec_endpoint.specs.Sending.{Filling, ack_if, has_data_to_send, take_due_ack, with_ack, forward_added_if, forward_if, with_expired_abandoned, forward_if_time, with_forward, most_streams, add_request, request_of, request_if, with_request, data_chunks, is_small, with_data, emit_packet, burst_step_if, continue_burst, burst, send_with, selective_ack}
+use Rattle.spec_endpoint.specs.Sending.{Filling, ack_if, has_data_to_send, take_due_ack, with_ack, forward_added_if, forward_if, with_expired_abandoned, forward_if_time, with_forward, most_streams, add_request, request_of, request_if, with_request, data_chunks, asks_at_once, with_data, emit_packet, burst_step_if, continue_burst, burst, send_with, selective_ack}
 use Rattle.proof_awake.specs.Awake.{is_none}
 use Rattle.proof_awake.specs.Invariant.{WindowsHaveRoom}
 use Rattle.proof_awake.specs.Line.{IsNoneInLine}
@@ -233,7 +233,7 @@ module _ {P : Type 0} where
 
   keeps_data : (x : Filling P) → Keeps x (with_data x)
   keeps_data x = record {
-    limit = limit_all (data_chunks x.tcb (is_small x.context.options (sent_of x).sender) (sent_of x).chunks) x.packet;
+    limit = limit_all (data_chunks x.tcb (asks_at_once x.context.options x.tcb.sender) (sent_of x).chunks) x.packet;
     windows_are = room_sent x.context.now (room x.packet) x.tcb.sender x.context.queue x.context.emitted;
   }
 
@@ -274,7 +274,7 @@ module _ {P : Type 0} where
       let m : 44 ≤ y.packet.limit = subst (λ (n : ℕ). 44 ≤ n) (sym t.limit) l in
       later_by k (emit_packet y) (later k) refl m (t.windows_are w) (has_chunks (with_data (emit_packet y)).packet)
   first_by k x l w false e =
-      takes x (none_all (data_chunks x.tcb (is_small x.context.options (sent_of x).sender) (sent_of x).chunks) x.packet e) l w
+      takes x (none_all (data_chunks x.tcb (asks_at_once x.context.options x.tcb.sender) (sent_of x).chunks) x.packet e) l w
 
   bursts : (most : ℕ) (x : Filling P) → 2 ≤ most → 44 ≤ x.packet.limit → WindowsHaveRoom x.tcb.sender.windows → IsDone (burst most true false x)
   bursts zero x m l w = absurd (omega (arith, m))

@@ -7,9 +7,10 @@ use Rattle.sctp_state.specs.Events.{Emitted}
 use Rattle.sctp_state.specs.Timer.{Timer, start, is_running}
 use Rattle.sctp_tx_outstanding.specs.OutstandingData.{Items}
 use Rattle.sctp_tx_outstanding.specs.Resending.{Resent}
+use Rattle.sctp_tx_outstanding.specs.Sack.{sample}
 use Rattle.sctp_tx_queue.specs.SendQueue.{Queue}
 use Rattle.sctp_tx_queue.specs.Settings.{Changed}
-use Rattle.sctp_tx.specs.RetransmissionQueue.{Sender, kept_running, nothing_in_flight, restart_or_stop, t3_after_sack, restarts, step_of, windows_by}
+use Rattle.sctp_tx.specs.RetransmissionQueue.{Sender, kept_running, nothing_in_flight, restart_or_stop, t3_after_sack, restarts, stays_backed_off, backed_off_if, step_of, windows_by}
 use Rattle.sctp_tx.specs.Resent.{resent, start_t3_if}
 use Rattle.sctp_tx.specs.Sending as fragments
 use Rattle.sctp_tx.specs.Sending.{discard_all, without_discards, filled_with, fill, timed_filling, send}
@@ -18,7 +19,7 @@ use Rattle.spec_endpoint.specs.Heartbeats.{restart_interval_if}
 use Rattle.spec_endpoint.specs.Packets.{room}
 use Rattle.proof_awake.specs.Awake.{Runs, BeatsOn}
 use Rattle.proof_awake.specs.Restored.{FlightIsTimed, fragments_for, has_data, EachPacketWithDataStartsTimers, EachSackStartsT3}
-use Rattle.proof_awake.proofs.TimerLemmas.{started, beats_on}
+use Rattle.proof_awake.proofs.TimerLemmas.{started, beats_on, backed_duration}
 use Rattle.proof_awake.proofs.SenderLemmas.{same_t3}
 
 -- kept running for what is in flight
@@ -43,7 +44,8 @@ after_sack false items now t l = kept_timed (nothing_in_flight items) now t l
 pub sack_starts : EachSackStartsT3
 sack_starts now n a_rwnd blocks s emitted l =
     let step = step_of n blocks s emitted in
-    after_sack (restarts (nat_lt s.outstanding.items.acked n) s.windows (windows_by n a_rwnd blocks s step) s.t3) step.items now s.t3 l
+    let stays = stays_backed_off (nat_lt s.outstanding.items.acked n) (sample now n s.outstanding.items) s in
+    after_sack (restarts (nat_lt s.outstanding.items.acked n) s.windows (windows_by n a_rwnd blocks s step) s.t3) step.items now (backed_off_if stays now s.t3) (backed_duration stays now s.t3 l)
 
 -- ---- data
 

@@ -15,7 +15,7 @@ use Rattle.sctp_tx_outstanding.specs.Sack as sack
 use Rattle.sctp_tx.specs.RetransmissionQueue.{Sender, nothing_in_flight, answer_if, sender_if, emitted_if, Valid}
 use Rattle.spec_endpoint.specs.Association.{Tcb, Phase, CookieEchoed, Established, ShutdownPending, ShutdownSent, ShutdownReceived, ShutdownAckSent, State, Closed, CookieWait, Open, Context, EndpointState, where_open}
 use Rattle.spec_endpoint.specs.Packets.{add, packet_to, emit_chunk}
-use Rattle.spec_endpoint.specs.Sending.{AfterSending, is_before_cookie_ack, send_lost, send_in, force_ack}
+use Rattle.spec_endpoint.specs.Sending.{AfterSending, is_before_cookie_ack, open_with, send_lost, send_unless, send_in, force_ack}
 use Rattle.spec_endpoint.specs.Shutdown.{close_with, PhaseStep, pending_next, received_next, maybe_send_shutdown_or_ack, shutdown_in_phase, shutdown_in, shut_by_peer, on_shutdown, on_shutdown_ack_open, on_shutdown_ack_in, on_shutdown_complete, abort, close_in, is_quiet_if, is_quiet}
 use Rattle.spec_endpoint.specs.Data.{fragment_if, accepts_fragment, handle_forward_tsn_if, accepts_point, on_no_data, on_data_in, on_data_if, on_data, on_forward, has_room, told_of_drop}
 use Rattle.spec_endpoint.specs.Sack.{clean_blocks, sample_rtt, clear_errors_if, send_after_sack, after_sack, on_sack_in, is_late, sampled_unless}
@@ -97,9 +97,13 @@ module _ {P : Type 0} (avoids : Bool) where
   where_open_holds row f (Open phase t) c h = f phase t c h
 
   pub send_in_holds : (phase : Phase) (t : Tcb) (c : Context P) → Going phase t c → EndHolds (send_in phase t c)
-  send_in_holds phase t c h =
-      let x = sends_buffered avoids (is_established phase) (waits avoids phase) (is_before_cookie_ack phase) t c (h.0, h.1.1) in
-      (x.0, (h.1.0, x.1))
+  send_in_holds phase t c h = go (is_before_cookie_ack phase && c.options.avoid_stalls)
+    where
+      go : (b : Bool) → EndHolds (open_with phase (send_unless b (is_before_cookie_ack phase) t c))
+      go true = h
+      go false =
+          let x = sends_buffered avoids (is_established phase) (waits avoids phase) (is_before_cookie_ack phase) t c (h.0, h.1.1) in
+          (x.0, (h.1.0, x.1))
 
   -- ---- endings
 

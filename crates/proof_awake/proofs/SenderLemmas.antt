@@ -13,18 +13,18 @@ use Rattle.sctp_tx_outstanding.specs.Item.{Item}
 use Rattle.sctp_tx_outstanding.specs.OutstandingData.{Items, flight_part, flight_bytes, flight_payload, next_number}
 use Rattle.sctp_tx_outstanding.specs.Losses.{nack_all}
 use Rattle.sctp_tx_outstanding.specs.Resending.{Resent}
-use Rattle.sctp_tx_outstanding.specs.Sack.{acked_bytes, leaving, staying, reported_below, receive_sack_first, ack_or_uncover_all}
+use Rattle.sctp_tx_outstanding.specs.Sack.{report_by, acked_bytes, sample, leaving, staying, reported_below, receive_sack_first, ack_or_uncover_all}
 use Rattle.sctp_tx_queue.specs.SendQueue.{Queue}
 use Rattle.sctp_tx_queue.specs.Produced.{Produced, Turn, produce}
 use Rattle.sctp_tx_queue.specs.Settings.{Changed}
 use Rattle.sctp_tx.specs.Windows.{Windows, is_open, saturate_u64}
-use Rattle.sctp_tx.specs.RetransmissionQueue.{Sender, kept_running, nothing_in_flight, restart_or_stop, t3_after_sack, restarts, step_of, windows_by, sender_if, timed_out_sender}
+use Rattle.sctp_tx.specs.RetransmissionQueue.{Sender, kept_running, nothing_in_flight, restart_or_stop, t3_after_sack, restarts, stays_backed_off, backed_off_if, step_of, windows_by, sender_if, timed_out_sender}
 use Rattle.sctp_tx.specs.Resent.{may_send_new, resent, resent_fast, resent_by, start_t3_if, send_fast}
 use Rattle.sctp_tx.specs.ForwardPoints.{abandon_expired}
 use Rattle.sctp_tx.specs.Sending.{Filling, QueueStep, item_of, append, offered_payload, queue_step_if, next_turn, fill, discard_all, without_discards, filled_with, timed_filling, send}
 use Rattle.proof_awake.specs.Awake.{Runs, is_none, ItemsAreTimed}
 use Rattle.proof_awake.specs.Invariant.{Lasts, HasItems, SenderHolds, WindowsHaveRoom}
-use Rattle.proof_awake.proofs.TimerLemmas.{started, goes_on, lasts_started, lasts_stopped, lasts_set, lasts_on}
+use Rattle.proof_awake.proofs.TimerLemmas.{started, goes_on, lasts_started, lasts_stopped, lasts_set, lasts_on, lasts_backed, runs_backed}
 use Rattle.proof_awake.proofs.RoomLemmas.{sack_room, room_started, room_filled}
 use Rattle.proof_awake.proofs.ItemsLemmas.{Alike, is_no_item, none_below, none_lost, none_expired, none_resent}
 
@@ -82,7 +82,7 @@ module _ {P : Type 0} (b : Bool) (now : ℕ) (s : Sender) (h : SenderHolds b s) 
       }
 
 -- a round trip was taken
-pub timed_holds : (b : Bool) (n : ℕ) (s : Sender) → 1 ≤ n → SenderHolds b s → SenderHolds b (record s { t3 = set_duration n s.t3 })
+pub timed_holds : (b : Bool) (n : ℕ) (s : Sender) → 1 ≤ n → SenderHolds b s → SenderHolds b (record s { t3 = set_duration n s.t3; is_sampled = true })
 timed_holds b n s l h = record { lasts = lasts_set n s.t3 l h.lasts; timed = h.timed; some = h.some; windows = h.windows }
 
 -- ---- a SACK
@@ -124,17 +124,17 @@ module _ {P : Type 0} (now n a_rwnd : ℕ) (blocks : List GapAckBlock) (s : Send
 
   none_of_none : s.outstanding.items.kept ≡ [] → is_none after.kept ≡ true
   none_of_none z =
-      none_below false (not (not (is_open n s.windows))) (reported_below blocks (staying n s.outstanding.items)) (receive_sack_first n blocks s.outstanding.items e)
+      none_below (report_by s.windows.avoids_stalls n blocks s.outstanding.items) (not (not (is_open n s.windows))) (reported_below blocks (staying n s.outstanding.items)) (receive_sack_first n blocks s.outstanding.items e)
       ∙ none_acked (drop (leaving n s.outstanding.items) s.outstanding.items.kept) (none_taken (leaving n s.outstanding.items) s.outstanding.items.kept z)
     where
       none_acked : (is : List Item) → is_none is ≡ true → is_none (ack_or_uncover_all blocks 1 is) ≡ true
       none_acked [] h = refl
       none_acked (i ∷ is) h = absurd (cc)
 
-  sack_times : (moved : Bool) → Lasts s.t3 → ItemsAreTimed s.outstanding.items.kept s.t3 → ItemsAreTimed after.kept (t3_after_sack moved after now s.t3)
-  sack_times true l h = restarted after now s.t3 l
-  sack_times false l (inl z) = inl (none_of_none (is_no_item s.outstanding.items.kept z))
-  sack_times false l (inr r) = inr (kept_on (nothing_in_flight after) now s.t3 r)
+  sack_times : (moved backs_off : Bool) → Lasts s.t3 → ItemsAreTimed s.outstanding.items.kept s.t3 → ItemsAreTimed after.kept (t3_after_sack moved after now (backed_off_if backs_off now s.t3))
+  sack_times true backs_off l h = restarted after now (backed_off_if backs_off now s.t3) (lasts_backed backs_off now s.t3 l)
+  sack_times false backs_off l (inl z) = inl (none_of_none (is_no_item s.outstanding.items.kept z))
+  sack_times false backs_off l (inr r) = inr (kept_on (nothing_in_flight after) now (backed_off_if backs_off now s.t3) (runs_backed backs_off now s.t3 l.duration r))
 
   abbrev windows : Windows
   windows = windows_by n a_rwnd blocks s (step_of n blocks s e)
@@ -143,10 +143,14 @@ module _ {P : Type 0} (now n a_rwnd : ℕ) (blocks : List GapAckBlock) (s : Send
   abbrev anew : Bool
   anew = restarts (nat_lt s.outstanding.items.acked n) s.windows windows s.t3
 
+  -- and whether it stays backed off
+  abbrev backs_off : Bool
+  backs_off = stays_backed_off (nat_lt s.outstanding.items.acked n) (sample now n s.outstanding.items) s
+
   pub sack_holds : (b valid : Bool) → SenderHolds b s → SenderHolds false (sender_if valid now n a_rwnd blocks s e)
   sack_holds b true h = record {
-    lasts = lasts_if anew after now s.t3 h.lasts;
-    timed = sack_times anew h.lasts h.timed;
+    lasts = lasts_if anew after now (backed_off_if backs_off now s.t3) (lasts_backed backs_off now s.t3 h.lasts);
+    timed = sack_times anew backs_off h.lasts h.timed;
     some = tt;
     windows = sack_room n a_rwnd (nat_lt s.outstanding.items.acked n) (step_of n blocks s e).is_lossy (saturate_u64 (flight_bytes s.outstanding.items))
         (saturate_u64 (acked_bytes n blocks s.outstanding.items)) (saturate_u64 (flight_payload after)) (next_number after - 1) s.windows h.windows;

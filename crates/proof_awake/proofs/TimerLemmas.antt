@@ -1,10 +1,11 @@
 -- What becomes of a timer that runs.
 use Rattle.std.proofs.Common.{◌≡◌, ℕ, ◌≤◌, inl, inr, Bool, true, false, cond, Option, Some, None, refl, sym, ap, subst, ◌∙◌, arith}
-use Rattle.std.specs.Prelude.{◌==◌, is_some}
+use Rattle.std.specs.Prelude.{◌==◌, is_some, max}
 use Rattle.std.proofs.lemmas.Bool.Decides.{nat_tests}
 use Rattle.sctp_serial.specs.Time.{later}
 use Rattle.sctp_state.specs.Numbers.{more}
 use Rattle.sctp_state.specs.Timer.{Timer, start, stop, set_duration, is_due, expire, expire_once, next_due, is_last_expiry, backoff}
+use Rattle.sctp_tx.specs.RetransmissionQueue.{backed_off_if}
 use Rattle.proof_awake.specs.Awake.{Runs, BeatsOn}
 use Rattle.proof_awake.specs.Invariant.{Lasts}
 
@@ -62,6 +63,22 @@ lasts_stopped t h = record { restarts = h.restarts; duration = h.duration }
 
 pub lasts_set : (n : ℕ) (t : Timer) → 1 ≤ n → Lasts t → Lasts (set_duration n t)
 lasts_set n t l h = record { restarts = h.restarts; duration = l }
+
+at_least : (a b : ℕ) → 1 ≤ a → 1 ≤ max a b
+at_least a b h = omega (arith, h)
+
+-- started with the wait to which it backed off, which is no shorter
+pub backed_duration : (b : Bool) (now : ℕ) (t : Timer) → 1 ≤ t.duration → 1 ≤ (backed_off_if b now t).duration
+backed_duration true now t h = at_least t.duration (backoff t (more t.expiries)) h
+backed_duration false now t h = h
+
+pub lasts_backed : (b : Bool) (now : ℕ) (t : Timer) → Lasts t → Lasts (backed_off_if b now t)
+lasts_backed true now t h = record { restarts = h.restarts; duration = backed_duration true now t h.duration }
+lasts_backed false now t h = h
+
+pub runs_backed : (b : Bool) (now : ℕ) (t : Timer) → 1 ≤ t.duration → Runs t → Runs (backed_off_if b now t)
+runs_backed true now t h r = started now (set_duration (max t.duration (backoff t (more t.expiries))) t) (backed_duration true now t h)
+runs_backed false now t h r = r
 
 pub lasts_on : (now : ℕ) (t : Timer) → Lasts t → Lasts (expire now t)
 lasts_on now t h = record { restarts = expire_restarts now t ∙ h.restarts; duration = subst (λ n. 1 ≤ n) (sym (expire_duration now t)) h.duration }

@@ -10,12 +10,14 @@ use Rattle.sctp_packet.specs.Chunk.{FragmentTree}
 use Rattle.sctp_state.specs.declared.api.GivenUpCause.{GivenUpCause}
 use Rattle.sctp_state.specs.declared.api.GivenUpCause.TheVariants.{Lifetime, Retransmissions}
 use Rattle.sctp_state.specs.Events.{GivenUp, Emitted}
+use Rattle.sctp_tx_outstanding.specs.declared.item.MissIndication.{MissIndication}
+use Rattle.sctp_tx_outstanding.specs.declared.item.MissIndication.TheVariants.{Timeout}
 use Rattle.sctp_tx_outstanding.specs.Item.{Item, is_in_flight, has_nack, is_given_up, is_of, is_fast, is_lost, is_used_up, is_nacked, is_outstanding, should_be_retransmitted, has_expired, nack, abandon, mark_as_retransmitted, miss_fast}
 use Rattle.sctp_tx_outstanding.specs.Item as item
 use Rattle.sctp_tx_outstanding.specs.OutstandingData.{Items, change_at, abandon_if_of, last_of}
 use Rattle.sctp_tx_outstanding.specs.Losses.{placeholder, placeholders, abandon_message, Step, first_step, abandon_with_record, change_items, loses, is_to_be_abandoned, nack_item, nack_below, nack_all, expires, expired_of, option_bind, given_up_if, expire_below, expire_outstanding}
 use Rattle.sctp_tx_outstanding.specs.Resending.{Resent, size_in, allowance, again_of, fast_turn, queued_turn, turn_of, apply_turn, resent_below}
-use Rattle.sctp_tx_outstanding.specs.Sack.{leaving, staying, ack_or_uncover, ack_or_uncover_all, reported_below, receive_sack_first, receive_sack}
+use Rattle.sctp_tx_outstanding.specs.Sack.{report_by, leaving, staying, ack_or_uncover, ack_or_uncover_all, reported_below, receive_sack_first, receive_sack}
 use Rattle.sctp_tx_queue.specs.SendQueue.{Queue}
 use Rattle.sctp_tx_queue.specs.Produced as queued
 use Rattle.sctp_tx_queue.specs.Settings.{Changed}
@@ -46,8 +48,8 @@ module _ (Known : ℕ → ℕ → Option ℕ → ℕ → Type 0) where
   abbrev pub Keeps : Sender → Type 0
   Keeps s = AllStay s.outstanding.items.kept
 
-  nack_stays : (at_once fast : Bool) (i : Item) → Stays i → Stays (nack at_once fast i)
-  nack_stays at_once fast i h e = h (sym (nacked_same (is_lost at_once i) fast i.state) ∙ e)
+  nack_stays : (indication : MissIndication) (fast : Bool) (i : Item) → Stays i → Stays (nack indication fast i)
+  nack_stays indication fast i h e = h (sym (nacked_same (is_lost indication i) fast i.state) ∙ e)
 
   again_stays : (i : Item) → Stays i → Stays (mark_as_retransmitted i)
   again_stays i h e = h (sym (resent_same i.state) ∙ e)
@@ -158,28 +160,28 @@ module _ {P : Type 0} (Known : ℕ → ℕ → Option ℕ → ℕ → Type 0) (R
   gives : (number : ℕ) (cause : GivenUpCause) (x : Step P) → Right (record { number = number; cause = cause }) → Fares x → Fares (abandon_with_record number cause x)
   gives number cause x r h = record { stay = abandons Known number x.items h.stay; right = all_behind Right x.emitted.given_up _ h.right (r, tt) }
 
-  nacks_item : (b at_once fast is_lossy : Bool) (k : ℕ) (i : Item) (x : Step P) → is_to_be_abandoned x.items.is_partial at_once i ≡ b → Stays Known i → Fares x
-      → Fares (cond b (abandon_with_record i.number (Retransmissions (i.sent - 1)) x) (record x { items = change_items k (nack at_once fast) x.items; is_lossy = is_lossy }))
-  nacks_item true at_once fast is_lossy k i x e s h =
-      let lost : loses at_once i ≡ true = (and_parts (loses at_once i) (x.items.is_partial && is_used_up i) e).0 in
-      let flown : is_in_flight i.state ≡ true = (and_parts (is_outstanding i) (is_lost at_once i) lost).0 in
-      let spent : is_used_up i ≡ true = (and_parts x.items.is_partial (is_used_up i) (and_parts (loses at_once i) (x.items.is_partial && is_used_up i) e).1).1 in
+  nacks_item : (b : Bool) (indication : MissIndication) (fast is_lossy : Bool) (k : ℕ) (i : Item) (x : Step P) → is_to_be_abandoned x.items.is_partial indication i ≡ b → Stays Known i → Fares x
+      → Fares (cond b (abandon_with_record i.number (Retransmissions (i.sent - 1)) x) (record x { items = change_items k (nack indication fast) x.items; is_lossy = is_lossy }))
+  nacks_item true indication fast is_lossy k i x e s h =
+      let lost : loses indication i ≡ true = (and_parts (loses indication i) (x.items.is_partial && is_used_up i) e).0 in
+      let flown : is_in_flight i.state ≡ true = (and_parts (is_outstanding i) (is_lost indication i) lost).0 in
+      let spent : is_used_up i ≡ true = (and_parts x.items.is_partial (is_used_up i) (and_parts (loses indication i) (x.items.is_partial && is_used_up i) e).1).1 in
       gives i.number (Retransmissions (i.sent - 1)) x
       (used i.fragment.stream_id i.number i.limit (i.sent - 1) i.expires (s (in_flight_lives i.state flown)) (leb-true i.limit (i.sent - 1) spent)) h
-  nacks_item false at_once fast is_lossy k i x e s h =
-      record { stay = changed Known (nack at_once fast) k x.items.kept (nack_stays Known at_once fast) h.stay; right = h.right }
+  nacks_item false indication fast is_lossy k i x e s h =
+      record { stay = changed Known (nack indication fast) k x.items.kept (nack_stays Known indication fast) h.stay; right = h.right }
 
-  nacks_at : (o : Option Item) (at_once fast : Bool) (k : ℕ) (x : Step P) → slice_get x.items.kept k ≡ o → Fares x
-      → Fares (unwrap_or (option_map (λ i. nack_item at_once fast k i x) o) x)
-  nacks_at None at_once fast k x e h = h
-  nacks_at (Some i) at_once fast k x e h =
-      nacks_item (is_to_be_abandoned x.items.is_partial at_once i) at_once fast (x.is_lossy || loses at_once i) k i x refl (found Known k x.items.kept i h.stay e) h
+  nacks_at : (o : Option Item) (indication : MissIndication) (fast : Bool) (k : ℕ) (x : Step P) → slice_get x.items.kept k ≡ o → Fares x
+      → Fares (unwrap_or (option_map (λ i. nack_item indication fast k i x) o) x)
+  nacks_at None indication fast k x e h = h
+  nacks_at (Some i) indication fast k x e h =
+      nacks_item (is_to_be_abandoned x.items.is_partial indication i) indication fast (x.is_lossy || loses indication i) k i x refl (found Known k x.items.kept i h.stay e) h
 
-  nacks_below : (at_once fast : Bool) (n : ℕ) (x : Step P) → Fares x → Fares (nack_below at_once fast n x)
-  nacks_below at_once fast zero x h = h
-  nacks_below at_once fast (suc n) x h =
-      let y : Step P = nack_below at_once fast n x in
-      nacks_at (slice_get y.items.kept n) at_once fast n y refl (nacks_below at_once fast n x h)
+  nacks_below : (indication : MissIndication) (fast : Bool) (n : ℕ) (x : Step P) → Fares x → Fares (nack_below indication fast n x)
+  nacks_below indication fast zero x h = h
+  nacks_below indication fast (suc n) x h =
+      let y : Step P = nack_below indication fast n x in
+      nacks_at (slice_get y.items.kept n) indication fast n y refl (nacks_below indication fast n x h)
 
   expires_item : (b : Bool) (i : Item) (x : Step P) → (x.items.is_partial && expires now i) ≡ b → Stays Known i → Fares x
       → Fares (given_up_if (cond b (Some i.number) None) x)
@@ -203,14 +205,14 @@ module _ {P : Type 0} (Known : ℕ → ℕ → Option ℕ → ℕ → Type 0) (R
       expires_at (slice_get y.items.kept n) n y refl (expires_below n x h)
 
   pub fares_nack_all : (s : Items) (t : Emitted P) → AllStay Known s.kept → Emits t → Fares (nack_all s t)
-  fares_nack_all s t h k = nacks_below true false (length s.kept) (first_step s t) (record { stay = h; right = k })
+  fares_nack_all s t h k = nacks_below Timeout false (length s.kept) (first_step s t) (record { stay = h; right = k })
 
   pub fares_expired : (s : Items) (t : Emitted P) → AllStay Known s.kept → Emits t → Fares (expire_outstanding now s t)
   fares_expired s t h k = expires_below (length s.kept) (first_step s t) (record { stay = h; right = k })
 
-  fares_received : (n : ℕ) (blocks : List GapAckBlock) (fast : Bool) (s : Items) (t : Emitted P) → AllStay Known s.kept → Emits t → Fares (receive_sack n blocks fast s t)
-  fares_received n blocks fast s t h k =
-      nacks_below false (not fast) (reported_below blocks (staying n s)) (receive_sack_first n blocks s t)
+  fares_received : (n : ℕ) (blocks : List GapAckBlock) (once fast : Bool) (s : Items) (t : Emitted P) → AllStay Known s.kept → Emits t → Fares (receive_sack n blocks once fast s t)
+  fares_received n blocks once fast s t h k =
+      nacks_below (report_by once n blocks s) (not fast) (reported_below blocks (staying n s)) (receive_sack_first n blocks s t)
       (record { stay = settles Known blocks 1 (drop (leaving n s) s.kept) (dropped Known (leaving n s) s.kept h); right = k })
 
   -- a sender, and what was emitted
@@ -221,8 +223,8 @@ module _ {P : Type 0} (Known : ℕ → ℕ → Option ℕ → ℕ → Type 0) (R
   pub goes_sack : (is_valid : Bool) (n a_rwnd : ℕ) (blocks : List GapAckBlock) (s : Sender) (t : Emitted P) → Goes s t
       → Goes (sender_if is_valid now n a_rwnd blocks s t) (emitted_if is_valid n blocks s t)
   goes_sack true n a_rwnd blocks s t h =
-      let f : Fares (receive_sack n blocks (not (is_open n s.windows)) s.outstanding.items t) =
-      fares_received n blocks (not (is_open n s.windows)) s.outstanding.items t h.keeps h.right in
+      let f : Fares (receive_sack n blocks s.windows.avoids_stalls (not (is_open n s.windows)) s.outstanding.items t) =
+      fares_received n blocks s.windows.avoids_stalls (not (is_open n s.windows)) s.outstanding.items t h.keeps h.right in
       record { keeps = f.stay; right = f.right }
   goes_sack false n a_rwnd blocks s t h = h
 

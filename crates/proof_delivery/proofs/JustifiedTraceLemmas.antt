@@ -12,14 +12,14 @@ use Rattle.sctp_state.specs.Options.{Options, SendOptions}
 use Rattle.spec_endpoint.specs.Association.{EndpointState, Endpoint, where_open, with_context}
 use Rattle.sctp_state.specs.declared.api.errors.ResetStreamsError.{ResetStreamsError}
 use Rattle.spec_endpoint.specs.StreamReset.{reset_refusal, reset_if}
-use Rattle.spec_endpoint.specs.Sending.{is_before_cookie_ack, send_in}
+use Rattle.spec_endpoint.specs.Sending.{send_in}
 use Rattle.spec_endpoint.specs.Calls.{shown_state, send_refusal_of, offer, offer_all, sent_if}
 use Rattle.spec_endpoint.specs.Input.{packet_refusal, in_endpoint_state}
 use Rattle.spec_endpoint.specs.Laws.{Call, Connect, Close, Shutdown, Send, SendMany, ResetStreams, TakeMessage, SetLowThreshold, SetPriority, SetMaxMessageSize, Advance, HandOver, Restore, ReceivePacket, ReceiveNoPacket, called}
 use Rattle.proof_endpoint.specs.Mapped.{Carried}
 use Rattle.proof_endpoint.specs.Acts.{idle, calm, IsOffered}
 use Rattle.proof_pair.specs.Trace.{Side, Pair, emitted_packets, EndAction, Calls, Gives, Refuses, as_received, drain, give_carried, foreign_if, act, goes, side_of, start, state_of}
-use Rattle.proof_endpoint.proofs.PacketActsLemmas.{does_send_buffered}
+use Rattle.proof_endpoint.proofs.CallActsLemmas.{does_send_in}
 use Rattle.proof_endpoint.proofs.RowActsLemmas.{placed, does_where_open}
 use Rattle.proof_endpoint.proofs.ActsLemmas.{keeps_call}
 use Rattle.proof_endpoint.proofs.LivesLemmas.{offers, not_offered}
@@ -58,7 +58,7 @@ module _ (old : List Acceptance) where
   sent_sound : (s : EndpointState Carried) (w : Stream) → SoundAt old [] (placed s w) → SoundAt old [] (placed (where_open send_in s) w)
   sent_sound s w h =
       let k = stays_sound old [] TakeMessage (no_offer TakeMessage refl) (λ s is. not_steady TakeMessage (Restore s) refl is refl) (λ streams is. cc) in
-      does_where_open k w send_in s (λ phase t c. does_send_buffered k phase w (is_before_cookie_ack phase) t c) h
+      does_where_open k w send_in s (does_send_in k w) h
 
   sent_if_sound : (r : Option SendError) (s : EndpointState Carried) (w : Stream) → SoundAt old [] (placed s w) → SoundAt old [] (placed (sent_if r s) w)
   sent_if_sound None s w h = sent_sound s w h

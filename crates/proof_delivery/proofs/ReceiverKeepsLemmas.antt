@@ -21,7 +21,7 @@ use Rattle.spec_endpoint.specs.Association.{Tcb, Phase, CookieEchoed, CookieWait
 use Rattle.spec_endpoint.specs.Packets.{room, add_all}
 use Rattle.spec_endpoint.specs.ResetRequests.{Request, Outcome, Unsettled, Done, Denied, ids, request_chunk, in_progress, outcome, set_last_request}
 use Rattle.spec_endpoint.specs.StreamReset.{is_ahead, on_outcome}
-use Rattle.spec_endpoint.specs.Sending.{is_small, data_chunk_of, data_chunks, fast_most}
+use Rattle.spec_endpoint.specs.Sending.{asks_at_once, data_chunk_of, data_chunks, fast_most}
 use Rattle.spec_endpoint.specs.Laws.{Call}
 use Rattle.proof_endpoint.specs.Mapped.{Carried}
 use Rattle.proof_endpoint.specs.Acts.{EndWithPacket, point_of, IsAsked, IsDue, AsksNoIncoming, Answers, in_open, in_state, with_packet, fragments_of, SackAct, takes_sack, samples, counts_errors, before_sack, after_sack, SendingAct, asks, forces_ack, adds_ack, expires, adds_forward, forwards_later, asks_no_reset, asks_reset, adds_request, sends, sends_fast, before_sending, after_sending, TimeAct, advances, delay_ends, times_out, beats, times_init, times_cookie, times_request, times_items, wakes_request, before_time, after_time, CallAct, accepts, refuses, takes_message, sets_low_threshold, sets_priority, sets_max_message_size, before_call, after_call, ResetAct, prepares, defers, performs, processes, takes_response, adds_responses, before_reset, after_reset, InputAct, ends_packet, before_input, after_input}
@@ -133,11 +133,11 @@ module _ (message : ℕ → Message) (lifecycle : ℕ → Option ℕ) (is_interl
   goes_sending (sends phase t m) inv =
       let act : SendingAct Carried call = sends phase t m in
       let f = fragments_of t m in
-      let chunks : List ChunkTree = data_chunks t (is_small m.context.options f.sender) f.chunks in
+      let chunks : List ChunkTree = data_chunks t (asks_at_once m.context.options t.sender) f.chunks in
       let filled : EndWithPacket Carried = with_packet (add_all chunks m.packet) (in_open phase t m) in
       goes_through message lifecycle is_interleaved from handed (in_open phase t m) filled (after_sending act)
       (goes_adding_all message lifecycle is_interleaved from handed (in_open phase t m) chunks
-      (λ x. data_says t.tracker.first (transfer_of from).acknowledged x t (is_small m.context.options f.sender) f.chunks))
+      (λ x. data_says t.tracker.first (transfer_of from).acknowledged x t (asks_at_once m.context.options t.sender) f.chunks))
       (goes_same message lifecycle is_interleaved from handed filled (after_sending act)
       (λ x h. rest_changes message is_interleaved handed t f.sender t.rtt t.requests x refl refl h) refl (same_packets m.context.emitted (after_sending act).context.emitted (sending_act_emits_no_packet_or_status act))
       (resets_sent m.context.now (room m.packet) t.sender m.context.queue m.context.emitted) refl)

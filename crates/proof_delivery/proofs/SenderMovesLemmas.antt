@@ -11,6 +11,7 @@ use Rattle.sctp_capabilities.specs.Capabilities.{Capabilities}
 use Rattle.sctp_state.specs.Timer.{is_due}
 use Rattle.sctp_state.specs.TxErrorCounter.{one_error}
 use Rattle.sctp_tx_queue.specs.SendQueue.{Queue}
+use Rattle.sctp_tx_outstanding.specs.declared.item.MissIndication.TheVariants.{Timeout}
 use Rattle.sctp_tx_outstanding.specs.OutstandingData.{Items, fast_items}
 use Rattle.sctp_tx_outstanding.specs.Forward.{is_forward_due}
 use Rattle.sctp_tx_outstanding.specs.Losses.{first_step, expire_outstanding}
@@ -39,7 +40,7 @@ use Rattle.proof_refines.proofs.SendLemmas.{fast_row, send_row}
 use Rattle.proof_refines.proofs.WholeLemmas.{timeout_row, expiry_row, received_row, shown_again}
 use Rattle.spec_endpoint.specs.Association.{Tcb, Phase, Context}
 use Rattle.spec_endpoint.specs.Packets.{PacketDraft, room, add, add_all}
-use Rattle.spec_endpoint.specs.Sending.{data_chunk_of, data_chunks, is_small, fast_most}
+use Rattle.spec_endpoint.specs.Sending.{data_chunk_of, data_chunks, asks_at_once, fast_most}
 use Rattle.spec_endpoint.specs.Sack.{clean_blocks}
 use Rattle.spec_endpoint.specs.Laws.{Call}
 use Rattle.proof_endpoint.specs.Mapped.{Carried}
@@ -192,7 +193,7 @@ module _ (message : ℕ → Message) (lifecycle : ℕ → Option ℕ) (is_interl
       led_claims message lifecycle is_interleaved from phase t m (timed_out_sender m.context.now (timeout_of t m).items t.sender) (timeout_of t m).emitted
       (record m.context { emitted = (timeout_of t m).emitted; errors = one_error m.context.errors }) refl refl prepared x a
       (timeout_row message lifecycle is_interleaved (transfer_of x) m.context.queue t.sender a.kept.epochs.order.kept a.shown.refines m.context.emitted m.context.now)
-      (nacks_keep true false (length t.sender.outstanding.items.kept) (first_step t.sender.outstanding.items m.context.emitted))
+      (nacks_keep Timeout false (length t.sender.outstanding.items.kept) (first_step t.sender.outstanding.items m.context.emitted))
       (timed_out_same m.context.now (timeout_of t m).items t.sender) (quiet_nack_all t.sender.outstanding.items m.context.emitted)
       (resets_timed_out t.sender.outstanding.items m.context.emitted)
 
@@ -302,7 +303,7 @@ module _ (message : ℕ → Message) (lifecycle : ℕ → Option ℕ) (is_interl
       let first = t.sender.outstanding.first in
       let least = (transfer_of from).acknowledged in
       let stays = send_same now most t.sender q emitted in
-      let is_immediate = is_small m.context.options f.sender in
+      let is_immediate = asks_at_once m.context.options t.sender in
       let says = says_data message is_interleaved first least y t.capabilities.message_interleaving is_immediate (interleaves phase t m inv) (transfer_of x).acknowledged
       (left_more message lifecycle is_interleaved from prepared (in_open phase t m) x premises.kept a) f.chunks s.carried in
       let b : EndWithPacket Carried = after_sending {call = call} (sends phase t m) in (

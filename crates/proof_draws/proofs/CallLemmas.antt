@@ -1,12 +1,12 @@
 -- The calls of the user under other names.
-use Rattle.std.proofs.Common.{◌≡◌, ℕ, ◌==◌, bit_or, Bool, true, false, Option, Some, None, option_map, List, [], ◌∷◌, refl, ap, ◌∙◌}
+use Rattle.std.proofs.Common.{◌≡◌, ℕ, ◌==◌, ◌&&◌, bit_or, Bool, true, false, Option, Some, None, option_map, List, [], ◌∷◌, refl, ap, ◌∙◌}
 use Rattle.sctp_serial.specs.Messages.{Message}
 use Rattle.sctp_state.specs.declared.api.SocketState.{SocketState}
 use Rattle.sctp_state.specs.declared.api.errors.ResetStreamsError.{ResetStreamsError}
 use Rattle.sctp_state.specs.declared.api.errors.SendError.{SendError}
 use Rattle.sctp_state.specs.Options.{SendOptions, Options}
 use Rattle.spec_endpoint.specs.Association.{Tcb, Phase, CookieEchoed, Established, ShutdownPending, ShutdownSent, ShutdownReceived, ShutdownAckSent, State, Closed, CookieWait, Open, Context, EndpointState, with_context, where_open, Packing}
-use Rattle.spec_endpoint.specs.Sending.{AfterSending, is_before_cookie_ack, open_with, send_buffered, send_in}
+use Rattle.spec_endpoint.specs.Sending.{AfterSending, is_before_cookie_ack, open_with, send_buffered, send_unless, send_in}
 use Rattle.spec_endpoint.specs.Calls.{shown_phase, shown_state, send_refusal, offered, offer, sent_if, send, offer_all, send_many, take_message, message_taken_in, told_if, opens_window, without_first_message}
 use Rattle.spec_endpoint.specs.ResetRequests.{Request}
 use Rattle.spec_endpoint.specs.StreamReset.{reset_refusal, prepare_reset_stream, prepare_all, reset_if, reset_streams}
@@ -17,7 +17,7 @@ use Rattle.proof_draws.specs.NamedChunks.{Names, AreNames}
 use Rattle.proof_draws.specs.Names.{named_request, named_phase, named_tcb, named_state, named_endpoint_state, plain}
 use Rattle.proof_draws.proofs.WritingLemmas.{Knows}
 use Rattle.proof_draws.proofs.TagLemmas.{alone_named}
-use Rattle.proof_draws.proofs.FillingLemmas.{send_buffered_named}
+use Rattle.proof_draws.proofs.FillingLemmas.{named_sent, send_buffered_named}
 use Rattle.proof_draws.proofs.ClosingLemmas.{OpenIsNamed, where_named}
 
 module _ (n : Names) where
@@ -121,10 +121,15 @@ module _ {P : Type 0} where
   offer_all_stays (m ∷ ms) how shown c = offer_all_stays ms how shown (offer m how shown c) ∙ offered_stays (send_refusal m shown c) m how c
 
 module _ {P : Type 0} (n : Names) (are : AreNames n) (pack : Packing P) where
+  send_unless_named : (waits is_alone : Bool) (t : Tcb) (c : Context P) → Knows n pack c → send_unless waits is_alone (named_tcb n t) (plain pack c) ≡ named_sent n pack (send_unless waits is_alone t c)
+  send_unless_named true is_alone t c k = refl
+  send_unless_named false is_alone t c k = send_buffered_named n are pack is_alone t c k
+
   send_in_named : OpenIsNamed n pack send_in
   send_in_named phase t c k =
-      ap (λ (b : Bool). open_with (named_phase n phase) (send_buffered b (named_tcb n t) (plain pack c))) (alone_named n phase)
-      ∙ ap (λ (x : AfterSending P). open_with (named_phase n phase) x) (send_buffered_named n are pack (is_before_cookie_ack phase) t c k)
+      let alone : Bool = is_before_cookie_ack phase in
+      ap (λ (b : Bool). open_with (named_phase n phase) (send_unless (b && c.options.avoid_stalls) b (named_tcb n t) (plain pack c))) (alone_named n phase)
+      ∙ ap (λ (x : AfterSending P). open_with (named_phase n phase) x) (send_unless_named (alone && c.options.avoid_stalls) alone t c k)
 
   sent_if_named : (o : Option SendError) (s : EndpointState P) → Knows n pack s.context → sent_if o (named_endpoint_state n pack s) ≡ named_endpoint_state n pack (sent_if o s)
   sent_if_named None s k = where_named n are pack send_in s send_in_named k

@@ -13,7 +13,7 @@ use Rattle.spec_endpoint.specs.Association.{Tcb, Phase, CookieEchoed, Establishe
 use Rattle.spec_endpoint.specs.Packets.{PacketDraft, add, add_all, header_to}
 use Rattle.spec_endpoint.specs.ResetRequests.{Outcome, Unsettled, Done, Denied, outcome}
 use Rattle.spec_endpoint.specs.StreamReset.{on_outcome}
-use Rattle.spec_endpoint.specs.Sending.{is_before_cookie_ack, data_chunk_of, data_chunks, fast_most, is_small}
+use Rattle.spec_endpoint.specs.Sending.{is_before_cookie_ack, data_chunk_of, data_chunks, fast_most, asks_at_once}
 use Rattle.spec_endpoint.specs.Laws.{Call, Connect, Shutdown, Restore, called}
 use Rattle.proof_endpoint.specs.Mapped.{Carried}
 use Rattle.sctp_tx.specs.Resent.{resent_fast}
@@ -236,7 +236,7 @@ module _ (call : Call) (g : Receives call) where
   sending_acts_emit (asks_no_reset most m none) = λ z. z
   sending_acts_emit (asks_reset most stream streams phase t m some free) = λ z. z
   sending_acts_emit (adds_request k phase t m is) = adds_to (Open phase t) m (re_config_chunk _) (λ e. refl)
-  sending_acts_emit (sends phase t m) = λ h. no_packet_or_status_at (May call (Open phase t)) (record m { packet = (after_sending {call = call} (sends phase t m)).packet }) (after_sending {call = call} (sends phase t m)) (sending_act_emits_no_packet_or_status {call = call} (sends phase t m)) (emitted_adds_all (May call (Open phase t)) m.context.pack m.context.emitted.events (data_chunks t (is_small m.context.options (fragments_of t m).sender) (fragments_of t m).chunks) m.packet h (data_may call phase t t.capabilities.message_interleaving (is_small m.context.options (fragments_of t m).sender) (fragments_of t m).chunks))
+  sending_acts_emit (sends phase t m) = λ h. no_packet_or_status_at (May call (Open phase t)) (record m { packet = (after_sending {call = call} (sends phase t m)).packet }) (after_sending {call = call} (sends phase t m)) (sending_act_emits_no_packet_or_status {call = call} (sends phase t m)) (emitted_adds_all (May call (Open phase t)) m.context.pack m.context.emitted.events (data_chunks t (asks_at_once m.context.options t.sender) (fragments_of t m).chunks) m.packet h (data_may call phase t t.capabilities.message_interleaving (asks_at_once m.context.options t.sender) (fragments_of t m).chunks))
   sending_acts_emit (sends_fast phase t m some) = λ h. emitted_adds_all (May call (Open phase t)) m.context.pack m.context.emitted.events (data_chunks t false (resent_fast (fast_most m.context.options) t.sender).chunks) m.packet h (data_may call phase t t.capabilities.message_interleaving false (resent_fast (fast_most m.context.options) t.sender).chunks)
 
   time_acts_emit : (act : TimeAct Carried call) → R (before_time act) (after_time act)

@@ -9,13 +9,15 @@ use Rattle.sctp_packet.specs.Grammar.{Each}
 use Rattle.sctp_state.specs.declared.api.GivenUpCause.{GivenUpCause}
 use Rattle.sctp_state.specs.declared.api.GivenUpCause.TheVariants.{Lifetime, Retransmissions}
 use Rattle.sctp_state.specs.Events.{Emitted}
+use Rattle.sctp_tx_outstanding.specs.declared.item.MissIndication.{MissIndication}
+use Rattle.sctp_tx_outstanding.specs.declared.item.MissIndication.TheVariants.{Timeout}
 use Rattle.sctp_tx_outstanding.specs.declared.item.ItemState.{ItemState}
 use Rattle.sctp_tx_outstanding.specs.declared.item.ItemState.TheVariants.{InFlight, Missing, Queued, QueuedFast, Acked, GivenUp}
 use Rattle.sctp_tx_outstanding.specs.Item as item
 use Rattle.sctp_tx_outstanding.specs.Item.{Item, is_in_flight, waits, waits_fast, is_given_up, is_of, is_lost, is_fast, should_be_retransmitted, nack_state, mark_as_retransmitted, miss_fast}
 use Rattle.sctp_tx_outstanding.specs.OutstandingData.{Items, Outstanding, change_at, abandon_if_of, last_of}
 use Rattle.sctp_tx_outstanding.specs.Losses.{placeholder, placeholders, end_with_placeholder, Step, abandon_with_record, change_items, is_to_be_abandoned, loses, nack_item, nack_below, nack_all, first_step, expired_at, given_up_if, expire_below, expire_outstanding}
-use Rattle.sctp_tx_outstanding.specs.Sack.{leaving, staying, ack_or_uncover_all, ack_or_uncover, reported_below, receive_sack_first, receive_sack}
+use Rattle.sctp_tx_outstanding.specs.Sack.{report_by, leaving, staying, ack_or_uncover_all, ack_or_uncover, reported_below, receive_sack_first, receive_sack}
 use Rattle.sctp_tx_outstanding.specs.Resending.{Resent, size_in, allowance, again_of, again_at, passed_over, fast_turn, queued_turn, turn_of, apply_turn, resent_below, empty_packet, resend}
 use Rattle.proof_endpoint.proofs.ReceivedLemmas.{each_append, each_push, each_drop}
 
@@ -101,9 +103,9 @@ settle_filled : (blocks : List GapAckBlock) (offset : ℕ) (is : List Item) → 
 settle_filled blocks offset [] h = tt
 settle_filled blocks offset (i ∷ is) h = (ack_or_uncover_filled (is_covered blocks offset) i h.0, settle_filled blocks (suc offset) is h.1)
 
-nack_filled : (at_once fast : Bool) (i : Item) → IsFilled i → IsFilled (item.nack at_once fast i)
-nack_filled at_once fast i h =
-    goes i (item.nack at_once fast i) refl (λ e. ap (λ (s : ItemState). is_given_up (cond (is_in_flight s) (nack_state (is_lost at_once i) fast) s)) e) h
+nack_filled : (indication : MissIndication) (fast : Bool) (i : Item) → IsFilled i → IsFilled (item.nack indication fast i)
+nack_filled indication fast i h =
+    goes i (item.nack indication fast i) refl (λ e. ap (λ (s : ItemState). is_given_up (cond (is_in_flight s) (nack_state (is_lost indication i) fast) s)) e) h
 
 resent_filled : (i : Item) → IsFilled i → IsFilled (mark_as_retransmitted i)
 resent_filled i h = goes i (mark_as_retransmitted i) refl (λ e. ap (λ (s : ItemState). is_given_up (item.resent s)) e) h
@@ -118,27 +120,27 @@ module _ {P : Type 0} where
   given_up_filled : (number : ℕ) (cause : GivenUpCause) (x : Step P) → StepIsFilled x → StepIsFilled (abandon_with_record number cause x)
   given_up_filled number cause x h = map_filled (abandon_if_of number) (laid_filled number) (end_with_placeholder number x.items).kept (closed_filled number x.items h)
 
-  nack_item_filled : (at_once fast : Bool) (k : ℕ) (i : Item) (x : Step P) → StepIsFilled x → StepIsFilled (nack_item at_once fast k i x)
-  nack_item_filled at_once fast k i x h = go (is_to_be_abandoned x.items.is_partial at_once i)
+  nack_item_filled : (indication : MissIndication) (fast : Bool) (k : ℕ) (i : Item) (x : Step P) → StepIsFilled x → StepIsFilled (nack_item indication fast k i x)
+  nack_item_filled indication fast k i x h = go (is_to_be_abandoned x.items.is_partial indication i)
     where
       go : (b : Bool) → StepIsFilled (cond b (abandon_with_record i.number (Retransmissions (i.sent - 1)) x)
-          (record x { items = change_items k (item.nack at_once fast) x.items; is_lossy = x.is_lossy || loses at_once i }))
+          (record x { items = change_items k (item.nack indication fast) x.items; is_lossy = x.is_lossy || loses indication i }))
       go true = given_up_filled i.number (Retransmissions (i.sent - 1)) x h
-      go false = change_filled (item.nack at_once fast) (nack_filled at_once fast) k x.items.kept h
+      go false = change_filled (item.nack indication fast) (nack_filled indication fast) k x.items.kept h
 
-  nack_at_filled : (o : Option Item) (at_once fast : Bool) (k : ℕ) (x : Step P) → StepIsFilled x
-      → StepIsFilled (unwrap_or (option_map (λ i. nack_item at_once fast k i x) o) x)
-  nack_at_filled None at_once fast k x h = h
-  nack_at_filled (Some i) at_once fast k x h = nack_item_filled at_once fast k i x h
+  nack_at_filled : (o : Option Item) (indication : MissIndication) (fast : Bool) (k : ℕ) (x : Step P) → StepIsFilled x
+      → StepIsFilled (unwrap_or (option_map (λ i. nack_item indication fast k i x) o) x)
+  nack_at_filled None indication fast k x h = h
+  nack_at_filled (Some i) indication fast k x h = nack_item_filled indication fast k i x h
 
-  nacks_filled : (at_once fast : Bool) (n : ℕ) (x : Step P) → StepIsFilled x → StepIsFilled (nack_below at_once fast n x)
-  nacks_filled at_once fast zero x h = h
-  nacks_filled at_once fast (suc n) x h =
-      let y : Step P = nack_below at_once fast n x in
-      nack_at_filled (slice_get y.items.kept n) at_once fast n y (nacks_filled at_once fast n x h)
+  nacks_filled : (indication : MissIndication) (fast : Bool) (n : ℕ) (x : Step P) → StepIsFilled x → StepIsFilled (nack_below indication fast n x)
+  nacks_filled indication fast zero x h = h
+  nacks_filled indication fast (suc n) x h =
+      let y : Step P = nack_below indication fast n x in
+      nack_at_filled (slice_get y.items.kept n) indication fast n y (nacks_filled indication fast n x h)
 
   pub nack_all_filled : (s : Items) (t : Emitted P) → AreFilled s → AreFilled (nack_all s t).items
-  nack_all_filled s t h = nacks_filled true false (length s.kept) (first_step s t) h
+  nack_all_filled s t h = nacks_filled Timeout false (length s.kept) (first_step s t) h
 
   given_up_if_filled : (o : Option ℕ) (x : Step P) → StepIsFilled x → StepIsFilled (given_up_if o x)
   given_up_if_filled None x h = h
@@ -153,9 +155,9 @@ module _ {P : Type 0} where
   pub expired_filled : (now : ℕ) (s : Items) (t : Emitted P) → AreFilled s → AreFilled (expire_outstanding now s t).items
   expired_filled now s t h = expire_filled now (length s.kept) (first_step s t) h
 
-  pub receive_filled : (n : ℕ) (blocks : List GapAckBlock) (fast : Bool) (s : Items) (t : Emitted P) → AreFilled s → AreFilled (receive_sack n blocks fast s t).items
-  receive_filled n blocks fast s t h =
-      nacks_filled false (not fast) (reported_below blocks (staying n s)) (receive_sack_first n blocks s t)
+  pub receive_filled : (n : ℕ) (blocks : List GapAckBlock) (once fast : Bool) (s : Items) (t : Emitted P) → AreFilled s → AreFilled (receive_sack n blocks once fast s t).items
+  receive_filled n blocks once fast s t h =
+      nacks_filled (report_by once n blocks s) (not fast) (reported_below blocks (staying n s)) (receive_sack_first n blocks s t)
       (settle_filled blocks 1 (drop (leaving n s) s.kept) (each_drop IsFilled (leaving n s) s.kept h))
 
 -- ---- what is sent again

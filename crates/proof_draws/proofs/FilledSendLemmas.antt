@@ -27,7 +27,7 @@ SenderIsFilled s = AreFilled s.outstanding.items
 module _ {P : Type 0} where
   pub received_filled : (b : Bool) (now n a_rwnd : ℕ) (blocks : List GapAckBlock) (s : Sender) (t : Emitted P) → SenderIsFilled s
       → SenderIsFilled (sender_if b now n a_rwnd blocks s t)
-  received_filled true now n a_rwnd blocks s t h = receive_filled n blocks (not (is_open n s.windows)) s.outstanding.items t h
+  received_filled true now n a_rwnd blocks s t h = receive_filled n blocks s.windows.avoids_stalls (not (is_open n s.windows)) s.outstanding.items t h
   received_filled false now n a_rwnd blocks s t h = h
 
   pub sender_expired_filled : (now : ℕ) (s : Sender) (t : Emitted P) → SenderIsFilled s → SenderIsFilled (abandon_expired now s t)

@@ -22,7 +22,7 @@ use Rattle.spec_endpoint.specs.Association.{Tcb, Context, Packing}
 use Rattle.spec_endpoint.specs.Heartbeats.{restart_interval_if}
 use Rattle.spec_endpoint.specs.ResetRequests.{Request, Requests, request_chunk, start_request}
 use Rattle.spec_endpoint.specs.Packets.{PacketDraft, clear_chunks, room, fits, add, add_all, has_chunks, new_packet, emit}
-use Rattle.spec_endpoint.specs.Sending.{Filling, window, selective_ack, take_due_ack, without_duplicates, ack_if, has_data_to_send, with_ack, forward_later, forward_added_if, forward_if, with_expired_abandoned, forward_if_time, with_forward, most_streams, last_assigned, add_reset_breakpoint, request_started, add_request, carrying, request_of, request_at_most, request_if, with_request, data_chunk_of, is_small, with_fragments, with_data, filled_as, emit_packet, BurstStep, burst_step_if, next_packet, continue_burst, burst, AfterSending, after_sending, sent_by, send_with, send_buffered, fast_most, fast_packet, fast_if, send_lost}
+use Rattle.spec_endpoint.specs.Sending.{Filling, window, selective_ack, take_due_ack, without_duplicates, ack_if, has_data_to_send, with_ack, forward_later, forward_added_if, forward_if, with_expired_abandoned, forward_if_time, with_forward, most_streams, last_assigned, add_reset_breakpoint, request_started, add_request, carrying, request_of, request_at_most, request_if, with_request, data_chunk_of, asks_at_once, with_fragments, with_data, filled_as, emit_packet, BurstStep, burst_step_if, next_packet, continue_burst, burst, AfterSending, after_sending, sent_by, send_with, send_buffered, fast_most, fast_packet, fast_if, send_lost}
 use Rattle.proof_draws.specs.NamedChunks.{Names, AreNames, move_by, moved_tsn, named_chunk, named_chunks}
 use Rattle.proof_draws.specs.Names.{named_packet, named_sender, named_request, named_requests, named_tcb, plain}
 use Rattle.proof_draws.proofs.MovedLemmas.{moved_wire, sum_moved}
@@ -168,7 +168,7 @@ module _ {P : Type 0} (n : Names) (are : AreNames n) (pack : Packing P) where
   filled_named f x =
       let y : Filling P = named_filling n pack (with_fragments f x) in
       let m : Bool = x.tcb.capabilities.message_interleaving in
-      let small : Bool = is_small x.context.options f.sender in
+      let small : Bool = asks_at_once x.context.options x.tcb.sender in
       ap (λ (k : ℕ). filled_by y (add_all (map (data_chunk_of m small) (named_pairs n f.chunks)) (named_packet n x.packet)) x k) (length_pairs n f.chunks)
       ∙ (ap (λ (cs : List ChunkTree). filled_by y (add_all cs (named_packet n x.packet)) x (length f.chunks)) (data_named n m small f.chunks)
       ∙ ap (λ (p : PacketDraft). filled_by y p x (length f.chunks)) (named_add_all n are (map (data_chunk_of m small) f.chunks) x.packet))

@@ -26,7 +26,7 @@ use Rattle.spec_endpoint.specs.Sack.{clean_blocks}
 use Rattle.spec_endpoint.specs.Packets.{PacketDraft, room, add, add_all, header_to}
 use Rattle.spec_endpoint.specs.ResetRequests.{Requests, Outcome, Unsettled, Done, Denied, outcome, request_chunk}
 use Rattle.spec_endpoint.specs.StreamReset.{on_outcome}
-use Rattle.spec_endpoint.specs.Sending.{selective_ack, data_chunks, fast_most, is_small}
+use Rattle.spec_endpoint.specs.Sending.{selective_ack, data_chunks, fast_most, asks_at_once}
 use Rattle.spec_endpoint.specs.Opening.{init_of, init_ack_of, next_first, agreed_by}
 use Rattle.spec_endpoint.specs.Calls.{shown_state, is_shutting_down, is_queue_full, send_refusal, queue_entry, accept}
 use Rattle.spec_endpoint.specs.Laws.{Call}
@@ -255,10 +255,10 @@ module _ (g : Setting) (call : Call) (r : Rules g call) (receives : (tag : ℕ) 
       let act : SendingAct Carried call = sends phase t m in
       let f : fragments.Filling Carried = fragments_of t m in
       let k : FillingIsFilled f = fragments_filled m.context.now (room m.packet) t.sender m.context.queue m.context.emitted h.0.1 h.1 in
-      let cs : List ChunkTree = data_chunks t (is_small m.context.options f.sender) f.chunks in
+      let cs : List ChunkTree = data_chunks t (asks_at_once m.context.options t.sender) f.chunks in
       let p : IsWhole method (Open phase t) m.context.queue m.context.emitted.events (add_all cs m.packet) =
       whole_added_all method (Open phase t) m.context.queue m.context.emitted.events cs m.packet
-      (data_chunks_whole t (is_small m.context.options f.sender) f.chunks k.chunks) h in
+      (data_chunks_whole t (asks_at_once m.context.options t.sender) f.chunks k.chunks) h in
       ((h.0.0, k.sender), k.queue, p.2, p.3, said_no_packet_or_status method m.context.emitted (after_sending act).context.emitted (sending_act_emits_no_packet_or_status act) h.4)
   w_sending (sends_fast phase t m some) h =
       let most : ℕ = fast_most m.context.options in

@@ -15,7 +15,7 @@ use Rattle.spec_endpoint.specs.Association.{Tcb}
 use Rattle.spec_endpoint.specs.Packets.{PacketDraft, room, fits, added_if, add, add_all, has_chunks}
 use Rattle.spec_endpoint.specs.ResetRequests.{Request, request_chunk}
 use Rattle.spec_endpoint.specs.Sending as sending
-use Rattle.spec_endpoint.specs.Sending.{Filling, selective_ack, with_expired_abandoned, most_streams, request_started, is_small, ack_if, with_ack, forward_added_if, forward_if, forward_if_time, with_forward, add_request, request_of, request_if, with_request, data_chunk_of, data_chunks, with_data, filled_as, burst_step_if, next_packet}
+use Rattle.spec_endpoint.specs.Sending.{Filling, selective_ack, with_expired_abandoned, most_streams, request_started, asks_at_once, ack_if, with_ack, forward_added_if, forward_if, forward_if_time, with_forward, add_request, request_of, request_if, with_request, data_chunk_of, data_chunks, with_data, filled_as, burst_step_if, next_packet}
 use Rattle.proof_endpoint.specs.Acts.{is_plain, goes_along, goes_first, takes_more, IsBundled, all_along}
 
 -- ---- chunks
@@ -128,7 +128,7 @@ module _ {P : Type 0} where
   with_data_more : (x : Filling P) → TakesMore x → TakesMore (with_data x)
   with_data_more x h =
       let f = send x.context.now (room x.packet) x.tcb.sender x.context.queue x.context.emitted in
-      data_more x.tcb (is_small x.context.options f.sender) f.chunks x.packet h
+      data_more x.tcb (asks_at_once x.context.options x.tcb.sender) f.chunks x.packet h
 
   pub filled_more : (is_first : Bool) (x : Filling P) → TakesMore x → TakesMore (filled_as is_first x)
   filled_more true x h =

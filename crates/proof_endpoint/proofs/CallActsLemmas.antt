@@ -22,7 +22,7 @@ use Rattle.sctp_state.specs.Validity.{is_valid_state}
 use Rattle.spec_endpoint.specs.Association.{Tcb, Phase, Established, State, Closed, CookieWait, Open, Context, EndpointState, with_context}
 use Rattle.spec_endpoint.specs.Packets.{PacketDraft, add, new_packet, emit_event_in}
 use Rattle.spec_endpoint.specs.ResetRequests.{Request, Requests, performed, nothing_to_do, bad_number, in_progress, is_final, next_number, is_last_request, is_next_request, is_known_request, set_last_request, end_or_defer, response_if, handle_response_in, handle_response}
-use Rattle.spec_endpoint.specs.Sending.{AfterSending, is_before_cookie_ack, send_in}
+use Rattle.spec_endpoint.specs.Sending.{AfterSending, is_before_cookie_ack, open_with, send_unless, send_in}
 use Rattle.spec_endpoint.specs.Calls.{shown_state, send_refusal, send_refusal_of, offered, offer, sent_if, send, offer_all, send_many, set_low_threshold, set_priority, set_max_message_size, take_message, message_taken_in, opens_window, told_if, without_first_message}
 use Rattle.spec_endpoint.specs.StreamReset.{Handling, handling, is_ahead, resets_if, resets, outgoing_by, on_outgoing, incoming_if, is_outgoing, on_parameter, HandledParameters, handle_next, handle_all, send_responses, finish_reconfig_if, on_reconfig, unless_supported, reset_refusal, prepare_reset_stream, prepare_all, reset_if, reset_streams}
 use Rattle.spec_endpoint.specs.Handover.{readiness, left_in, left_if, hand_over, tcb_from, queue_restored, take_up, invalid_unless, restore_refusal_in, restored_as, restored_unless, restore, woken_if}
@@ -57,7 +57,11 @@ module _ {P : Type 0} {call : Call} {R : EndWithPacket P → EndWithPacket P →
       (does_offer_all all (before ++ m ∷ []) ms how s (offer m how (shown_state s) c) is (next_among before m ms all e))
 
   pub does_send_in : OpenActs R w send_in
-  does_send_in phase t c = does_send_buffered k phase w (is_before_cookie_ack phase) t c
+  does_send_in phase t c = go (is_before_cookie_ack phase && c.options.avoid_stalls)
+    where
+      go : (waits : Bool) → R (idle (Open phase t) c w) (placed (open_with phase (send_unless waits (is_before_cookie_ack phase) t c)) w)
+      go true = k.same (idle (Open phase t) c w)
+      go false = does_send_buffered k phase w (is_before_cookie_ack phase) t c
 
   pub does_sent_if : (o : Option SendError) (s : EndpointState P) → R (placed s w) (placed (sent_if o s) w)
   does_sent_if None s = does_where_open k w send_in s does_send_in
@@ -331,7 +335,7 @@ module _ {P : Type 0} {call : Call} {R : EndWithPacket P → EndWithPacket P →
   does_reset_open : (b : Bool) (ids : List ℕ) (phase : Phase) (t : Tcb) (c : Context P) → call ≡ ResetStreams ids → t.capabilities.reconfig ≡ b
       → R (idle (Open phase t) c w) (placed (reset_if (unless_supported b) ids (record { state = Open phase t; context = c })) w)
   does_reset_open true ids phase t c is can =
-      k.through (does_prepare_all ids [] ids phase t c is refl can) (does_send_buffered k phase w (is_before_cookie_ack phase) t (prepare_all ids c))
+      k.through (does_prepare_all ids [] ids phase t c is refl can) (does_send_in k w phase t (prepare_all ids c))
   does_reset_open false ids phase t c is can = k.same (idle (Open phase t) c w)
 
   does_reset_in : (s : State) (ids : List ℕ) (c : Context P) → call ≡ ResetStreams ids

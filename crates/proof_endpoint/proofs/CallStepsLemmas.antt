@@ -1,12 +1,12 @@
 -- What the calls that send and the settings emit.
-use Rattle.std.proofs.Common.{ℕ, Option, Some, None, List, [], ◌∷◌, ◌++◌, refl}
+use Rattle.std.proofs.Common.{ℕ, ◌&&◌, Bool, true, false, Option, Some, None, List, [], ◌∷◌, ◌++◌, refl}
 use Rattle.sctp_serial.specs.Messages.{Message}
 use Rattle.sctp_state.specs.declared.api.SocketState.{SocketState}
 use Rattle.sctp_state.specs.declared.api.errors.SendError.{SendError}
 use Rattle.sctp_state.specs.Options.{SendOptions}
 use Rattle.sctp_state.specs.Events.{Event}
 use Rattle.spec_endpoint.specs.Association.{State, Closed, CookieWait, Open, Context, EndpointState, with_context}
-use Rattle.spec_endpoint.specs.Sending.{is_before_cookie_ack, send_in}
+use Rattle.spec_endpoint.specs.Sending.{is_before_cookie_ack, send_unless, send_in}
 use Rattle.spec_endpoint.specs.Calls.{shown_state, send_refusal, send_refusal_of, refusal_events, lifecycle_end_events, refuse, accept, offered, offer, sent_if, send, offer_all, send_many, set_low_threshold, set_priority, set_max_message_size, take_message, message_taken_in}
 use Rattle.spec_endpoint.specs.Laws.{ends}
 use Rattle.proof_endpoint.proofs.StepsLemmas.{most_bytes, Goes, Steps}
@@ -35,7 +35,11 @@ module _ {P : Type 0} where
       goes_then 0 c d (offer_all ms how shown d) (goes_offer m how shown c) (goes_offer_all ms how shown d)
 
   pub steps_send_in : OpenSteps (send_in {P = P})
-  steps_send_in phase t c = goes_send_buffered c (is_before_cookie_ack phase) t
+  steps_send_in phase t c = go (is_before_cookie_ack phase && c.options.avoid_stalls)
+    where
+      go : (waits : Bool) → Goes 0 c (send_unless waits (is_before_cookie_ack phase) t c).context
+      go true = goes_same c
+      go false = goes_send_buffered c (is_before_cookie_ack phase) t
 
   -- behind a change of the context
   pub steps_then : (s : EndpointState P) (d : Context P) (t : EndpointState P) → Goes 0 s.context d → Steps (with_context s d) t → Steps s t

@@ -10,11 +10,13 @@ use Rattle.sctp_state.specs.declared.api.GivenUpCause.TheVariants.{Lifetime, Ret
 use Rattle.sctp_state.specs.declared.api.errors.SendError.{SendError}
 use Rattle.sctp_state.specs.declared.api.errors.SendError.TheVariants.{EmptyPayload, MessageTooLarge, ShuttingDown, ResourceExhaustion as QueueFull, Memory, Failed}
 use Rattle.sctp_state.specs.Events.{Event, SendPacket, OnClosed, OnAborted, OnBufferedAmountLow, OnTotalBufferedAmountLow, Emitted, emit_event, emit_events, emit_given_up, expired_events}
+use Rattle.sctp_tx_outstanding.specs.declared.item.MissIndication.{MissIndication}
+use Rattle.sctp_tx_outstanding.specs.declared.item.MissIndication.TheVariants.{Timeout}
 use Rattle.sctp_tx_outstanding.specs.Item.{Item, is_abandoned}
 use Rattle.sctp_tx_outstanding.specs.OutstandingData.{Items, Discard}
 use Rattle.sctp_tx_outstanding.specs.Losses.{Step, first_step, abandon_with_record, is_to_be_abandoned, loses, change_items, nack_item, nack_below, nack_all, given_up_if, expired_at, expire_below, expire_outstanding}
 use Rattle.sctp_tx_outstanding.specs.Item as item
-use Rattle.sctp_tx_outstanding.specs.Sack.{leaving_events, all_leaving_events, leaving, staying, reported_below, receive_sack_first, receive_sack}
+use Rattle.sctp_tx_outstanding.specs.Sack.{report_by, leaving_events, all_leaving_events, leaving, staying, reported_below, receive_sack_first, receive_sack}
 use Rattle.sctp_tx_outstanding.specs.Sack as sack
 use Rattle.sctp_state.specs.ThresholdWatcher.{crosses}
 use Rattle.sctp_tx_queue.specs.SendQueue.{Queued, Stream, Streams, Queue, stream, watched_amount, watched_total}
@@ -129,24 +131,24 @@ module _ {P : Type 0} (pack : Packing P) (most : ℕ) where
 
   -- ---- items
 
-  nacks_item : (b at_once fast : Bool) (k : ℕ) (i : Item) (t : Emitted P) (x : Step P) → Emits pack most 0 t x.emitted
-      → Emits pack most 0 t (cond b (abandon_with_record i.number (Retransmissions (i.sent - 1)) x) (record x { items = change_items k (item.nack at_once fast) x.items; is_lossy = x.is_lossy || loses at_once i })).emitted
-  nacks_item true at_once fast k i t x h = emits_then t x.emitted (emit_given_up i.number (Retransmissions (i.sent - 1)) x.emitted) h (emits_given_up i.number (Retransmissions (i.sent - 1)) x.emitted)
-  nacks_item false at_once fast k i t x h = h
+  nacks_item : (b : Bool) (indication : MissIndication) (fast : Bool) (k : ℕ) (i : Item) (t : Emitted P) (x : Step P) → Emits pack most 0 t x.emitted
+      → Emits pack most 0 t (cond b (abandon_with_record i.number (Retransmissions (i.sent - 1)) x) (record x { items = change_items k (item.nack indication fast) x.items; is_lossy = x.is_lossy || loses indication i })).emitted
+  nacks_item true indication fast k i t x h = emits_then t x.emitted (emit_given_up i.number (Retransmissions (i.sent - 1)) x.emitted) h (emits_given_up i.number (Retransmissions (i.sent - 1)) x.emitted)
+  nacks_item false indication fast k i t x h = h
 
-  nacks_at : (o : Option Item) (at_once fast : Bool) (k : ℕ) (t : Emitted P) (x : Step P) → Emits pack most 0 t x.emitted
-      → Emits pack most 0 t (unwrap_or (option_map (λ i. nack_item at_once fast k i x) o) x).emitted
-  nacks_at None at_once fast k t x h = h
-  nacks_at (Some i) at_once fast k t x h = nacks_item (is_to_be_abandoned x.items.is_partial at_once i) at_once fast k i t x h
+  nacks_at : (o : Option Item) (indication : MissIndication) (fast : Bool) (k : ℕ) (t : Emitted P) (x : Step P) → Emits pack most 0 t x.emitted
+      → Emits pack most 0 t (unwrap_or (option_map (λ i. nack_item indication fast k i x) o) x).emitted
+  nacks_at None indication fast k t x h = h
+  nacks_at (Some i) indication fast k t x h = nacks_item (is_to_be_abandoned x.items.is_partial indication i) indication fast k i t x h
 
-  nacks_below : (at_once fast : Bool) (n : ℕ) (t : Emitted P) (x : Step P) → Emits pack most 0 t x.emitted → Emits pack most 0 t (nack_below at_once fast n x).emitted
-  nacks_below at_once fast zero t x h = h
-  nacks_below at_once fast (suc n) t x h =
-      let y : Step P = nack_below at_once fast n x in
-      nacks_at (slice_get y.items.kept n) at_once fast n t y (nacks_below at_once fast n t x h)
+  nacks_below : (indication : MissIndication) (fast : Bool) (n : ℕ) (t : Emitted P) (x : Step P) → Emits pack most 0 t x.emitted → Emits pack most 0 t (nack_below indication fast n x).emitted
+  nacks_below indication fast zero t x h = h
+  nacks_below indication fast (suc n) t x h =
+      let y : Step P = nack_below indication fast n x in
+      nacks_at (slice_get y.items.kept n) indication fast n t y (nacks_below indication fast n t x h)
 
   pub emits_nack_all : (s : Items) (t : Emitted P) → Emits pack most 0 t (nack_all s t).emitted
-  emits_nack_all s t = nacks_below true false (length s.kept) t (first_step s t) (emits_nothing t)
+  emits_nack_all s t = nacks_below Timeout false (length s.kept) t (first_step s t) (emits_nothing t)
 
   gives_up_if : (o : Option ℕ) (t : Emitted P) (x : Step P) → Emits pack most 0 t x.emitted → Emits pack most 0 t (given_up_if o x).emitted
   gives_up_if None t x h = h
@@ -161,12 +163,12 @@ module _ {P : Type 0} (pack : Packing P) (most : ℕ) where
   pub emits_expired : (now : ℕ) (s : Items) (t : Emitted P) → Emits pack most 0 t (expire_outstanding now s t).emitted
   emits_expired now s t = expires_below now (length s.kept) t (first_step s t) (emits_nothing t)
 
-  receives : (n : ℕ) (blocks : List GapAckBlock) (fast : Bool) (s : Items) (t : Emitted P) → Emits pack most 0 t (receive_sack n blocks fast s t).emitted
-  receives n blocks fast s t =
-      nacks_below false (not fast) (reported_below blocks (staying n s)) t (receive_sack_first n blocks s t) (emits_all (all_leaving_events (take (leaving n s) s.kept)) t (quiet_reports P (take (leaving n s) s.kept)))
+  receives : (n : ℕ) (blocks : List GapAckBlock) (once fast : Bool) (s : Items) (t : Emitted P) → Emits pack most 0 t (receive_sack n blocks once fast s t).emitted
+  receives n blocks once fast s t =
+      nacks_below (report_by once n blocks s) (not fast) (reported_below blocks (staying n s)) t (receive_sack_first n blocks s t) (emits_all (all_leaving_events (take (leaving n s) s.kept)) t (quiet_reports P (take (leaving n s) s.kept)))
 
   pub emits_sack : (is_valid : Bool) (n : ℕ) (blocks : List GapAckBlock) (s : Sender) (t : Emitted P) → Emits pack most 0 t (emitted_if is_valid n blocks s t)
-  emits_sack true n blocks s t = receives n blocks (not (is_open n s.windows)) s.outstanding.items t
+  emits_sack true n blocks s t = receives n blocks s.windows.avoids_stalls (not (is_open n s.windows)) s.outstanding.items t
   emits_sack false n blocks s t = emits_nothing t
 
   -- ---- the queue

@@ -5,11 +5,13 @@ use Rattle.std.proofs.lemmas.List.{map-append}
 use Rattle.sctp_chunk.specs.declared.sack.GapAckBlock.{GapAckBlock}
 use Rattle.sctp_state.specs.declared.api.GivenUpCause.TheVariants.{Lifetime, Retransmissions}
 use Rattle.sctp_state.specs.Events.{Event, OnBufferedAmountLow, OnTotalBufferedAmountLow, GivenUp, Emitted, emit_event, emit_events, emit_given_up, expired_events}
+use Rattle.sctp_tx_outstanding.specs.declared.item.MissIndication.{MissIndication}
+use Rattle.sctp_tx_outstanding.specs.declared.item.MissIndication.TheVariants.{Timeout}
 use Rattle.sctp_tx_outstanding.specs.Item.{Item, is_abandoned}
 use Rattle.sctp_tx_outstanding.specs.OutstandingData.{Items, Discard}
 use Rattle.sctp_tx_outstanding.specs.Losses.{Step, first_step, abandon_with_record, is_to_be_abandoned, loses, change_items, nack_item, nack_at, nack_below, nack_all, given_up_if, expired_at, expire_at, expire_below, expire_outstanding}
 use Rattle.sctp_tx_outstanding.specs.Item as item
-use Rattle.sctp_tx_outstanding.specs.Sack.{leaving_events, all_leaving_events, leaving, staying, acked_by, reported_below, receive_sack_first, receive_sack}
+use Rattle.sctp_tx_outstanding.specs.Sack.{report_by, leaving_events, all_leaving_events, leaving, staying, acked_by, reported_below, receive_sack_first, receive_sack}
 use Rattle.sctp_tx_outstanding.specs.Sack as sack
 use Rattle.sctp_state.specs.ThresholdWatcher.{crosses}
 use Rattle.sctp_tx_queue.specs.SendQueue.{Queued, Stream, Streams, Queue, stream, watched_amount, watched_total}
@@ -109,25 +111,25 @@ module _ {P Q : Type 0} (f : Mapping P Q) where
 
   -- ---- items
 
-  maps_nacked : (b at_once fast : Bool) (k : ℕ) (i : Item) (x : Step P)
-      → cond b (abandon_with_record i.number (Retransmissions (i.sent - 1)) (map_step f x)) (record (map_step f x) { items = change_items k (item.nack at_once fast) x.items; is_lossy = x.is_lossy || loses at_once i })
-      ≡ map_step f (cond b (abandon_with_record i.number (Retransmissions (i.sent - 1)) x) (record x { items = change_items k (item.nack at_once fast) x.items; is_lossy = x.is_lossy || loses at_once i }))
-  maps_nacked true at_once fast k i x = refl
-  maps_nacked false at_once fast k i x = refl
+  maps_nacked : (b : Bool) (indication : MissIndication) (fast : Bool) (k : ℕ) (i : Item) (x : Step P)
+      → cond b (abandon_with_record i.number (Retransmissions (i.sent - 1)) (map_step f x)) (record (map_step f x) { items = change_items k (item.nack indication fast) x.items; is_lossy = x.is_lossy || loses indication i })
+      ≡ map_step f (cond b (abandon_with_record i.number (Retransmissions (i.sent - 1)) x) (record x { items = change_items k (item.nack indication fast) x.items; is_lossy = x.is_lossy || loses indication i }))
+  maps_nacked true indication fast k i x = refl
+  maps_nacked false indication fast k i x = refl
 
-  maps_nack_at : (o : Option Item) (at_once fast : Bool) (k : ℕ) (x : Step P)
-      → unwrap_or (option_map (λ i. nack_item at_once fast k i (map_step f x)) o) (map_step f x) ≡ map_step f (unwrap_or (option_map (λ i. nack_item at_once fast k i x) o) x)
-  maps_nack_at None at_once fast k x = refl
-  maps_nack_at (Some i) at_once fast k x = maps_nacked (is_to_be_abandoned x.items.is_partial at_once i) at_once fast k i x
+  maps_nack_at : (o : Option Item) (indication : MissIndication) (fast : Bool) (k : ℕ) (x : Step P)
+      → unwrap_or (option_map (λ i. nack_item indication fast k i (map_step f x)) o) (map_step f x) ≡ map_step f (unwrap_or (option_map (λ i. nack_item indication fast k i x) o) x)
+  maps_nack_at None indication fast k x = refl
+  maps_nack_at (Some i) indication fast k x = maps_nacked (is_to_be_abandoned x.items.is_partial indication i) indication fast k i x
 
-  maps_nack_below : (at_once fast : Bool) (n : ℕ) (x : Step P) → nack_below at_once fast n (map_step f x) ≡ map_step f (nack_below at_once fast n x)
-  maps_nack_below at_once fast zero x = refl
-  maps_nack_below at_once fast (suc n) x =
-      let y : Step P = nack_below at_once fast n x in
-      ap (λ (z : Step Q). nack_at at_once fast n z) (maps_nack_below at_once fast n x) ∙ maps_nack_at (slice_get y.items.kept n) at_once fast n y
+  maps_nack_below : (indication : MissIndication) (fast : Bool) (n : ℕ) (x : Step P) → nack_below indication fast n (map_step f x) ≡ map_step f (nack_below indication fast n x)
+  maps_nack_below indication fast zero x = refl
+  maps_nack_below indication fast (suc n) x =
+      let y : Step P = nack_below indication fast n x in
+      ap (λ (z : Step Q). nack_at indication fast n z) (maps_nack_below indication fast n x) ∙ maps_nack_at (slice_get y.items.kept n) indication fast n y
 
   pub maps_nack_all : (s : Items) (t : Emitted P) → nack_all s (map_emitted f t) ≡ map_step f (nack_all s t)
-  maps_nack_all s t = maps_nack_below true false (length s.kept) (first_step s t)
+  maps_nack_all s t = maps_nack_below Timeout false (length s.kept) (first_step s t)
 
   maps_given_up_if : (o : Option ℕ) (x : Step P) → given_up_if o (map_step f x) ≡ map_step f (given_up_if o x)
   maps_given_up_if None x = refl
@@ -147,13 +149,13 @@ module _ {P Q : Type 0} (f : Mapping P Q) where
       let is : List Item = take (leaving n s) s.kept in
       ap (λ (u : Emitted Q). first_step (acked_by blocks (staying n s)) u) (maps_emit_event_all (all_leaving_events is) (all_leaving_events is) t (maps_reports is))
 
-  maps_receive : (n : ℕ) (blocks : List GapAckBlock) (fast : Bool) (s : Items) (t : Emitted P) → receive_sack n blocks fast s (map_emitted f t) ≡ map_step f (receive_sack n blocks fast s t)
-  maps_receive n blocks fast s t =
+  maps_receive : (n : ℕ) (blocks : List GapAckBlock) (once fast : Bool) (s : Items) (t : Emitted P) → receive_sack n blocks once fast s (map_emitted f t) ≡ map_step f (receive_sack n blocks once fast s t)
+  maps_receive n blocks once fast s t =
       let most : ℕ = reported_below blocks (staying n s) in
-      ap (λ (x : Step Q). nack_below false (not fast) most x) (maps_received_first n blocks s t) ∙ maps_nack_below false (not fast) most (receive_sack_first n blocks s t)
+      ap (λ (x : Step Q). nack_below (report_by once n blocks s) (not fast) most x) (maps_received_first n blocks s t) ∙ maps_nack_below (report_by once n blocks s) (not fast) most (receive_sack_first n blocks s t)
 
   maps_step_of : (n : ℕ) (blocks : List GapAckBlock) (s : Sender) (t : Emitted P) → step_of n blocks s (map_emitted f t) ≡ map_step f (step_of n blocks s t)
-  maps_step_of n blocks s t = maps_receive n blocks (not (is_open n s.windows)) s.outstanding.items t
+  maps_step_of n blocks s t = maps_receive n blocks s.windows.avoids_stalls (not (is_open n s.windows)) s.outstanding.items t
 
   pub same_sender : (is_valid : Bool) (now n a_rwnd : ℕ) (blocks : List GapAckBlock) (s : Sender) (t : Emitted P)
       → sender_if is_valid now n a_rwnd blocks s (map_emitted f t) ≡ sender_if is_valid now n a_rwnd blocks s t

@@ -30,8 +30,8 @@ kept_items first acked kept = record {
   items = record { acked = acked; kept = kept; breaks = []; discards = []; is_partial = true; is_interleaved = false };
 }
 
-abbrev pub still : Outstanding → Windows → Timer → Sender
-still d w t3 = record { outstanding = d; windows = w; t3 = t3; rtx_packets = 0; rtx_bytes = 0 }
+abbrev pub still : Outstanding → Windows → Timer → (is_sampled : Bool) → Sender
+still d w t3 is_sampled = record { outstanding = d; windows = w; t3 = t3; rtx_packets = 0; rtx_bytes = 0; is_sampled = is_sampled }
 
 pub none_kept : (first acked left window : ℕ) → resend false left window (kept_items first acked []) ≡ empty_packet left window (kept_items first acked [])
 none_kept first acked left window = refl
@@ -60,20 +60,20 @@ module _ {P : Type 0} (ss : Streams) (time most_payload number : ℕ) (emitted :
 
   -- ---- and nothing is to be sent again
 
-  module _ (first acked : ℕ) (kept : List Item) (w : Windows) (t3 : Timer) where
+  module _ (first acked : ℕ) (kept : List Item) (w : Windows) (t3 : Timer) (is_sampled : Bool) where
     abbrev d : Outstanding
     d = kept_items first acked kept
 
     abbrev s : Sender
-    s = still d w t3
+    s = still d w t3 is_sampled
 
     module _ (none : (left window : ℕ) → resend false left window d ≡ empty_packet left window d) where
       send_idle : (now most : ℕ) → send now most s idle_queue emitted ≡ filling s idle_queue emitted [] (most - 0)
       send_idle now most =
           let left : Changed P = record { queue = idle_queue; emitted = emitted } in
           ap (λ (x : Resent). fragments.fill_and_start_t3 now (filled_with most s x left)) (none _ _)
-          ∙ ap (λ (x : fragments.Filling P). timed_filling now x) (fill_idle (most - 0) now (still d (consume_rwnd 0 w) t3) [] (most - 0))
-          ∙ ap (λ (v : Windows). filling (still d v t3) idle_queue emitted [] (most - 0)) (consume_none w)
+          ∙ ap (λ (x : fragments.Filling P). timed_filling now x) (fill_idle (most - 0) now (still d (consume_rwnd 0 w) t3 is_sampled) [] (most - 0))
+          ∙ ap (λ (v : Windows). filling (still d v t3 is_sampled) idle_queue emitted [] (most - 0)) (consume_none w)
 
       pub data_idle : (p : PacketDraft) (t : Tcb) (c : Context P)
           → with_data (record { packet = p; tcb = record t { sender = s }; context = record c { queue = idle_queue; emitted = emitted } })

@@ -6,12 +6,14 @@ use Rattle.sctp_packet.specs.Chunk.{FragmentTree}
 use Rattle.sctp_state.specs.declared.api.GivenUpCause.{GivenUpCause}
 use Rattle.sctp_state.specs.declared.api.GivenUpCause.TheVariants.{Lifetime, Retransmissions}
 use Rattle.sctp_state.specs.Events.{Emitted}
+use Rattle.sctp_tx_outstanding.specs.declared.item.MissIndication.{MissIndication}
+use Rattle.sctp_tx_outstanding.specs.declared.item.MissIndication.TheVariants.{Timeout}
 use Rattle.sctp_tx_outstanding.specs.Item.{Item, is_of, is_fast, should_be_retransmitted, abandon, mark_as_retransmitted, miss_fast}
 use Rattle.sctp_tx_outstanding.specs.Item as item
 use Rattle.sctp_tx_outstanding.specs.OutstandingData.{Items, change_at, abandon_if_of, last_of}
 use Rattle.sctp_tx_outstanding.specs.Losses.{placeholder, placeholders, abandon_message, Step, abandon_with_record, change_items, loses, is_to_be_abandoned, nack_item, nack_below, nack_all, first_step, expired_at, given_up_if, expire_below, expire_outstanding}
 use Rattle.sctp_tx_outstanding.specs.Resending.{Resent, size_in, again_of, allowance, fast_turn, queued_turn, turn_of, apply_turn, resent_below, empty_packet}
-use Rattle.sctp_tx_outstanding.specs.Sack.{all_leaving_events, leaving, staying, ack_or_uncover, ack_or_uncover_all, reported_below, receive_sack_first, receive_sack}
+use Rattle.sctp_tx_outstanding.specs.Sack.{report_by, all_leaving_events, leaving, staying, ack_or_uncover, ack_or_uncover_all, reported_below, receive_sack_first, receive_sack}
 use Rattle.sctp_tx_queue.specs.SendQueue.{Queue}
 use Rattle.sctp_tx_queue.specs.Produced as queued
 use Rattle.sctp_tx_queue.specs.Settings.{Changed}
@@ -82,23 +84,23 @@ module _ (l : ℕ) where
         spends_then l h
         (spends_given_up l number cause x.emitted (kept_ends l x.items.kept) (kept_ends l (abandon_message number x.items).kept) (omega (arith, kept_abandoned number x.items)))
 
-    nacks_item : (b at_once fast is_lossy : Bool) (k : ℕ) (i : Item) (x : Step P) → Reaches x
-        → Reaches (cond b (abandon_with_record i.number (Retransmissions (i.sent - 1)) x) (record x { items = change_items k (item.nack at_once fast) x.items; is_lossy = is_lossy }))
-    nacks_item true at_once fast is_lossy k i x h = given_up_too i.number (Retransmissions (i.sent - 1)) x h
-    nacks_item false at_once fast is_lossy k i x h =
-        spends_within l w (kept_ends l (change_items k (item.nack at_once fast) x.items).kept) h (omega (arith, kept_changed k (item.nack at_once fast) x.items.kept (λ j. refl)))
+    nacks_item : (b : Bool) (indication : MissIndication) (fast is_lossy : Bool) (k : ℕ) (i : Item) (x : Step P) → Reaches x
+        → Reaches (cond b (abandon_with_record i.number (Retransmissions (i.sent - 1)) x) (record x { items = change_items k (item.nack indication fast) x.items; is_lossy = is_lossy }))
+    nacks_item true indication fast is_lossy k i x h = given_up_too i.number (Retransmissions (i.sent - 1)) x h
+    nacks_item false indication fast is_lossy k i x h =
+        spends_within l w (kept_ends l (change_items k (item.nack indication fast) x.items).kept) h (omega (arith, kept_changed k (item.nack indication fast) x.items.kept (λ j. refl)))
 
-    nacks_at : (o : Option Item) (at_once fast : Bool) (k : ℕ) (x : Step P) → Reaches x
-        → Reaches (unwrap_or (option_map (λ i. nack_item at_once fast k i x) o) x)
-    nacks_at None at_once fast k x h = h
-    nacks_at (Some i) at_once fast k x h =
-        nacks_item (is_to_be_abandoned x.items.is_partial at_once i) at_once fast (x.is_lossy || loses at_once i) k i x h
+    nacks_at : (o : Option Item) (indication : MissIndication) (fast : Bool) (k : ℕ) (x : Step P) → Reaches x
+        → Reaches (unwrap_or (option_map (λ i. nack_item indication fast k i x) o) x)
+    nacks_at None indication fast k x h = h
+    nacks_at (Some i) indication fast k x h =
+        nacks_item (is_to_be_abandoned x.items.is_partial indication i) indication fast (x.is_lossy || loses indication i) k i x h
 
-    nacks_below : (at_once fast : Bool) (n : ℕ) (x : Step P) → Reaches x → Reaches (nack_below at_once fast n x)
-    nacks_below at_once fast zero x h = h
-    nacks_below at_once fast (suc n) x h =
-        let y : Step P = nack_below at_once fast n x in
-        nacks_at (slice_get y.items.kept n) at_once fast n y (nacks_below at_once fast n x h)
+    nacks_below : (indication : MissIndication) (fast : Bool) (n : ℕ) (x : Step P) → Reaches x → Reaches (nack_below indication fast n x)
+    nacks_below indication fast zero x h = h
+    nacks_below indication fast (suc n) x h =
+        let y : Step P = nack_below indication fast n x in
+        nacks_at (slice_get y.items.kept n) indication fast n y (nacks_below indication fast n x h)
 
     gives_up_if : (o : Option ℕ) (x : Step P) → Reaches x → Reaches (given_up_if o x)
     gives_up_if None x h = h
@@ -114,7 +116,7 @@ module _ (l : ℕ) where
     pub spends_nack_all : (s : Items) (t : Emitted P) → Spends l t (nack_all s t).emitted (kept_ends l s.kept) (kept_ends l (nack_all s t).items.kept)
     spends_nack_all s t =
         let n : ℕ = kept_ends l s.kept in
-        nacks_below t n true false (length s.kept) (first_step s t) (spends_nothing l t n n (omega arith))
+        nacks_below t n Timeout false (length s.kept) (first_step s t) (spends_nothing l t n n (omega arith))
 
     pub spends_expired : (now : ℕ) (s : Items) (t : Emitted P) → Spends l t (expire_outstanding now s t).emitted (kept_ends l s.kept) (kept_ends l (expire_outstanding now s t).items.kept)
     spends_expired now s t =
@@ -123,19 +125,19 @@ module _ (l : ℕ) where
 
     -- ---- acknowledgements
 
-    spends_received : (n : ℕ) (blocks : List GapAckBlock) (fast : Bool) (s : Items) (t : Emitted P)
-        → Spends l t (receive_sack n blocks fast s t).emitted (kept_ends l s.kept) (kept_ends l (receive_sack n blocks fast s t).items.kept)
-    spends_received n blocks fast s t =
+    spends_received : (n : ℕ) (blocks : List GapAckBlock) (once fast : Bool) (s : Items) (t : Emitted P)
+        → Spends l t (receive_sack n blocks once fast s t).emitted (kept_ends l s.kept) (kept_ends l (receive_sack n blocks once fast s t).items.kept)
+    spends_received n blocks once fast s t =
         let removed : List Item = take (leaving n s) s.kept in
         let stay : List Item = drop (leaving n s) s.kept in
         let x : Step P = receive_sack_first n blocks s t in
-        nacks_below t (kept_ends l s.kept) false (not fast) (reported_below blocks (staying n s)) x
+        nacks_below t (kept_ends l s.kept) (report_by once n blocks s) (not fast) (reported_below blocks (staying n s)) x
         (spends_all l (all_leaving_events removed) t (kept_ends l s.kept) (kept_ends l x.items.kept)
         (omega (arith, ends_reports P l removed, kept_settle blocks 1 stay, kept_split l (leaving n s) s.kept)))
 
     pub spends_sack : (is_valid : Bool) (now n a_rwnd : ℕ) (blocks : List GapAckBlock) (s : Sender) (t : Emitted P)
         → Spends l t (emitted_if is_valid n blocks s t) (kept_of s) (kept_of (sender_if is_valid now n a_rwnd blocks s t))
-    spends_sack true now n a_rwnd blocks s t = spends_received n blocks (not (is_open n s.windows)) s.outstanding.items t
+    spends_sack true now n a_rwnd blocks s t = spends_received n blocks s.windows.avoids_stalls (not (is_open n s.windows)) s.outstanding.items t
     spends_sack false now n a_rwnd blocks s t = spends_nothing l t (kept_of s) (kept_of s) (omega arith)
 
   -- ---- what is sent again

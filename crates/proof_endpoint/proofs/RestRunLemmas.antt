@@ -65,7 +65,7 @@ module _ {P : Type 0} (pack : Packing P) (a b : rng.Stream) (m : Message) (lifet
     unfolding chunks_bytes
     bursts =
         ap (λ (y : Filling P). rest y)
-        (data_idle (emptied m o).streams 1 1159 1 emitted_context.emitted (first_of a) 4294967296 [] rested_tcb.sender.windows rested_tcb.sender.t3
+        (data_idle (emptied m o).streams 1 1159 1 emitted_context.emitted (first_of a) 4294967296 [] rested_tcb.sender.windows rested_tcb.sender.t3 rested_tcb.sender.is_sampled
         (none_kept (first_of a) 4294967296) (new_packet defaults rested_tcb) rested_tcb emitted_context)
 
     abbrev k : SackTree

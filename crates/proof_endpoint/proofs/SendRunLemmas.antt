@@ -143,7 +143,7 @@ module _ {P : Type 0} (pack : Packing P) (a b : rng.Stream) (m : Message) (o : S
       ap (λ (f : fragments.Filling P). rest (with_fragments (timed_filling 0 f) before)) (fills small)
       ∙ ap (λ (n : ℕ). rest (filling_with (added_if (fits empty (chunk_at n)) (chunk_at n) empty))) (first_written (first_of a) (first_small a))
       ∙ ap (λ (t : Bool). rest (filling_with (added_if t (chunk_at (first_of a)) empty))) (data_fits (first_of a) true (tag_of b) (fragment m o) small.few)
-      ∙ burst_ends (emptied m o).streams 1 1159 1 (emit_packet (filling_with with_message)).context.emitted (first_of a) 4294967295 (item ∷ []) sent_windows t3 not_again 2
+      ∙ burst_ends (emptied m o).streams 1 1159 1 (emit_packet (filling_with with_message)).context.emitted (first_of a) 4294967295 (item ∷ []) sent_windows t3 false not_again 2
       empty tcb_a (emit_packet (filling_with with_message)).context
 
   abbrev pub sent_tcb : Tcb

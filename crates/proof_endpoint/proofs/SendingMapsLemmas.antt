@@ -1,5 +1,5 @@
 -- What is said, packets that go out and bursts of them do the same whatever packets are.
-use Rattle.std.proofs.Common.{◌≡◌, ℕ, zero, suc, nat_le, nat_lt, not, Bool, true, false, is_some, List, [], ◌∷◌, refl, ap, ◌∙◌}
+use Rattle.std.proofs.Common.{◌≡◌, ℕ, zero, suc, nat_le, nat_lt, not, ◌&&◌, Bool, true, false, is_some, List, [], ◌∷◌, refl, ap, ◌∙◌}
 use Rattle.sctp_packet.specs.Chunk.{ChunkTree, cookie_echo_chunk}
 use Rattle.sctp_state.specs.declared.api.ErrorKind.{ErrorKind}
 use Rattle.sctp_state.specs.Numbers.{more}
@@ -13,7 +13,7 @@ use Rattle.sctp_tx.specs.ForwardPoints.{forward_chunk}
 use Rattle.sctp_tx.specs.Sending as fragments
 use Rattle.spec_endpoint.specs.Association.{Tcb, Phase, Context, Counts}
 use Rattle.spec_endpoint.specs.Packets.{PacketDraft, clear_chunks, room, fits, add, has_chunks, packet_to, new_packet, emit_event_in, emit_error, header_to, emit_if, emit, emit_chunk}
-use Rattle.spec_endpoint.specs.Sending.{Filling, take_due_ack, ack_if, has_data_to_send, with_ack, forward_added_if, forward_if, with_expired_abandoned, forward_where_due, forward_if_time, with_forward, most_streams, request_of, request_if, with_request, with_fragments, with_data, filled_as, emit_packet, BurstStep, burst_step_if, next_packet, continue_burst, burst, AfterSending, after_sending, sent_by, is_before_cookie_ack, open_with, send_with, send_buffered, send_in, cookie_if, send_cookie, fast_packet, fast_if, send_lost}
+use Rattle.spec_endpoint.specs.Sending.{Filling, take_due_ack, ack_if, has_data_to_send, with_ack, forward_added_if, forward_if, with_expired_abandoned, forward_where_due, forward_if_time, with_forward, most_streams, request_of, request_if, with_request, with_fragments, with_data, filled_as, emit_packet, BurstStep, burst_step_if, next_packet, continue_burst, burst, AfterSending, after_sending, sent_by, is_before_cookie_ack, open_with, send_with, send_buffered, send_unless, send_in, cookie_if, send_cookie, fast_packet, fast_if, send_lost}
 use Rattle.proof_endpoint.specs.Mapped.{Mapping, map_event, map_context, map_endpoint_state}
 use Rattle.proof_endpoint.proofs.EmittedMapsLemmas.{maps_emit_event, maps_expire, maps_fragments_sent}
 
@@ -160,7 +160,11 @@ module _ {P Q : Type 0} (f : Mapping P Q) where
   maps_send_buffered is_alone t c = maps_send_with is_alone (new_packet c.options t) t c
 
   pub maps_send_in : (phase : Phase) (t : Tcb) (c : Context P) → send_in phase t (map_context f c) ≡ map_endpoint_state f (send_in phase t c)
-  maps_send_in phase t c = ap (λ (x : AfterSending Q). open_with phase x) (maps_send_buffered (is_before_cookie_ack phase) t c)
+  maps_send_in phase t c = ap (λ (x : AfterSending Q). open_with phase x) (go (is_before_cookie_ack phase && c.options.avoid_stalls))
+    where
+      go : (waits : Bool) → send_unless waits (is_before_cookie_ack phase) t (map_context f c) ≡ map_sent f (send_unless waits (is_before_cookie_ack phase) t c)
+      go true = refl
+      go false = maps_send_buffered (is_before_cookie_ack phase) t c
 
   maps_cookie_if : (b : Bool) (cookie : List ℕ) (t : Tcb) (c : Context P) → cookie_if b cookie t (map_context f c) ≡ map_sent f (cookie_if b cookie t c)
   maps_cookie_if true cookie t c = maps_send_with true (add (cookie_echo_chunk cookie) (packet_to t.identity.peer_tag c.options.mtu)) t c

@@ -12,7 +12,7 @@ use Rattle.sctp_tx_queue.specs.Resets.{streams_to_request, request_resets}
 use Rattle.spec_endpoint.specs.Association.{Tcb, Context}
 use Rattle.spec_endpoint.specs.ResetRequests.{Request, request_chunk}
 use Rattle.spec_endpoint.specs.Packets.{PacketDraft, room, fits, add, has_chunks, packet_to, new_packet, emit}
-use Rattle.spec_endpoint.specs.Sending.{Filling, selective_ack, take_due_ack, ack_if, has_data_to_send, with_ack, forward_added_if, forward_if, with_expired_abandoned, forward_if_time, with_forward, most_streams, add_request, request_of, request_at_most, request_if, with_request, data_chunks, is_small, with_fragments, with_data, filled_as, emit_packet, BurstStep, burst_step_if, next_packet, continue_burst, burst, send_with, send_buffered, cookie_if, send_cookie, fast_most, fast_packet, fast_if, send_lost}
+use Rattle.spec_endpoint.specs.Sending.{Filling, selective_ack, take_due_ack, ack_if, has_data_to_send, with_ack, forward_added_if, forward_if, with_expired_abandoned, forward_if_time, with_forward, most_streams, add_request, request_of, request_at_most, request_if, with_request, data_chunks, asks_at_once, with_fragments, with_data, filled_as, emit_packet, BurstStep, burst_step_if, next_packet, continue_burst, burst, send_with, send_buffered, cookie_if, send_cookie, fast_most, fast_packet, fast_if, send_lost}
 use Rattle.proof_endpoint.proofs.StepsLemmas.{most_bytes, Goes}
 use Rattle.proof_endpoint.proofs.EmitsLemmas.{emits_expired, emits_sent}
 use Rattle.proof_endpoint.proofs.GoesLemmas.{IsSmall, small_empty, small_add, small_add_all, small_new, small_whole, goes_by, goes_silent, goes_same, goes_then, goes_emit, small_after}
@@ -95,7 +95,7 @@ module _ {P : Type 0} (c : Context P) where
       let g : Goes 0 x.context y.context = goes_by 0 x.context y.context refl refl
       (emits_sent x.context.pack (most_bytes x.context) x.context.now (room x.packet) x.tcb.sender x.context.queue x.context.emitted) in
       let k : Fills c y.context x.packet = fills_on x.context y.context x.packet g h in
-      record { goes = k.goes; small = small_add_all (most_bytes y.context) x.packet (data_chunks x.tcb (is_small x.context.options f.sender) f.chunks) k.small }
+      record { goes = k.goes; small = small_add_all (most_bytes y.context) x.packet (data_chunks x.tcb (asks_at_once x.context.options x.tcb.sender) f.chunks) k.small }
 
   fills_as : (is_first : Bool) (x : Filling P) → FillsBy c x → FillsBy c (filled_as is_first x)
   fills_as true x h =

@@ -23,7 +23,7 @@ use Rattle.sctp_tx_outstanding.specs.Losses.{expire_outstanding}
 use Rattle.spec_endpoint.specs.Association.{Tcb, Phase, CookieEchoed, Established, ShutdownPending, ShutdownSent, ShutdownReceived, ShutdownAckSent, State, Closed, CookieWait, Open, Context, Packing}
 use Rattle.spec_endpoint.specs.Packets.{PacketDraft, room, clear_chunks, header_to, emit_event_in}
 use Rattle.spec_endpoint.specs.ResetRequests.{Requests, Outcome, Unsettled, Done, Denied, outcome, request_chunk}
-use Rattle.spec_endpoint.specs.Sending.{is_before_cookie_ack, selective_ack, add_reset_breakpoint, last_assigned, is_small, fast_most}
+use Rattle.spec_endpoint.specs.Sending.{is_before_cookie_ack, selective_ack, add_reset_breakpoint, last_assigned, asks_at_once, fast_most}
 use Rattle.spec_endpoint.specs.Opening.{tag_from, tsn_from, next_first, word, long_word, drew_word, identity_of_init_ack, agreed_by, cookie_in, queue_if, other_mode, identity_of}
 use Rattle.spec_endpoint.specs.Sack.{clean_blocks}
 use Rattle.spec_endpoint.specs.Calls.{lifecycle_end_events, refusal_events, refuse, queue_entry, set_low_threshold}
@@ -328,7 +328,7 @@ module _ {P : Type 0} (g : Start P) (call : Call) (a : Argument call) where
       let f : fragments.Filling P = fragments_of t m in
       let k : FitsFilling f = send_fits c.now (room m.packet) t.sender c.queue c.emitted h.state.1.items h.queue in
       quietly (with_the_packet (with_the_queue (in_the_state h _ (h.state.0, with_sender t f.sender k.sender h.state.1)) f.queue k.queue) _
-      (good_data g.most m.packet t (is_small c.options f.sender) f.chunks k.chunks h.packet)) c.emitted f.emitted refl
+      (good_data g.most m.packet t (asks_at_once c.options t.sender) f.chunks k.chunks h.packet)) c.emitted f.emitted refl
       (emits_sent g.pack 0 c.now (room m.packet) t.sender c.queue c.emitted)
   goes_sending (sends_fast phase t m some) h =
       let most : ℕ = fast_most m.context.options in

@@ -13,12 +13,14 @@ use Rattle.sctp_state.specs.declared.api.GivenUpCause.{GivenUpCause}
 use Rattle.sctp_state.specs.declared.api.GivenUpCause.TheVariants.{Lifetime, Retransmissions}
 use Rattle.sctp_state.specs.Events.{Emitted}
 use Rattle.sctp_state.specs.Handover.{OutstandingData}
+use Rattle.sctp_tx_outstanding.specs.declared.item.MissIndication.{MissIndication}
+use Rattle.sctp_tx_outstanding.specs.declared.item.MissIndication.TheVariants.{Timeout}
 use Rattle.sctp_tx_outstanding.specs.declared.skips.SkipEntry.{SkipEntry}
 use Rattle.sctp_tx_outstanding.specs.Item as item
 use Rattle.sctp_tx_outstanding.specs.Item.{Item, is_of, is_fast, should_be_retransmitted, mark_as_retransmitted, miss_fast}
 use Rattle.sctp_tx_outstanding.specs.OutstandingData.{Items, Outstanding, change_at, abandon_if_of, without_payload, later_of, last_of}
 use Rattle.sctp_tx_outstanding.specs.Losses.{placeholder, placeholders, end_with_placeholder, Step, abandon_with_record, change_items, is_to_be_abandoned, loses, nack_item, nack_below, nack_all, first_step, expired_at, given_up_if, expire_below, expire_outstanding}
-use Rattle.sctp_tx_outstanding.specs.Sack.{leaving, staying, ack_or_uncover_all, ack_or_uncover, reported_below, receive_sack_first, receive_sack}
+use Rattle.sctp_tx_outstanding.specs.Sack.{report_by, leaving, staying, ack_or_uncover_all, ack_or_uncover, reported_below, receive_sack_first, receive_sack}
 use Rattle.sctp_tx_outstanding.specs.Forward.{entry_of, is_before, is_alike, put_entry, with_entry, ForwardPoint, passes, pass_item, walk, forward_point}
 use Rattle.sctp_tx_outstanding.specs.Entries.{ssn_skip, mid_skip}
 use Rattle.sctp_tx_outstanding.specs.Resending.{Resent, size_in, allowance, again_of, again_at, passed_over, fast_turn, queued_turn, turn_of, apply_turn, resent_below, resend}
@@ -101,26 +103,26 @@ module _ {P : Type 0} where
   given_up_fits : (number : ℕ) (cause : GivenUpCause) (x : Step P) → FitsStep x → FitsStep (abandon_with_record number cause x)
   given_up_fits number cause x h = map_fits (abandon_if_of number) (laid_fits number) (end_with_placeholder number x.items).kept (closed_fits number x.items h)
 
-  nack_item_fits : (at_once fast : Bool) (k : ℕ) (i : Item) (x : Step P) → FitsStep x → FitsStep (nack_item at_once fast k i x)
-  nack_item_fits at_once fast k i x h = go (is_to_be_abandoned x.items.is_partial at_once i)
+  nack_item_fits : (indication : MissIndication) (fast : Bool) (k : ℕ) (i : Item) (x : Step P) → FitsStep x → FitsStep (nack_item indication fast k i x)
+  nack_item_fits indication fast k i x h = go (is_to_be_abandoned x.items.is_partial indication i)
     where
       go : (b : Bool) → FitsStep (cond b (abandon_with_record i.number (Retransmissions (i.sent - 1)) x)
-          (record x { items = change_items k (item.nack at_once fast) x.items; is_lossy = x.is_lossy || loses at_once i }))
+          (record x { items = change_items k (item.nack indication fast) x.items; is_lossy = x.is_lossy || loses indication i }))
       go true = given_up_fits i.number (Retransmissions (i.sent - 1)) x h
-      go false = change_fits (item.nack at_once fast) (λ j f. record { stream_id = f.stream_id; ssn = f.ssn; mid = f.mid; fsn = f.fsn; ppid = f.ppid }) k x.items.kept h
+      go false = change_fits (item.nack indication fast) (λ j f. record { stream_id = f.stream_id; ssn = f.ssn; mid = f.mid; fsn = f.fsn; ppid = f.ppid }) k x.items.kept h
 
-  nack_at_fits : (o : Option Item) (at_once fast : Bool) (k : ℕ) (x : Step P) → FitsStep x → FitsStep (unwrap_or (option_map (λ i. nack_item at_once fast k i x) o) x)
-  nack_at_fits None at_once fast k x h = h
-  nack_at_fits (Some i) at_once fast k x h = nack_item_fits at_once fast k i x h
+  nack_at_fits : (o : Option Item) (indication : MissIndication) (fast : Bool) (k : ℕ) (x : Step P) → FitsStep x → FitsStep (unwrap_or (option_map (λ i. nack_item indication fast k i x) o) x)
+  nack_at_fits None indication fast k x h = h
+  nack_at_fits (Some i) indication fast k x h = nack_item_fits indication fast k i x h
 
-  nacks_fit : (at_once fast : Bool) (n : ℕ) (x : Step P) → FitsStep x → FitsStep (nack_below at_once fast n x)
-  nacks_fit at_once fast zero x h = h
-  nacks_fit at_once fast (suc n) x h =
-      let y : Step P = nack_below at_once fast n x in
-      nack_at_fits (slice_get y.items.kept n) at_once fast n y (nacks_fit at_once fast n x h)
+  nacks_fit : (indication : MissIndication) (fast : Bool) (n : ℕ) (x : Step P) → FitsStep x → FitsStep (nack_below indication fast n x)
+  nacks_fit indication fast zero x h = h
+  nacks_fit indication fast (suc n) x h =
+      let y : Step P = nack_below indication fast n x in
+      nack_at_fits (slice_get y.items.kept n) indication fast n y (nacks_fit indication fast n x h)
 
   pub nack_all_fits : (s : Items) (t : Emitted P) → FitsItems s → FitsItems (nack_all s t).items
-  nack_all_fits s t h = nacks_fit true false (length s.kept) (first_step s t) h
+  nack_all_fits s t h = nacks_fit Timeout false (length s.kept) (first_step s t) h
 
   given_up_if_fits : (o : Option ℕ) (x : Step P) → FitsStep x → FitsStep (given_up_if o x)
   given_up_if_fits None x h = h
@@ -135,9 +137,9 @@ module _ {P : Type 0} where
   pub expired_fits : (now : ℕ) (s : Items) (t : Emitted P) → FitsItems s → FitsItems (expire_outstanding now s t).items
   expired_fits now s t h = expire_fits now (length s.kept) (first_step s t) h
 
-  pub receive_fits : (n : ℕ) (blocks : List GapAckBlock) (fast : Bool) (s : Items) (t : Emitted P) → FitsItems s → FitsItems (receive_sack n blocks fast s t).items
-  receive_fits n blocks fast s t h =
-      nacks_fit false (not fast) (reported_below blocks (staying n s)) (receive_sack_first n blocks s t)
+  pub receive_fits : (n : ℕ) (blocks : List GapAckBlock) (once fast : Bool) (s : Items) (t : Emitted P) → FitsItems s → FitsItems (receive_sack n blocks once fast s t).items
+  receive_fits n blocks once fast s t h =
+      nacks_fit (report_by once n blocks s) (not fast) (reported_below blocks (staying n s)) (receive_sack_first n blocks s t)
       (settle_fits blocks 1 (drop (leaving n s) s.kept) (each_drop FitsItem (leaving n s) s.kept h))
 
 -- ---- what is sent again

@@ -27,7 +27,7 @@ FitsSender s = FitsItems s.outstanding.items
 
 module _ {P : Type 0} where
   pub received_fits : (b : Bool) (now n a_rwnd : ℕ) (blocks : List GapAckBlock) (s : Sender) (t : Emitted P) → FitsSender s → FitsSender (sender_if b now n a_rwnd blocks s t)
-  received_fits true now n a_rwnd blocks s t h = receive_fits n blocks (not (is_open n s.windows)) s.outstanding.items t h
+  received_fits true now n a_rwnd blocks s t h = receive_fits n blocks s.windows.avoids_stalls (not (is_open n s.windows)) s.outstanding.items t h
   received_fits false now n a_rwnd blocks s t h = h
 
   pub sender_expired_fits : (now : ℕ) (s : Sender) (t : Emitted P) → FitsSender s → FitsSender (abandon_expired now s t)

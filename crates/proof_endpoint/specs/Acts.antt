@@ -37,7 +37,7 @@ use Rattle.sctp_tx.specs.Sending.{send}
 use Rattle.spec_endpoint.specs.Association.{Tcb, tcb, Phase, CookieEchoed, Established, ShutdownPending, State, Closed, CookieWait, Open, Heartbeats, Context, Endpoint}
 use Rattle.spec_endpoint.specs.Packets.{PacketDraft, clear_chunks, room, add, add_all, has_chunks, packet_to, emit_event_in, emit_error, emit_if}
 use Rattle.spec_endpoint.specs.ResetRequests.{Request, Requests, request_chunk, in_progress, performed, nothing_to_do, bad_number, is_final, is_last_request, is_known_request, clear_deferral, set_last_request, outcome, handle_response}
-use Rattle.spec_endpoint.specs.Sending.{selective_ack, take_due_ack, force_ack, without_duplicates, request_started, data_chunks, is_small, is_before_cookie_ack, fast_most}
+use Rattle.spec_endpoint.specs.Sending.{selective_ack, take_due_ack, force_ack, without_duplicates, request_started, data_chunks, asks_at_once, is_before_cookie_ack, fast_most}
 use Rattle.spec_endpoint.specs.Heartbeats.{restart_interval_if}
 use Rattle.spec_endpoint.specs.Shutdown.{over}
 use Rattle.spec_endpoint.specs.Opening.{tsn_from, tag_from, word, drew_word, long_word, drew_long_word, init_of, t1_init, init_ack_of, next_first, agreed_by, cookie_in, maker, queue_anew, t1_cookie, identity_of_init_ack, enter_connected, RestartDetected, SimultaneousInit, MaintainExisting, resolve_by_tags, queue_for, tcb_by}
@@ -434,7 +434,7 @@ with_fragments f phase t m = record m {
     emitted = f.emitted;
     heartbeats = restart_interval_if (not (length f.chunks == 0)) m.context.now m.context.heartbeats;
   };
-  packet = add_all (data_chunks t (is_small m.context.options f.sender) f.chunks) m.packet;
+  packet = add_all (data_chunks t (asks_at_once m.context.options t.sender) f.chunks) m.packet;
 }
 
 abbrev pub after_sending : {P : Type 0} {call : Call} → SendingAct P call → EndWithPacket P

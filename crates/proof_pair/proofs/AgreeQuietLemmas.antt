@@ -14,7 +14,7 @@ use Rattle.spec_endpoint.specs.Packets.{PacketDraft, packet_to, add}
 use Rattle.spec_endpoint.specs.ResetRequests.{Outcome, Unsettled, Done, Denied, outcome, request_chunk}
 use Rattle.spec_endpoint.specs.StreamReset.{on_outcome}
 use Rattle.spec_endpoint.specs.Shutdown.{ended, over}
-use Rattle.spec_endpoint.specs.Sending.{is_small, selective_ack, fast_most}
+use Rattle.spec_endpoint.specs.Sending.{asks_at_once, selective_ack, fast_most}
 use Rattle.spec_endpoint.specs.Opening.{init_of}
 use Rattle.spec_endpoint.specs.Laws.{Call, Connect, Restore, ending}
 use Rattle.sctp_tx.specs.RetransmissionQueue.{Sender}
@@ -197,7 +197,7 @@ module _ (g : Setting) (x y : Past) (call : Call) (own : AreValidOptions g.own) 
       let v : View = view_of (Open phase t) in
       let f : fragments.Filling Carried = fragments_of t m in
       emits_all v m (after_sending act) _ _ (sending_act_emits_no_packet_or_status act)
-      (adds_data g x y v m.context.options m.context.pack m.context.emitted.events t (is_small m.context.options f.sender) f.chunks m.packet inv)
+      (adds_data g x y v m.context.options m.context.pack m.context.emitted.events t (asks_at_once m.context.options t.sender) f.chunks m.packet inv)
   keeps_sending (sends_fast phase t m some) inv =
       let v : View = view_of (Open phase t) in
       adds_data g x y v m.context.options m.context.pack m.context.emitted.events t false (resent_fast (fast_most m.context.options) t.sender).chunks m.packet inv

@@ -258,7 +258,7 @@ module _ (once : CallsNumberOnce) (made : MadeConnected) (call : Call) (fits : H
   keeps_sack : (act : SackAct (List ℕ) call) → R (before_sack act) (after_sack act)
   keeps_sack (takes_sack tag k phase t m received valid) =
       block phase phase t _ m.context _
-      (lasts_sent t _ (record { first = refl; items = alike_received (point_of k t) _ _ t.sender.outstanding.items m.context.emitted })) (goes_same m.context.queue) refl
+      (lasts_sent t _ (record { first = refl; items = alike_received (point_of k t) _ _ _ t.sender.outstanding.items m.context.emitted })) (goes_same m.context.queue) refl
   keeps_sack (samples r phase t m) = block phase phase t (timed_by r t) m.context m.context (lasts_timed r t) (goes_same m.context.queue) refl
   keeps_sack (counts_errors e m) = still m.state m.context _ refl refl
 

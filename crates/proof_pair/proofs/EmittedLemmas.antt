@@ -8,11 +8,13 @@ use Rattle.sctp_chunk.specs.declared.sack.GapAckBlock.{GapAckBlock}
 use Rattle.sctp_state.specs.declared.api.GivenUpCause.{GivenUpCause}
 use Rattle.sctp_state.specs.declared.api.GivenUpCause.TheVariants.{Lifetime, Retransmissions, Reset, Ended}
 use Rattle.sctp_state.specs.Events.{Event, SendPacket, OnConnected, OnConnectionRestarted, OnClosed, OnAborted, OnBufferedAmountLow, OnTotalBufferedAmountLow, OnLifecycleMessageDelivered, Emitted, emit_events, emit_given_up, expired_events, OnError, OnLifecycleMessageFullySent, OnLifecycleMessageMaybeExpired, OnLifecycleMessageExpired, OnLifecycleEnd}
+use Rattle.sctp_tx_outstanding.specs.declared.item.MissIndication.{MissIndication}
+use Rattle.sctp_tx_outstanding.specs.declared.item.MissIndication.TheVariants.{Timeout}
 use Rattle.sctp_tx_outstanding.specs.Item.{Item, is_abandoned}
 use Rattle.sctp_tx_outstanding.specs.OutstandingData.{Items, Discard}
 use Rattle.sctp_tx_outstanding.specs.Losses.{Step, first_step, abandon_with_record, is_to_be_abandoned, loses, change_items, nack_item, nack_below, nack_all, given_up_if, expired_at, expire_below, expire_outstanding}
 use Rattle.sctp_tx_outstanding.specs.Item as item
-use Rattle.sctp_tx_outstanding.specs.Sack.{leaving_events, all_leaving_events, leaving, staying, reported_below, receive_sack_first, receive_sack}
+use Rattle.sctp_tx_outstanding.specs.Sack.{report_by, leaving_events, all_leaving_events, leaving, staying, reported_below, receive_sack_first, receive_sack}
 use Rattle.sctp_tx_outstanding.specs.Sack as sack
 use Rattle.sctp_state.specs.ThresholdWatcher.{crosses}
 use Rattle.sctp_tx_queue.specs.SendQueue.{Queued, Stream, Streams, Queue, stream, watched_amount, watched_total}
@@ -145,24 +147,24 @@ module _ {P : Type 0} (kind : Event P → Bool) (k : Kind kind) where
 
   -- ---- items
 
-  nacks_item : (b at_once fast : Bool) (place : ℕ) (i : Item) (t : Emitted P) (x : Step P) → Emits kind t x.emitted
-      → Emits kind t (cond b (abandon_with_record i.number (Retransmissions (i.sent - 1)) x) (record x { items = change_items place (item.nack at_once fast) x.items; is_lossy = x.is_lossy || loses at_once i })).emitted
-  nacks_item true at_once fast place i t x h = onto t x.emitted (emit_given_up i.number (Retransmissions (i.sent - 1)) x.emitted) h (given i.number (Retransmissions (i.sent - 1)) x.emitted)
-  nacks_item false at_once fast place i t x h = h
+  nacks_item : (b : Bool) (indication : MissIndication) (fast : Bool) (place : ℕ) (i : Item) (t : Emitted P) (x : Step P) → Emits kind t x.emitted
+      → Emits kind t (cond b (abandon_with_record i.number (Retransmissions (i.sent - 1)) x) (record x { items = change_items place (item.nack indication fast) x.items; is_lossy = x.is_lossy || loses indication i })).emitted
+  nacks_item true indication fast place i t x h = onto t x.emitted (emit_given_up i.number (Retransmissions (i.sent - 1)) x.emitted) h (given i.number (Retransmissions (i.sent - 1)) x.emitted)
+  nacks_item false indication fast place i t x h = h
 
-  nacks_at : (o : Option Item) (at_once fast : Bool) (place : ℕ) (t : Emitted P) (x : Step P) → Emits kind t x.emitted
-      → Emits kind t (unwrap_or (option_map (λ i. nack_item at_once fast place i x) o) x).emitted
-  nacks_at None at_once fast place t x h = h
-  nacks_at (Some i) at_once fast place t x h = nacks_item (is_to_be_abandoned x.items.is_partial at_once i) at_once fast place i t x h
+  nacks_at : (o : Option Item) (indication : MissIndication) (fast : Bool) (place : ℕ) (t : Emitted P) (x : Step P) → Emits kind t x.emitted
+      → Emits kind t (unwrap_or (option_map (λ i. nack_item indication fast place i x) o) x).emitted
+  nacks_at None indication fast place t x h = h
+  nacks_at (Some i) indication fast place t x h = nacks_item (is_to_be_abandoned x.items.is_partial indication i) indication fast place i t x h
 
-  nacks_below : (at_once fast : Bool) (n : ℕ) (t : Emitted P) (x : Step P) → Emits kind t x.emitted → Emits kind t (nack_below at_once fast n x).emitted
-  nacks_below at_once fast zero t x h = h
-  nacks_below at_once fast (suc n) t x h =
-      let y : Step P = nack_below at_once fast n x in
-      nacks_at (slice_get y.items.kept n) at_once fast n t y (nacks_below at_once fast n t x h)
+  nacks_below : (indication : MissIndication) (fast : Bool) (n : ℕ) (t : Emitted P) (x : Step P) → Emits kind t x.emitted → Emits kind t (nack_below indication fast n x).emitted
+  nacks_below indication fast zero t x h = h
+  nacks_below indication fast (suc n) t x h =
+      let y : Step P = nack_below indication fast n x in
+      nacks_at (slice_get y.items.kept n) indication fast n t y (nacks_below indication fast n t x h)
 
   pub times_out : (s : Items) (t : Emitted P) → Emits kind t (nack_all s t).emitted
-  times_out s t = nacks_below true false (length s.kept) t (first_step s t) (same t)
+  times_out s t = nacks_below Timeout false (length s.kept) t (first_step s t) (same t)
 
   gives_up_if : (o : Option ℕ) (t : Emitted P) (x : Step P) → Emits kind t x.emitted → Emits kind t (given_up_if o x).emitted
   gives_up_if None t x h = h
@@ -325,15 +327,15 @@ module _ {P : Type 0} (kind : Event P → Bool) (k : Kind kind) where
     all_reports [] = refl
     all_reports (i ∷ is) = both (leaving_events i) (all_leaving_events is) (all_ending i.fragment.is_end (is_abandoned i) i.lifecycle) (all_reports is)
 
-    received : (n : ℕ) (blocks : List GapAckBlock) (fast : Bool) (s : Items) (t : Emitted P) → Emits kind t (receive_sack n blocks fast s t).emitted
-    received n blocks fast s t =
+    received : (n : ℕ) (blocks : List GapAckBlock) (once fast : Bool) (s : Items) (t : Emitted P) → Emits kind t (receive_sack n blocks once fast s t).emitted
+    received n blocks once fast s t =
         let x : Step P = receive_sack_first n blocks s t in
-        let y : Step P = nack_below false (not fast) (reported_below blocks (staying n s)) x in
+        let y : Step P = nack_below (report_by once n blocks s) (not fast) (reported_below blocks (staying n s)) x in
         onto t x.emitted y.emitted (these (all_leaving_events (take (leaving n s) s.kept)) t (all_reports (take (leaving n s) s.kept)))
-        (nacks_below false (not fast) (reported_below blocks (staying n s)) x.emitted x (same x.emitted))
+        (nacks_below (report_by once n blocks s) (not fast) (reported_below blocks (staying n s)) x.emitted x (same x.emitted))
 
     pub receives : (is_valid : Bool) (n : ℕ) (blocks : List GapAckBlock) (s : Sender) (t : Emitted P) → Emits kind t (emitted_if is_valid n blocks s t)
-    receives true n blocks s t = received n blocks (not (is_open n s.windows)) s.outstanding.items t
+    receives true n blocks s t = received n blocks s.windows.avoids_stalls (not (is_open n s.windows)) s.outstanding.items t
     receives false n blocks s t = same t
 
 -- ---- lightly, and quietly

@@ -9,7 +9,7 @@ use Rattle.spec_endpoint.specs.Association.{Tcb, Phase, CookieEchoed, Establishe
 use Rattle.spec_endpoint.specs.Packets.{PacketDraft, add, add_all}
 use Rattle.spec_endpoint.specs.ResetRequests.{Outcome, Unsettled, Done, Denied, outcome, request_chunk}
 use Rattle.spec_endpoint.specs.StreamReset.{on_outcome}
-use Rattle.spec_endpoint.specs.Sending.{is_small, data_chunks, selective_ack, fast_most}
+use Rattle.spec_endpoint.specs.Sending.{asks_at_once, data_chunks, selective_ack, fast_most}
 use Rattle.spec_endpoint.specs.Opening.{word, drew_word, long_word, tcb_by}
 use Rattle.spec_endpoint.specs.Laws.{Call, Shutdown}
 use Rattle.sctp_tx.specs.RetransmissionQueue.{Sender}
@@ -192,7 +192,7 @@ module _ (g : Setting) (call : Call) (r : Rules g call) where
       let act : SendingAct Carried call = sends phase t m in
       let v : View = view_of (Open phase t) in
       let f : fragments.Filling Carried = fragments_of t m in
-      let small : Bool = is_small m.context.options f.sender in
+      let small : Bool = asks_at_once m.context.options t.sender in
       emits_all v m.context.options m.context.pack m (after_sending act) _ _ (sending_act_emits_no_packet_or_status act)
       (adds_many v m.context.options m.context.pack m.context.emitted.events m.packet (data_chunks t small f.chunks) inv (λ tag. own_says_data g v tag t small f.chunks))
   keeps_sending (sends_fast phase t m some) inv =

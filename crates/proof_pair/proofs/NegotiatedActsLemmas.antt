@@ -20,7 +20,7 @@ use Rattle.spec_endpoint.specs.Association.{Tcb, tcb, Phase, CookieEchoed, Estab
 use Rattle.spec_endpoint.specs.Packets.{PacketDraft, add, add_all, header_to, room}
 use Rattle.spec_endpoint.specs.ResetRequests.{Outcome, Unsettled, Done, Denied, outcome, request_chunk}
 use Rattle.spec_endpoint.specs.StreamReset.{on_outcome}
-use Rattle.spec_endpoint.specs.Sending.{is_small, selective_ack, data_chunk_of, data_chunks, fast_most}
+use Rattle.spec_endpoint.specs.Sending.{asks_at_once, selective_ack, data_chunk_of, data_chunks, fast_most}
 use Rattle.spec_endpoint.specs.Sack.{clean_blocks}
 use Rattle.spec_endpoint.specs.Shutdown.{ended, over}
 use Rattle.spec_endpoint.specs.Opening.{init_of, init_ack_of, agreed_by, identity_of_init_ack, long_word, tcb_by}
@@ -300,7 +300,7 @@ module _ (g : Setting) (call : Call) (r : Receives g call) where
       let act : SackAct Carried call = takes_sack tag k phase t m received valid in
       inv_emitting_no_packet_or_status (view_of (Open phase t)) (view_of (after_sack act).state) m (after_sack act) m.packet.chunks (sack_act_emits_no_packet_or_status act)
       (sends_on phase t (sender_if true m.context.now (point_of k t) k.a_rwnd (clean_blocks k.gap_ack_blocks) t.sender m.context.emitted)
-      (record { first = refl; items = alike_received (point_of k t) _ _ t.sender.outstanding.items m.context.emitted }) inv.able) inv
+      (record { first = refl; items = alike_received (point_of k t) _ _ _ t.sender.outstanding.items m.context.emitted }) inv.able) inv
   keeps_sack (samples k phase t m) inv = inv
   keeps_sack (counts_errors e m) inv = inv
 
@@ -336,8 +336,8 @@ module _ (g : Setting) (call : Call) (r : Receives g call) where
       let n : ℕ = room m.packet in
       inv_emitting_no_packet_or_status (view_of (Open phase t)) (view_of (after_sending act).state) m (after_sending act) _ (sending_act_emits_no_packet_or_status act)
       (sends_on phase t f.sender (stays_sent m.context.now n t.sender m.context.queue m.context.emitted) inv.able)
-      (adds_many (view_of (Open phase t)) m.context.options m.context.pack m.context.emitted.events m.packet (data_chunks t (is_small m.context.options f.sender) f.chunks) inv
-      (data_all g.own g.other t.capabilities.message_interleaving (is_small m.context.options f.sender) f.chunks (mode_now phase t inv.able)))
+      (adds_many (view_of (Open phase t)) m.context.options m.context.pack m.context.emitted.events m.packet (data_chunks t (asks_at_once m.context.options t.sender) f.chunks) inv
+      (data_all g.own g.other t.capabilities.message_interleaving (asks_at_once m.context.options t.sender) f.chunks (mode_now phase t inv.able)))
   keeps_sending (sends_fast phase t m some) inv =
       let n : ℕ = fast_most m.context.options in
       let cs : List ChunkTree = data_chunks t false (resent_fast n t.sender).chunks in

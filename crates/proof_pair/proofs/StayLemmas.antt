@@ -14,10 +14,12 @@ use Rattle.sctp_rx.specs.ReassemblyStreams.{Streams, stream_at, set_stream, is_f
 use Rattle.sctp_rx.specs.ReassemblyStreams as streams
 use Rattle.sctp_rx.specs.ReassemblyQueue.{Waiting, Added, Forwarded, Reassembly, add_now, forward_now, keep_back, came, is_kept_back, add_or_keep_back, point_waits, forward_or_wait, apply, apply_each, waiting_in, wait_with, resetting}
 use Rattle.sctp_rx.specs.ReassemblyQueue as reassembly
+use Rattle.sctp_tx_outstanding.specs.declared.item.MissIndication.{MissIndication}
+use Rattle.sctp_tx_outstanding.specs.declared.item.MissIndication.TheVariants.{Timeout}
 use Rattle.sctp_tx_outstanding.specs.Item.{Item, nack, is_fast, should_be_retransmitted}
 use Rattle.sctp_tx_outstanding.specs.OutstandingData.{Items, Outstanding}
 use Rattle.sctp_tx_outstanding.specs.Losses.{Step, abandon_with_record, given_up_if, change_items, loses, is_to_be_abandoned, nack_item, nack_at, nack_below, nack_all, expired_at, expire_at, expire_below, expire_outstanding}
-use Rattle.sctp_tx_outstanding.specs.Sack.{receive_sack, receive_sack_first, staying, reported_below}
+use Rattle.sctp_tx_outstanding.specs.Sack.{report_by, receive_sack, receive_sack_first, staying, reported_below}
 use Rattle.sctp_tx_outstanding.specs.Resending.{Resent, size_in, allowance, again_of, fast_turn, queued_turn, turn_of, apply_turn, step_at, resent_below, resend}
 use Rattle.sctp_tx.specs.RetransmissionQueue.{Sender}
 use Rattle.sctp_tx.specs.Resent.{start_t3_if, start_t3_if_sent, resent_fast, send_fast, resent_by}
@@ -36,29 +38,29 @@ alike_then : (s r q : Items) → Alike s r → Alike r q → Alike s q
 alike_then s r q a b = record { partial = b.partial ∙ a.partial; mode = b.mode ∙ a.mode }
 
 module _ {P : Type 0} where
-  alike_item : (at_once fast : Bool) (k : ℕ) (i : Item) (x : Step P) → Alike x.items (nack_item at_once fast k i x).items
-  alike_item at_once fast k i x = go (is_to_be_abandoned x.items.is_partial at_once i)
+  alike_item : (indication : MissIndication) (fast : Bool) (k : ℕ) (i : Item) (x : Step P) → Alike x.items (nack_item indication fast k i x).items
+  alike_item indication fast k i x = go (is_to_be_abandoned x.items.is_partial indication i)
     where
       go : (b : Bool) → Alike x.items (cond b (abandon_with_record i.number (Retransmissions (i.sent - 1)) x)
-          (record x { items = change_items k (nack at_once fast) x.items; is_lossy = x.is_lossy || loses at_once i })).items
+          (record x { items = change_items k (nack indication fast) x.items; is_lossy = x.is_lossy || loses indication i })).items
       go true = record { partial = refl; mode = refl }
       go false = record { partial = refl; mode = refl }
 
-  alike_at : (at_once fast : Bool) (k : ℕ) (x : Step P) → Alike x.items (nack_at at_once fast k x).items
-  alike_at at_once fast k x = go (slice_get x.items.kept k)
+  alike_at : (indication : MissIndication) (fast : Bool) (k : ℕ) (x : Step P) → Alike x.items (nack_at indication fast k x).items
+  alike_at indication fast k x = go (slice_get x.items.kept k)
     where
-      go : (o : Option Item) → Alike x.items (unwrap_or (option_map (λ i. nack_item at_once fast k i x) o) x).items
+      go : (o : Option Item) → Alike x.items (unwrap_or (option_map (λ i. nack_item indication fast k i x) o) x).items
       go None = alike_same x.items
-      go (Some i) = alike_item at_once fast k i x
+      go (Some i) = alike_item indication fast k i x
 
-  alike_below : (at_once fast : Bool) (n : ℕ) (x : Step P) → Alike x.items (nack_below at_once fast n x).items
-  alike_below at_once fast zero x = alike_same x.items
-  alike_below at_once fast (suc n) x =
-      let y : Step P = nack_below at_once fast n x in
-      alike_then x.items y.items (nack_at at_once fast n y).items (alike_below at_once fast n x) (alike_at at_once fast n y)
+  alike_below : (indication : MissIndication) (fast : Bool) (n : ℕ) (x : Step P) → Alike x.items (nack_below indication fast n x).items
+  alike_below indication fast zero x = alike_same x.items
+  alike_below indication fast (suc n) x =
+      let y : Step P = nack_below indication fast n x in
+      alike_then x.items y.items (nack_at indication fast n y).items (alike_below indication fast n x) (alike_at indication fast n y)
 
   pub alike_all : (s : Items) (t : Emitted P) → Alike s (nack_all s t).items
-  alike_all s t = alike_below true false (length s.kept) (record { items = s; emitted = t; is_lossy = false })
+  alike_all s t = alike_below Timeout false (length s.kept) (record { items = s; emitted = t; is_lossy = false })
 
   alike_expired : (o : Option ℕ) (x : Step P) → Alike x.items (given_up_if o x).items
   alike_expired None x = alike_same x.items
@@ -73,10 +75,10 @@ module _ {P : Type 0} where
   pub alike_outstanding : (now : ℕ) (s : Items) (t : Emitted P) → Alike s (expire_outstanding now s t).items
   alike_outstanding now s t = alike_expire now (length s.kept) (record { items = s; emitted = t; is_lossy = false })
 
-  pub alike_received : (n : ℕ) (blocks : List GapAckBlock) (fast : Bool) (s : Items) (t : Emitted P) → Alike s (receive_sack n blocks fast s t).items
-  alike_received n blocks fast s t =
+  pub alike_received : (n : ℕ) (blocks : List GapAckBlock) (once fast : Bool) (s : Items) (t : Emitted P) → Alike s (receive_sack n blocks once fast s t).items
+  alike_received n blocks once fast s t =
       let y : Step P = receive_sack_first n blocks s t in
-      alike_then s y.items (receive_sack n blocks fast s t).items (record { partial = refl; mode = refl }) (alike_below false _ (reported_below blocks (staying n s)) y)
+      alike_then s y.items (receive_sack n blocks once fast s t).items (record { partial = refl; mode = refl }) (alike_below (report_by once n blocks s) _ (reported_below blocks (staying n s)) y)
 
 -- with the first TSN
 pub record Stays (d e : Outstanding) : Type 0 where

@@ -4,6 +4,7 @@ use Rattle.std.specs.Prelude.{nat_lt, option_map, unwrap_or, slice_get}
 use Rattle.std.proofs.lemmas.Bool.{cases_lt, cond-true, cond-false, eqb-true, lt-ltb}
 use Rattle.sctp_serial.specs.Unwrapped.{origin}
 use Rattle.sctp_tx_queue.specs.SendQueue.{Queue}
+use Rattle.sctp_tx_outstanding.specs.declared.item.MissIndication.{MissIndication}
 use Rattle.sctp_tx_outstanding.specs.Item.{Item}
 use Rattle.sctp_tx_outstanding.specs.OutstandingData.{Items, next_number, is_last, with_break, begin_reset}
 use Rattle.sctp_tx_outstanding.specs.Losses.{Step, is_to_be_abandoned, nack_item, nack_at, nack_below, option_bind, expired_of, given_up_if, expire_at, expire_below}
@@ -66,20 +67,20 @@ breaks_stay x y s t same left breaks h r a = elim (h r (subst (IsAmong r) same a
 ]
 
 module _ {P : Type 0} where
-  nacked : (at_once fast : Bool) (n : ℕ) (x : Step P) → (nack_at at_once fast n x).items.breaks ≡ x.items.breaks
-  nacked at_once fast n x = go (slice_get x.items.kept n)
+  nacked : (indication : MissIndication) (fast : Bool) (n : ℕ) (x : Step P) → (nack_at indication fast n x).items.breaks ≡ x.items.breaks
+  nacked indication fast n x = go (slice_get x.items.kept n)
     where
-      item : (i : Item) (b : Bool) → is_to_be_abandoned x.items.is_partial at_once i ≡ b → (nack_item at_once fast n i x).items.breaks ≡ x.items.breaks
+      item : (i : Item) (b : Bool) → is_to_be_abandoned x.items.is_partial indication i ≡ b → (nack_item indication fast n i x).items.breaks ≡ x.items.breaks
       item i true e = rw e refl
       item i false e = rw e refl
 
-      go : (o : Option Item) → (unwrap_or (option_map (λ i. nack_item at_once fast n i x) o) x).items.breaks ≡ x.items.breaks
+      go : (o : Option Item) → (unwrap_or (option_map (λ i. nack_item indication fast n i x) o) x).items.breaks ≡ x.items.breaks
       go None = refl
-      go (Some i) = item i (is_to_be_abandoned x.items.is_partial at_once i) refl
+      go (Some i) = item i (is_to_be_abandoned x.items.is_partial indication i) refl
 
-  pub nacks_keep : (at_once fast : Bool) (n : ℕ) (x : Step P) → (nack_below at_once fast n x).items.breaks ≡ x.items.breaks
-  nacks_keep at_once fast zero x = refl
-  nacks_keep at_once fast (suc n) x = nacked at_once fast n (nack_below at_once fast n x) ∙ nacks_keep at_once fast n x
+  pub nacks_keep : (indication : MissIndication) (fast : Bool) (n : ℕ) (x : Step P) → (nack_below indication fast n x).items.breaks ≡ x.items.breaks
+  nacks_keep indication fast zero x = refl
+  nacks_keep indication fast (suc n) x = nacked indication fast n (nack_below indication fast n x) ∙ nacks_keep indication fast n x
 
   expired : (now n : ℕ) (x : Step P) → (expire_at now n x).items.breaks ≡ x.items.breaks
   expired now n x = go (option_bind (expired_of x.items.is_partial now) (slice_get x.items.kept n))

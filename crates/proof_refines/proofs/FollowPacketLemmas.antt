@@ -11,11 +11,12 @@ use Rattle.sctp_state.specs.Events.{Emitted}
 use Rattle.sctp_tx_queue.specs.SendQueue.{Queue}
 use Rattle.sctp_tx_queue.specs.Settings.{Changed}
 use Rattle.sctp_tx_queue.specs.Produced.{Produced, Turn, produce}
+use Rattle.sctp_tx_outstanding.specs.declared.item.MissIndication.TheVariants.{Timeout}
 use Rattle.sctp_tx_outstanding.specs.Item.{Item}
 use Rattle.sctp_tx_outstanding.specs.OutstandingData.{Items}
 use Rattle.sctp_tx_outstanding.specs.Losses.{first_step}
 use Rattle.sctp_tx_outstanding.specs.Resending.{Resent, again_of, step_at, resent_below, empty_packet}
-use Rattle.sctp_tx_outstanding.specs.Sack.{leaving, staying, receive_sack_first, reported_below}
+use Rattle.sctp_tx_outstanding.specs.Sack.{report_by, leaving, staying, receive_sack_first, reported_below}
 use Rattle.sctp_tx.specs.Windows.{is_open}
 use Rattle.sctp_tx.specs.RetransmissionQueue.{Sender, handle_sack, step_of}
 use Rattle.sctp_tx.specs.Resent.{send_fast, resent, resent_by, flight, resent_fast, may_send_new, start_t3_if}
@@ -95,8 +96,8 @@ fast_breaks now most s =
 pub breaks_are_kept : BreaksAreKept
 breaks_are_kept = record {
   message = λ p s. refl;
-  losses = λ at_once fast n s emitted. nacks_keep at_once fast n (first_step s emitted);
-  timeout = λ now s emitted. nacks_keep true false (length s.outstanding.items.kept) (first_step s.outstanding.items emitted);
+  losses = λ indication fast n s emitted. nacks_keep indication fast n (first_step s emitted);
+  timeout = λ now s emitted. nacks_keep Timeout false (length s.outstanding.items.kept) (first_step s.outstanding.items emitted);
   lifetimes = λ now n s emitted. expiries_keep now n (first_step s emitted);
   expiry = λ now s emitted. expiries_keep now (length s.outstanding.items.kept) (first_step s.outstanding.items emitted);
 }
@@ -221,7 +222,7 @@ module _ {P : Type 0} (message : ℕ → Message) (lifecycle : ℕ → Option �
           keyed = h.keyed;
           breaks =
               breaks_stay y y (staying cumulative s.outstanding.items) to refl (omega arith)
-              (nacks_keep false (not (not (is_open cumulative s.windows))) (reported_below blocks (staying cumulative s.outstanding.items)) (receive_sack_first cumulative blocks s.outstanding.items emitted))
+              (nacks_keep (report_by s.windows.avoids_stalls cumulative blocks s.outstanding.items) (not (not (is_open cumulative s.windows))) (reported_below blocks (staying cumulative s.outstanding.items)) (receive_sack_first cumulative blocks s.outstanding.items emitted))
               (staying_keeps x y s.outstanding.items cumulative c refl (omega (arith, a)) upto (omega (arith, a, b)) h.breaks);
         };
       }

@@ -2,6 +2,7 @@
 use Rattle.std.proofs.Common.{◌≡◌, ℕ, zero, suc, ◌+◌, ◌<◌, ◌≤◌, Bool, true, false, Option, List, [], ◌∷◌, ◌++◌, length, drop, refl, sym, ap, ◌∙◌, subst, arith}
 use Rattle.sctp_chunk.specs.declared.sack.GapAckBlock.{GapAckBlock}
 use Rattle.sctp_packet.specs.Covered.{is_covered}
+use Rattle.sctp_tx_outstanding.specs.declared.item.MissIndication.{MissIndication}
 use Rattle.sctp_tx_outstanding.specs.Item.{Item, is_lost, is_abandoned, ack, uncover, nack, mark_as_retransmitted, miss_fast}
 use Rattle.sctp_tx_outstanding.specs.OutstandingData.{change_at}
 use Rattle.sctp_tx_outstanding.specs.Sack.{ack_or_uncover_all, ack_or_uncover}
@@ -74,8 +75,8 @@ by_ack i = record { place = refl; carried = refl; lifecycle_id = refl; given_up 
 pub by_uncover : (i : Item) → Alike i (uncover i)
 by_uncover i = record { place = refl; carried = refl; lifecycle_id = refl; given_up = uncovered_same i.state }
 
-pub by_nack : (at_once fast : Bool) (i : Item) → Alike i (nack at_once fast i)
-by_nack at_once fast i = record { place = refl; carried = refl; lifecycle_id = refl; given_up = nacked_same (is_lost at_once i) fast i.state }
+pub by_nack : (indication : MissIndication) (fast : Bool) (i : Item) → Alike i (nack indication fast i)
+by_nack indication fast i = record { place = refl; carried = refl; lifecycle_id = refl; given_up = nacked_same (is_lost indication i) fast i.state }
 
 pub by_resending : (i : Item) → Alike i (mark_as_retransmitted i)
 by_resending i = record { place = refl; carried = refl; lifecycle_id = refl; given_up = resent_same i.state }

@@ -11,6 +11,7 @@ use Rattle.sctp_state.specs.Events.{Emitted}
 use Rattle.sctp_state.specs.declared.api.GivenUpCause.{GivenUpCause}
 use Rattle.sctp_state.specs.declared.api.GivenUpCause.TheVariants.{Lifetime, Retransmissions}
 use Rattle.sctp_tx_queue.specs.SendQueue.{Queue}
+use Rattle.sctp_tx_outstanding.specs.declared.item.MissIndication.{MissIndication}
 use Rattle.sctp_tx_outstanding.specs.declared.item.ItemState.{ItemState}
 use Rattle.sctp_tx_outstanding.specs.declared.item.ItemState.TheVariants.{InFlight, Missing, Queued, QueuedFast, Acked, GivenUp}
 use Rattle.sctp_tx_outstanding.specs.Item.{Item, is_in_flight, has_nack, is_given_up, is_lost, is_used_up, is_outstanding, is_nacked, is_abandoned, has_expired, nack}
@@ -130,33 +131,33 @@ module _ {P : Type 0} (message : ℕ → Message) (lifecycle : ℕ → Option �
     recorded = a.recorded;
   }
 
-  module _ (at_once fast : Bool) where
-    one_lost : (k : ℕ) (i : Item) (y : Step P) → slice_get y.items.kept k ≡ Some i → To y.items y.emitted → To (nack_item at_once fast k i y).items (nack_item at_once fast k i y).emitted
-    one_lost k i y here a = go (is_to_be_abandoned y.items.is_partial at_once i) refl
+  module _ (indication : MissIndication) (fast : Bool) where
+    one_lost : (k : ℕ) (i : Item) (y : Step P) → slice_get y.items.kept k ≡ Some i → To y.items y.emitted → To (nack_item indication fast k i y).items (nack_item indication fast k i y).emitted
+    one_lost k i y here a = go (is_to_be_abandoned y.items.is_partial indication i) refl
       where
         step : Bool → Step P
-        step b = cond b (abandon_with_record i.number (Retransmissions (i.sent - 1)) y) (record y { items = change_items k (nack at_once fast) y.items; is_lossy = y.is_lossy || loses at_once i })
+        step b = cond b (abandon_with_record i.number (Retransmissions (i.sent - 1)) y) (record y { items = change_items k (nack indication fast) y.items; is_lossy = y.is_lossy || loses indication i })
 
-        go : (b : Bool) → is_to_be_abandoned y.items.is_partial at_once i ≡ b → To (step b).items (step b).emitted
+        go : (b : Bool) → is_to_be_abandoned y.items.is_partial indication i ≡ b → To (step b).items (step b).emitted
         go true e =
-            let lost = (and_parts (loses at_once i) (y.items.is_partial && is_used_up i) e).0 in
-            let flying = (and_parts (is_outstanding i) (is_lost at_once i) lost).0 in
+            let lost = (and_parts (loses indication i) (y.items.is_partial && is_used_up i) e).0 in
+            let flying = (and_parts (is_outstanding i) (is_lost indication i) lost).0 in
             abandoned i.number k y.items y.emitted (Retransmissions (i.sent - 1)) i here refl (in_flight_lives i.state flying) a
-        go false e = altered k (nack at_once fast) y.items y.emitted (by_nack at_once fast) a
+        go false e = altered k (nack indication fast) y.items y.emitted (by_nack indication fast) a
 
-    at_lost : (k : ℕ) (y : Step P) → To y.items y.emitted → To (nack_at at_once fast k y).items (nack_at at_once fast k y).emitted
+    at_lost : (k : ℕ) (y : Step P) → To y.items y.emitted → To (nack_at indication fast k y).items (nack_at indication fast k y).emitted
     at_lost k y a = go (slice_get y.items.kept k) refl
       where
         step : Option Item → Step P
-        step o = unwrap_or (option_map (λ i. nack_item at_once fast k i y) o) y
+        step o = unwrap_or (option_map (λ i. nack_item indication fast k i y) o) y
 
         go : (o : Option Item) → slice_get y.items.kept k ≡ o → To (step o).items (step o).emitted
         go None e = a
         go (Some i) e = one_lost k i y e a
 
-    pub losses : (n : ℕ) (y : Step P) → To y.items y.emitted → To (nack_below at_once fast n y).items (nack_below at_once fast n y).emitted
+    pub losses : (n : ℕ) (y : Step P) → To y.items y.emitted → To (nack_below indication fast n y).items (nack_below indication fast n y).emitted
     losses zero y a = a
-    losses (suc n) y a = at_lost n (nack_below at_once fast n y) (losses n y a)
+    losses (suc n) y a = at_lost n (nack_below indication fast n y) (losses n y a)
 
   module _ (now : ℕ) where
     at_expired : (k : ℕ) (y : Step P) → To y.items y.emitted → To (expire_at now k y).items (expire_at now k y).emitted

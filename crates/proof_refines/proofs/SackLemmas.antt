@@ -8,10 +8,11 @@ use Rattle.sctp_serial.specs.Unwrapped.{origin}
 use Rattle.sctp_state.specs.Events.{Event, Emitted}
 use Rattle.sctp_state.specs.declared.api.GivenUpCause.TheVariants.{Retransmissions}
 use Rattle.sctp_tx_queue.specs.SendQueue.{Queue}
+use Rattle.sctp_tx_outstanding.specs.declared.item.MissIndication.{MissIndication}
 use Rattle.sctp_tx_outstanding.specs.Item.{Item, is_abandoned, nack}
 use Rattle.sctp_tx_outstanding.specs.OutstandingData.{Items, next_number}
 use Rattle.sctp_tx_outstanding.specs.Losses.{Step, abandon_with_record, is_to_be_abandoned, loses, change_items, nack_item, nack_at, nack_below}
-use Rattle.sctp_tx_outstanding.specs.Sack.{highest_end, bound, is_valid, ending, leaving_events, all_leaving_events, leaving, staying, acked_by, reported_below, receive_sack_first, receive_sack}
+use Rattle.sctp_tx_outstanding.specs.Sack.{report_by, highest_end, bound, is_valid, ending, leaving_events, all_leaving_events, leaving, staying, acked_by, reported_below, receive_sack_first, receive_sack}
 use Rattle.proof_protocol.specs.State.{Message, Sender, Transfer, IsAmong, fragment, place_of}
 use Rattle.proof_protocol.specs.Rules as laws
 use Rattle.proof_protocol.specs.Rules.{acknowledge_next, Happens, run}
@@ -29,24 +30,24 @@ use Rattle.proof_refines.proofs.LossLemmas.{losses}
 
 -- ---- losses emit no event
 
-module _ {P : Type 0} (at_once fast : Bool) where
-  item_quiet : (k : ℕ) (i : Item) (y : Step P) → (nack_item at_once fast k i y).emitted.events ≡ y.emitted.events
-  item_quiet k i y = go (is_to_be_abandoned y.items.is_partial at_once i)
+module _ {P : Type 0} (indication : MissIndication) (fast : Bool) where
+  item_quiet : (k : ℕ) (i : Item) (y : Step P) → (nack_item indication fast k i y).emitted.events ≡ y.emitted.events
+  item_quiet k i y = go (is_to_be_abandoned y.items.is_partial indication i)
     where
-      go : (b : Bool) → (let r : Step P = cond b (abandon_with_record i.number (Retransmissions (i.sent - 1)) y) (record y { items = change_items k (nack at_once fast) y.items; is_lossy = y.is_lossy || loses at_once i }) in r.emitted.events) ≡ y.emitted.events
+      go : (b : Bool) → (let r : Step P = cond b (abandon_with_record i.number (Retransmissions (i.sent - 1)) y) (record y { items = change_items k (nack indication fast) y.items; is_lossy = y.is_lossy || loses indication i }) in r.emitted.events) ≡ y.emitted.events
       go true = refl
       go false = refl
 
-  at_quiet : (k : ℕ) (y : Step P) → (nack_at at_once fast k y).emitted.events ≡ y.emitted.events
+  at_quiet : (k : ℕ) (y : Step P) → (nack_at indication fast k y).emitted.events ≡ y.emitted.events
   at_quiet k y = go (slice_get y.items.kept k)
     where
-      go : (o : Option Item) → (unwrap_or (option_map (λ i. nack_item at_once fast k i y) o) y).emitted.events ≡ y.emitted.events
+      go : (o : Option Item) → (unwrap_or (option_map (λ i. nack_item indication fast k i y) o) y).emitted.events ≡ y.emitted.events
       go None = refl
       go (Some i) = item_quiet k i y
 
-  below_quiet : (n : ℕ) (y : Step P) → (nack_below at_once fast n y).emitted.events ≡ y.emitted.events
+  below_quiet : (n : ℕ) (y : Step P) → (nack_below indication fast n y).emitted.events ≡ y.emitted.events
   below_quiet zero y = refl
-  below_quiet (suc n) y = at_quiet n (nack_below at_once fast n y) ∙ below_quiet n y
+  below_quiet (suc n) y = at_quiet n (nack_below indication fast n y) ∙ below_quiet n y
 
 -- ---- what is emitted as delivered
 
@@ -94,7 +95,7 @@ module _ (P : Type 0) (message : ℕ → Message) (lifecycle : ℕ → Option �
 
 -- ---- the whole
 
-module _ {P : Type 0} (message : ℕ → Message) (lifecycle : ℕ → Option ℕ) (is_interleaved : Bool) (x : Transfer) (q : Queue) (s : Items) (cumulative c : ℕ) (blocks : List GapAckBlock) (fast : Bool) (emitted : Emitted P)
+module _ {P : Type 0} (message : ℕ → Message) (lifecycle : ℕ → Option ℕ) (is_interleaved : Bool) (x : Transfer) (q : Queue) (s : Items) (cumulative c : ℕ) (blocks : List GapAckBlock) (once fast : Bool) (emitted : Emitted P)
     (k : Invariant message is_interleaved x) (sh : SenderRefines message lifecycle is_interleaved x q s) (valid : is_valid cumulative blocks s ≡ true) (upto : cumulative + 1 ≡ origin + c) (sent : IsAmong c x.sacks) where
   abbrev n : ℕ
   n = leaving cumulative s
@@ -140,13 +141,13 @@ module _ {P : Type 0} (message : ℕ → Message) (lifecycle : ℕ → Option �
   at_first : SenderLeadsTo message lifecycle is_interleaved x1 emitted q first.items first.emitted
   at_first = record { after = x1; places = []; leads = leads_none message is_interleaved x1; kept = kept1; refines = shows1; recorded = sym (append-nil (recorded_places emitted)) }
 
-  pub sack_row : ReceivesSack message lifecycle is_interleaved x q n c emitted (receive_sack cumulative blocks fast s emitted).items (receive_sack cumulative blocks fast s emitted).emitted
+  pub sack_row : ReceivesSack message lifecycle is_interleaved x q n c emitted (receive_sack cumulative blocks once fast s emitted).items (receive_sack cumulative blocks once fast s emitted).emitted
   sack_row = record {
     may = all_leave.0;
     leaves = all_leave.1;
     upto = point_is;
     reported =
-        ap delivered_ids (below_quiet false (not fast) (reported_below blocks (staying cumulative s)) first)
+        ap delivered_ids (below_quiet (report_by once cumulative blocks s) (not fast) (reported_below blocks (staying cumulative s)) first)
         ∙ (delivered_more emitted.events (all_leaving_events (take n s.kept)) ∙ ap (λ z. delivered_ids emitted.events ++ z) (all_reports P message lifecycle x.sender x.acknowledged n s.kept enough sh.items.kept));
-    losses = losses message lifecycle is_interleaved x1 emitted q false (not fast) (reported_below blocks (staying cumulative s)) first at_first;
+    losses = losses message lifecycle is_interleaved x1 emitted q (report_by once cumulative blocks s) (not fast) (reported_below blocks (staying cumulative s)) first at_first;
   }

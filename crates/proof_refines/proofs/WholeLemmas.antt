@@ -4,6 +4,7 @@ use Rattle.sctp_serial.specs.Unwrapped.{origin}
 use Rattle.sctp_chunk.specs.declared.sack.GapAckBlock.{GapAckBlock}
 use Rattle.sctp_state.specs.Events.{Emitted}
 use Rattle.sctp_tx_queue.specs.SendQueue.{Queue}
+use Rattle.sctp_tx_outstanding.specs.declared.item.MissIndication.TheVariants.{Timeout}
 use Rattle.sctp_tx_outstanding.specs.OutstandingData.{Items}
 use Rattle.sctp_tx_outstanding.specs.Losses.{first_step, nack_all, expire_outstanding}
 use Rattle.sctp_tx_outstanding.specs.Sack.{is_valid, leaving}
@@ -24,7 +25,7 @@ module _ {P : Type 0} (message : ℕ → Message) (lifecycle : ℕ → Option �
     (sh : SenderRefines message lifecycle is_interleaved x q s.outstanding.items) (emitted : Emitted P) where
   pub timeout_row : (now : ℕ) → SenderLeadsTo message lifecycle is_interleaved x emitted q (timed_out_sender now (nack_all s.outstanding.items emitted).items s).outstanding.items (nack_all s.outstanding.items emitted).emitted
   timeout_row now =
-      losses message lifecycle is_interleaved x emitted q true false (length s.outstanding.items.kept) (first_step s.outstanding.items emitted) (led_none message lifecycle is_interleaved x emitted q s.outstanding.items k sh)
+      losses message lifecycle is_interleaved x emitted q Timeout false (length s.outstanding.items.kept) (first_step s.outstanding.items emitted) (led_none message lifecycle is_interleaved x emitted q s.outstanding.items k sh)
 
   pub expiry_row : (now : ℕ) → SenderLeadsTo message lifecycle is_interleaved x emitted q (abandon_expired now s emitted).outstanding.items (expire_outstanding now s.outstanding.items emitted).emitted
   expiry_row now =
@@ -33,7 +34,7 @@ module _ {P : Type 0} (message : ℕ → Message) (lifecycle : ℕ → Option �
   pub received_row : (now cumulative c a_rwnd : ℕ) (blocks : List GapAckBlock) → is_valid cumulative blocks s.outstanding.items ≡ true → cumulative + 1 ≡ origin + c → IsAmong c x.sacks
       → ReceivesSack message lifecycle is_interleaved x q (leaving cumulative s.outstanding.items) c emitted (handle_sack now cumulative a_rwnd blocks s emitted).outstanding.items (step_of cumulative blocks s emitted).emitted
   received_row now cumulative c a_rwnd blocks valid upto sent =
-      sack_row message lifecycle is_interleaved x q s.outstanding.items cumulative c blocks (not (is_open cumulative s.windows)) emitted k sh valid upto sent
+      sack_row message lifecycle is_interleaved x q s.outstanding.items cumulative c blocks s.windows.avoids_stalls (not (is_open cumulative s.windows)) emitted k sh valid upto sent
 
 -- what the receiver does, and what is under way
 pub shown_again : (message : ℕ → Message) (lifecycle : ℕ → Option ℕ) (is_interleaved : Bool) (x y : Transfer) (q : Queue) (s : Items) → y.sender ≡ x.sender → y.acknowledged ≡ x.acknowledged

@@ -10,6 +10,7 @@ use Rattle.sctp_tx_queue.specs.SendQueue.{Queued, Queue, queue, stream, add}
 use Rattle.sctp_tx_queue.specs.Settings.{set_priority, set_low_threshold, set_mode}
 use Rattle.sctp_tx_queue.specs.Resets.{prepare_reset, streams_to_request, request_resets, commit_resets}
 use Rattle.sctp_tx_queue.specs.Restarted.{reset}
+use Rattle.sctp_tx_outstanding.specs.declared.item.MissIndication.{MissIndication}
 use Rattle.sctp_tx_outstanding.specs.OutstandingData.{Items, no_items, next_number, begin_reset}
 use Rattle.sctp_tx_outstanding.specs.Losses.{abandon_message, first_step, nack_below, nack_all, expire_below}
 use Rattle.sctp_tx_outstanding.specs.Sack.{is_valid, leaving}
@@ -165,7 +166,7 @@ ItemsFollow = InEachFollowed (λ message lifecycle is_interleaved x q s.
 
 pub record BreaksAreKept : Type 0 where
   pub message : (p : ℕ) (s : Items) → (abandon_message p s).breaks ≡ s.breaks
-  pub losses : (at_once fast : Bool) (n : ℕ) (s : Items) (emitted : Emitted (List ℕ)) → (nack_below at_once fast n (first_step s emitted)).items.breaks ≡ s.breaks
+  pub losses : (indication : MissIndication) (fast : Bool) (n : ℕ) (s : Items) (emitted : Emitted (List ℕ)) → (nack_below indication fast n (first_step s emitted)).items.breaks ≡ s.breaks
   pub timeout : (now : ℕ) (s : Sender) (emitted : Emitted (List ℕ))
       → (timed_out_sender now (nack_all s.outstanding.items emitted).items s).outstanding.items.breaks ≡ s.outstanding.items.breaks
   pub lifetimes : (now n : ℕ) (s : Items) (emitted : Emitted (List ℕ)) → (expire_below now n (first_step s emitted)).items.breaks ≡ s.breaks

@@ -16,6 +16,7 @@ use Rattle.sctp_tx_queue.specs.Produced.{Produced, produce}
 use Rattle.sctp_tx_queue.specs.Settings.{set_mode, set_priority, set_low_threshold}
 use Rattle.sctp_tx_queue.specs.Resets.{request_resets, commit_resets}
 use Rattle.sctp_tx_queue.specs.Restarted.{reset}
+use Rattle.sctp_tx_outstanding.specs.declared.item.MissIndication.{MissIndication}
 use Rattle.sctp_tx_outstanding.specs.Item.{Item, is_abandoned}
 use Rattle.sctp_tx_outstanding.specs.OutstandingData.{Items, no_items, append_item}
 use Rattle.sctp_tx_outstanding.specs.Losses.{abandon_message, first_step, nack_below, nack_all, expire_below, expire_outstanding}
@@ -168,8 +169,8 @@ DiscardsRefine = InEachState (λ message lifecycle is_interleaved x q s.
 -- missing reports and losses, and lifetimes, of the first n items
 abbrev pub Loses : Type 0
 Loses = InEachState (λ message lifecycle is_interleaved x q s.
-    (at_once fast : Bool) (n : ℕ) (emitted : Emitted (List ℕ))
-    → SenderLeadsTo message lifecycle is_interleaved x emitted q (nack_below at_once fast n (first_step s.outstanding.items emitted)).items (nack_below at_once fast n (first_step s.outstanding.items emitted)).emitted)
+    (indication : MissIndication) (fast : Bool) (n : ℕ) (emitted : Emitted (List ℕ))
+    → SenderLeadsTo message lifecycle is_interleaved x emitted q (nack_below indication fast n (first_step s.outstanding.items emitted)).items (nack_below indication fast n (first_step s.outstanding.items emitted)).emitted)
 
 abbrev pub Expires : Type 0
 Expires = InEachState (λ message lifecycle is_interleaved x q s.

@@ -10,12 +10,14 @@ use Rattle.sctp_state.specs.declared.api.GivenUpCause.{GivenUpCause}
 use Rattle.sctp_state.specs.declared.api.GivenUpCause.TheVariants.{Lifetime, Retransmissions, Reset, Ended}
 use Rattle.sctp_state.specs.Events.{Emitted, emit_events, emit_given_up, expired_events}
 use Rattle.sctp_state.specs.ThresholdWatcher.{crosses}
+use Rattle.sctp_tx_outstanding.specs.declared.item.MissIndication.{MissIndication}
+use Rattle.sctp_tx_outstanding.specs.declared.item.MissIndication.TheVariants.{Timeout}
 use Rattle.sctp_tx_outstanding.specs.Item.{Item, is_fast, should_be_retransmitted, mark_as_retransmitted, miss_fast}
 use Rattle.sctp_tx_outstanding.specs.Item as item
 use Rattle.sctp_tx_outstanding.specs.OutstandingData.{Items, Discard, next_number, change_at, abandon_if_of, last_of}
 use Rattle.sctp_tx_outstanding.specs.Losses.{placeholder, placeholders, abandon_message, Step, abandon_with_record, change_items, loses, is_to_be_abandoned, nack_item, nack_below, nack_all, first_step, expired_at, given_up_if, expire_below, expire_outstanding}
 use Rattle.sctp_tx_outstanding.specs.Resending.{Resent, size_in, again_of, allowance, fast_turn, queued_turn, turn_of, apply_turn, resent_below, empty_packet}
-use Rattle.sctp_tx_outstanding.specs.Sack.{is_valid, bound, highest_end, leaving, staying, ack_or_uncover_all, reported_below, receive_sack_first}
+use Rattle.sctp_tx_outstanding.specs.Sack.{report_by, is_valid, bound, highest_end, leaving, staying, ack_or_uncover_all, reported_below, receive_sack_first}
 use Rattle.sctp_tx_queue.specs.SendQueue.{Queued, Queue}
 use Rattle.sctp_tx_queue.specs.Produced as queued
 use Rattle.sctp_tx_queue.specs.Produced.{is_stale, emit_expired, emitted_made, turn, next_stream, idle, produce_within, produce}
@@ -160,21 +162,21 @@ module _ {P : Type 0} (s : Items) (n : ℕ) where
   changed_too : (k : ℕ) (f : Item → Item) (is_lossy : Bool) (x : Step P) → Reaches x → Reaches (record x { items = change_items k f x.items; is_lossy = is_lossy })
   changed_too k f is_lossy x h = record { point = h.point; next = omega (arith, h.next, changed_length k f x.items.kept) }
 
-  nacks_item : (b at_once fast is_lossy : Bool) (k : ℕ) (i : Item) (x : Step P) → Reaches x
-      → Reaches (cond b (abandon_with_record i.number (Retransmissions (i.sent - 1)) x) (record x { items = change_items k (item.nack at_once fast) x.items; is_lossy = is_lossy }))
-  nacks_item true at_once fast is_lossy k i x h = given_up_too i.number (Retransmissions (i.sent - 1)) x h
-  nacks_item false at_once fast is_lossy k i x h = changed_too k (item.nack at_once fast) is_lossy x h
+  nacks_item : (b : Bool) (indication : MissIndication) (fast is_lossy : Bool) (k : ℕ) (i : Item) (x : Step P) → Reaches x
+      → Reaches (cond b (abandon_with_record i.number (Retransmissions (i.sent - 1)) x) (record x { items = change_items k (item.nack indication fast) x.items; is_lossy = is_lossy }))
+  nacks_item true indication fast is_lossy k i x h = given_up_too i.number (Retransmissions (i.sent - 1)) x h
+  nacks_item false indication fast is_lossy k i x h = changed_too k (item.nack indication fast) is_lossy x h
 
-  nacks_at : (o : Option Item) (at_once fast : Bool) (k : ℕ) (x : Step P) → Reaches x
-      → Reaches (unwrap_or (option_map (λ i. nack_item at_once fast k i x) o) x)
-  nacks_at None at_once fast k x h = h
-  nacks_at (Some i) at_once fast k x h = nacks_item (is_to_be_abandoned x.items.is_partial at_once i) at_once fast (x.is_lossy || loses at_once i) k i x h
+  nacks_at : (o : Option Item) (indication : MissIndication) (fast : Bool) (k : ℕ) (x : Step P) → Reaches x
+      → Reaches (unwrap_or (option_map (λ i. nack_item indication fast k i x) o) x)
+  nacks_at None indication fast k x h = h
+  nacks_at (Some i) indication fast k x h = nacks_item (is_to_be_abandoned x.items.is_partial indication i) indication fast (x.is_lossy || loses indication i) k i x h
 
-  nacks_below : (at_once fast : Bool) (k : ℕ) (x : Step P) → Reaches x → Reaches (nack_below at_once fast k x)
-  nacks_below at_once fast zero x h = h
-  nacks_below at_once fast (suc k) x h =
-      let y : Step P = nack_below at_once fast k x in
-      nacks_at (slice_get y.items.kept k) at_once fast k y (nacks_below at_once fast k x h)
+  nacks_below : (indication : MissIndication) (fast : Bool) (k : ℕ) (x : Step P) → Reaches x → Reaches (nack_below indication fast k x)
+  nacks_below indication fast zero x h = h
+  nacks_below indication fast (suc k) x h =
+      let y : Step P = nack_below indication fast k x in
+      nacks_at (slice_get y.items.kept k) indication fast k y (nacks_below indication fast k x h)
 
   gives_up_if : (o : Option ℕ) (x : Step P) → Reaches x → Reaches (given_up_if o x)
   gives_up_if None x h = h
@@ -196,7 +198,7 @@ in_range n blocks s valid =
 
 module _ {P : Type 0} where
   pub numbers_nack_all : (s : Items) (t : Emitted P) → Numbers s (count t) (nack_all s t).items (count (nack_all s t).emitted)
-  numbers_nack_all s t = nacks_below s (count t) true false (length s.kept) (first_step s t) (record { point = omega arith; next = omega arith })
+  numbers_nack_all s t = nacks_below s (count t) Timeout false (length s.kept) (first_step s t) (record { point = omega arith; next = omega arith })
 
   pub numbers_expired : (now : ℕ) (s : Items) (t : Emitted P) → Numbers s (count t) (expire_outstanding now s t).items (count (expire_outstanding now s t).emitted)
   numbers_expired now s t = expires_below s (count t) now (length s.kept) (first_step s t) (record { point = omega arith; next = omega arith })
@@ -215,7 +217,7 @@ module _ {P : Type 0} where
   pub numbers_sack : (now n a_rwnd : ℕ) (blocks : List GapAckBlock) (s : Sender) (t : Emitted P) → is_valid n blocks s.outstanding.items ≡ true
       → Numbers s.outstanding.items (count t) (sender_if true now n a_rwnd blocks s t).outstanding.items (count (emitted_if true n blocks s t))
   numbers_sack now n a_rwnd blocks s t valid =
-      nacks_below s.outstanding.items (count t) false (not (not (is_open n s.windows))) (reported_below blocks (staying n s.outstanding.items))
+      nacks_below s.outstanding.items (count t) (report_by s.windows.avoids_stalls n blocks s.outstanding.items) (not (not (is_open n s.windows))) (reported_below blocks (staying n s.outstanding.items))
       (receive_sack_first n blocks s.outstanding.items t) (received_first n blocks s.outstanding.items t valid)
 
 -- ---- what is sent again takes no number

@@ -5,6 +5,7 @@
 //! are printed too, and each row begins with everything anew.
 #![tactic(auto)]
 
+mod answer;
 mod channels;
 mod output;
 mod receiver;
@@ -13,44 +14,44 @@ mod state;
 mod wire;
 mod words;
 
+use answer::Style;
 use output::Output;
 use std::io;
 use words::cut;
 
-/// Runs a row of the layer, where there is one.
+/// Runs a row of the layer.
 fn run_row(layer: &str, row: &str, output: &mut Output) {
-    if row.is_empty() {
-        return;
-    }
     let (title, script) = cut(row, '\n');
-    output.push_str("#");
-    output.put_line(&title);
+    writeln!(output, "#{title}");
+    output.style = Style::Values;
     match layer {
         "wire" => wire::run(script, output),
-        "state" => state::run(script, output),
-        "sender" => sender::run(script, output),
+        "state" => {
+            output.style = Style::Behind;
+            state::run(script, output);
+        }
+        "sender" => {
+            output.style = Style::Lines;
+            sender::run(script, output);
+        }
         "receiver" => receiver::run(script, output),
         "channels" => channels::run(script, output),
         _ => output.push_str("?\n"),
     }
 }
 
-/// Runs the rows behind the name of a layer, where there is one.
-fn run_layer(part: &str, output: &mut Output) {
-    if part.is_empty() {
-        return;
-    }
-    let (layer, rows) = cut(part, '\n');
-    output.push_str("@");
-    output.put_line(&layer);
-    for row in rows.split('#') {
-        run_row(layer, row, output);
-    }
-}
-
+/// Runs the rows behind the name of each layer.
 fn run_layers(layers: &str, output: &mut Output) {
     for part in layers.split('@') {
-        run_layer(part, output);
+        let (layer, rows) = cut(part, '\n');
+        if !layer.is_empty() {
+            writeln!(output, "@{layer}");
+            for row in rows.split('#') {
+                if !row.is_empty() {
+                    run_row(layer, row, output);
+                }
+            }
+        }
     }
 }
 

@@ -1,6 +1,6 @@
 //! What is printed.
 
-use crate::words::yes_or_no;
+use crate::answer::{Answer, Style};
 use std::alloc::{AllocError, Global};
 use std::fmt::{Debug, Display};
 
@@ -10,6 +10,7 @@ pub struct Output {
     pub alloc: Global,
     pub text: String,
     pub outcome: Result<(), AllocError>,
+    pub style: Style,
 }
 
 impl Output {
@@ -18,6 +19,7 @@ impl Output {
             alloc,
             text: String::new(alloc),
             outcome: Ok(()),
+            style: Style::Values,
         }
     }
 
@@ -63,12 +65,11 @@ impl Output {
         }
     }
 
-    pub fn put<T: Display>(&mut self, value: &T) {
-        write!(self, "{value}");
-    }
-
-    pub fn put_debug<T: Debug>(&mut self, value: &T) {
-        write!(self, "{value:?}");
+    /// Writes the text where it is so.
+    pub fn push_if(&mut self, is_so: bool, text: &str) {
+        if is_so {
+            self.push_str(text);
+        }
     }
 
     pub fn put_line<T: Display>(&mut self, value: &T) {
@@ -84,21 +85,30 @@ impl Output {
         let mut numbers = numbers.iter();
         for letter in text.chars() {
             match letter {
-                '#' => self.put(numbers.next().unwrap_or(&0)),
-                '?' => self.push_str(yes_or_no(numbers.next() != Some(&0))),
-                letter => self.put(&letter),
+                '#' => write!(self, "{}", numbers.next().unwrap_or(&0)),
+                '?' if numbers.next() == Some(&0) => self.push_str("no"),
+                '?' => self.push_str("yes"),
+                letter => write!(self, "{letter}"),
             }
         }
     }
 
-    /// Answers a line that is no command.
-    pub fn unknown(&mut self, line: &str) {
-        self.push_str("? ");
-        self.put_line(&line);
+    /// Writes the text with the numbers, as an answer.
+    pub fn text(&mut self, text: &str, numbers: &[u128]) -> Answer {
+        self.fill(text, numbers);
+        Answer::Text
     }
 
-    pub fn refuse<E: Display + Drop>(&mut self, fault: E) {
+    /// Writes the value as it is debugged, behind a text, as an answer.
+    pub fn debug_text<T: Debug>(&mut self, text: &str, value: &T) -> Answer {
+        write!(self, "{text}{value:?}");
+        Answer::Text
+    }
+
+    /// Writes why something is refused, as a line.
+    pub fn refuse<E: Display + Drop>(&mut self, fault: E) -> Answer {
         writeln!(self, "refused: {fault}");
+        Answer::Done
     }
 
     /// Writes bytes in hex.
@@ -109,11 +119,10 @@ impl Output {
     }
 
     /// Writes bytes in hex as a line, `-` where there are none.
-    pub fn hex_line(&mut self, bytes: &[u8]) {
-        if bytes.is_empty() {
-            self.push_str("-");
-        }
+    pub fn hex_line(&mut self, bytes: &[u8]) -> Answer {
+        self.push_if(bytes.is_empty(), "-");
         self.push_hex(bytes);
         self.push_str("\n");
+        Answer::Done
     }
 }

@@ -13,9 +13,7 @@
 
 mod list;
 mod pieces;
-mod player;
 mod queue;
-mod receiver;
 mod stream;
 mod streams;
 mod tracker;

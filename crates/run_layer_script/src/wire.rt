@@ -32,95 +32,82 @@
 //! | `ladder`, `chart`, `pcap` | the rows so far as text and as SVG; a capture in hex digits |
 
 mod building;
-mod chunks;
-mod damage;
 mod items;
 mod numbers;
 mod packets;
 mod readings;
 mod rows;
-mod sacks;
-mod vectors;
 
+use crate::answer::{Answer, Subject, done, run_commands};
 use crate::output::Output;
-use crate::words::{bytes_of, cut};
-use numbers::{number, numbers_of};
+use crate::words::{Line, bytes_of, numbers_of};
 use sctp_packet::SctpPacketBuilder;
 use sctp_trace::Row;
-use sctp_wire::Policy;
 
-/// The limit of a builder where none is named.
-const LIMIT: usize = 1200;
-
-/// Whether the line was a command over bytes.
-fn answer_bytes(
-    output: &mut Output,
-    builder: &mut SctpPacketBuilder,
-    name: &str,
-    bytes: &[u8],
-) -> bool {
-    match name {
-        "packet" => packets::read(output, bytes, 0, &packets::unchecked()),
-        "sum-0" => packets::read(output, bytes, 0, &Policy::default()),
-        "sum-376" => packets::read(output, bytes, 376, &Policy::default()),
-        "in-place" => packets::look(output, bytes, 0, &packets::unchecked()),
-        "usrsctp-0.9.5.0" | "pion-1.8.6" | "aiortc-1.4.0" => vectors::read(output, bytes),
-        "cut" => damage::cut(output, bytes),
-        "crc32c" => packets::crc32c(output, bytes),
-        "add" => building::add(output, builder, bytes),
-        _ => return items::answer(output, name, bytes) || chunks::answer(output, name, bytes),
-    }
-    true
+/// A builder, and a conversation.
+#[derive(Drop)]
+struct Wire {
+    builder: SctpPacketBuilder,
+    rows: Vec<Row>,
 }
 
-fn answer_hex(
-    output: &mut Output,
-    builder: &mut SctpPacketBuilder,
-    name: &str,
-    digits: &str,
-) -> bool {
-    match bytes_of(digits, output) {
-        Some(bytes) => answer_bytes(output, builder, name, &bytes),
-        None => false,
-    }
-}
-
-/// Whether the line was a command over numbers.
-fn answer_numbers(
-    output: &mut Output,
-    builder: &mut SctpPacketBuilder,
-    name: &str,
-    words: &str,
-) -> bool {
-    let Some(numbers) = numbers_of(output, words) else {
-        return false;
-    };
-    building::answer(output, builder, name, number(&numbers, 0))
-        || sacks::answer(output, name, &numbers)
-        || numbers::answer(output, name, &numbers)
-}
-
-fn answer(
-    output: &mut Output,
-    builder: &mut SctpPacketBuilder,
-    rows: &mut Vec<Row>,
-    line: &str,
-) -> bool {
-    let (name, rest) = cut(line, ' ');
-    rows::answer(output, rows, line)
-        || answer_hex(output, builder, name, rest)
-        || answer_numbers(output, builder, name, rest)
-        || damage::answer(output, name, rest)
-}
-
-/// Answers each line, with a builder and a conversation.
+/// Answers each line.
 pub fn run(script: &str, output: &mut Output) {
-    let mut builder = building::empty(output.alloc, LIMIT);
-    let mut rows = Vec::new(output.alloc);
-    for line in script.lines() {
-        if !answer(output, &mut builder, &mut rows, line) {
-            output.unknown(line);
+    let wire = Wire {
+        builder: building::empty(output.alloc, 1200),
+        rows: Vec::new(output.alloc),
+    };
+    run_commands(wire, script, output);
+}
+
+impl Subject for Wire {
+    fn obey(&mut self, line: &Line<'_>, output: &mut Output) -> Answer {
+        match line.name {
+            "ladder" | "chart" | "pcap" => rows::draw(&self.rows, line.name, output),
+            "sent" | "given" | "note" => match rows::row_of(line, output) {
+                Some(row) => done(self.rows.push(row)),
+                None => Answer::Unknown,
+            },
+            "lengths" => readings::lengths(line, output),
+            _ => match bytes_of(line.rest, output) {
+                Some(bytes) => answer_bytes(&mut self.builder, line, &bytes, output),
+                None => answer_numbers(&mut self.builder, line, output),
+            },
         }
     }
-    drop(builder);
+}
+
+/// A command over bytes; or one over numbers, whose digits may be bytes too.
+fn answer_bytes(
+    builder: &mut SctpPacketBuilder,
+    line: &Line<'_>,
+    bytes: &[u8],
+    output: &mut Output,
+) -> Answer {
+    match line.name {
+        "add" => building::add(builder, bytes, output),
+        "cut" => readings::cut(bytes, output),
+        "packet"
+        | "sum-0"
+        | "sum-376"
+        | "in-place"
+        | "usrsctp-0.9.5.0"
+        | "pion-1.8.6"
+        | "aiortc-1.4.0"
+        | "crc32c" => packets::answer(line.name, bytes, output),
+        _ => match items::answer(line.name, bytes, output) {
+            Answer::Unknown => answer_numbers(builder, line, output),
+            answer => answer,
+        },
+    }
+}
+
+fn answer_numbers(builder: &mut SctpPacketBuilder, line: &Line<'_>, output: &mut Output) -> Answer {
+    let Some(numbers) = numbers_of(line.rest, output) else {
+        return Answer::Unknown;
+    };
+    match building::answer(builder, line.name, numbers::number(&numbers, 0), output) {
+        Answer::Unknown => numbers::answer(line.name, &numbers, output),
+        answer => answer,
+    }
 }

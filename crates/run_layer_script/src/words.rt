@@ -12,15 +12,6 @@ pub fn cut(text: &str, separator: char) -> (&str, &str) {
     text.split_once(separator).unwrap_or((text, ""))
 }
 
-/// 1 for yes, 0 for no and for a word that is missing, and the greatest for one that is no number.
-fn value(word: &str) -> u64 {
-    match word {
-        "yes" => 1,
-        "no" | "" => 0,
-        word => word.parse::<u64>().unwrap_or(u64::MAX),
-    }
-}
-
 /// The number that a word says, in each width: the greatest one where it is more.
 #[derive(Clone, Copy)]
 pub struct Number {
@@ -33,8 +24,13 @@ pub struct Number {
 }
 
 impl Number {
+    /// 1 for yes, 0 for no and for a word that is missing, and the greatest for one that is no number.
     pub fn of(word: &str) -> Number {
-        let long = value(word);
+        let long = match word {
+            "yes" => 1,
+            "no" | "" => 0,
+            word => word.parse::<u64>().unwrap_or(u64::MAX),
+        };
         Number {
             long,
             size: long as usize,
@@ -52,19 +48,16 @@ impl Number {
     pub fn moment(self) -> SocketTime {
         SocketTime::zero() + self.millis()
     }
-
-    /// A moment, in microseconds.
-    pub fn fine_moment(self) -> SocketTime {
-        SocketTime::zero() + Duration::from_micros(self.long)
-    }
 }
 
-/// A command as it is written: its name, the words behind that, where there are any, and the numbers that these are.
+/// A command as it is written: its name, what stands behind that, the words there, and the numbers that these are.
 #[derive(Clone, Copy)]
 pub struct Line<'a> {
     pub text: &'a str,
     pub name: &'a str,
+    pub rest: &'a str,
     pub word: &'a str,
+    /// The last word behind the name, where there is one.
     pub last: &'a str,
     pub first: Number,
     pub second: Number,
@@ -74,12 +67,15 @@ pub struct Line<'a> {
 
 impl<'a> Line<'a> {
     pub fn new(text: &'a str) -> Line<'a> {
+        let (name, rest) = cut(text, ' ');
         let word = word_at(text, 1);
+        let (_, last) = text.rsplit_once(' ').unwrap_or((text, ""));
         Line {
             text,
-            name: word_at(text, 0),
+            name,
+            rest,
             word,
-            last: last_of(text),
+            last,
             first: Number::of(word),
             second: Number::of(word_at(text, 2)),
             third: Number::of(word_at(text, 3)),
@@ -106,14 +102,6 @@ pub fn word_at(text: &str, place: u8) -> &str {
     rest_of(text, place).next().unwrap_or("")
 }
 
-/// The last word behind the name, where there is one.
-fn last_of(text: &str) -> &str {
-    match text.rsplit_once(' ') {
-        Some((_, last)) => last,
-        None => "",
-    }
-}
-
 /// The bytes that hex digits say, `None` where the word has others.
 pub fn bytes_of(digits: &str, output: &mut Output) -> Option<Vec<u8>> {
     match hex::decode(output.alloc, digits) {
@@ -126,6 +114,14 @@ pub fn bytes_of(digits: &str, output: &mut Output) -> Option<Vec<u8>> {
     }
 }
 
-pub fn yes_or_no(answer: bool) -> &'static str {
-    if answer { "yes" } else { "no" }
+/// Numbers of 32 bits, `None` where a word is none.
+pub fn numbers_of(text: &str, output: &mut Output) -> Option<Vec<u32>> {
+    let mut numbers = Vec::new(output.alloc);
+    for word in text.split_whitespace() {
+        match word.parse::<u32>() {
+            Ok(number) => output.note(numbers.push(number)),
+            Err(_) => return None,
+        }
+    }
+    Some(numbers)
 }

@@ -10,7 +10,7 @@ use Rattle.std.proofs.lemmas.List.{append-nil}
 use Rattle.std.proofs.lemmas.List.Elements.{All-nil}
 use Rattle.std.proofs.lemmas.Map.Views.{All-map-remove_entry, All-values-insert_entry, All-values-set_value, IfSome-lookup_from_All}
 use Rattle.sctp_channels.specs.Channel.{Channel, change_lifecycle, kept_by, new_channel, reset_incoming, with_lifecycle}
-use Rattle.sctp_channels.specs.Channels.{Channels, Output, acknowledge, change, close, denied, drain, emit, end, has_room, has_stream, is_denied, is_own, is_shown, no_description, on_ack, on_establishment, on_incoming_reset, on_open, on_reset_denied, on_reset_performed, open_from, place, prioritize, refuse, reopen_if, reset, settle, shown_streams, take_open, tell_begin, tell_closed, tell_end, tell_opened, tell_refused, turn_down, turn_down_from, weigh, where_there, with_entries}
+use Rattle.sctp_channels.specs.Channels.{Channels, Output, acknowledge, change, close, denied, drain, emit, end, end_missing, has_room, has_stream, incoming_reset_from, is_denied, is_own, is_shown, no_description, on_ack, on_establishment, on_incoming_reset, on_open, on_reset_denied, on_reset_performed, open_from, place, prioritize, refuse, reopen_if, reset, reset_in_turn, settle, shown_streams, take_open, tell_begin, tell_closed, tell_end, tell_opened, tell_refused, turn_down, turn_down_from, weigh, where_there, with_entries}
 use Rattle.sctp_channels.specs.Steps.{each}
 use Rattle.sctp_channels.proofs.StandsLemmas.{confirm_from}
 use Rattle.sctp_channels.specs.Entries.{Entries, channel_at, changed_from, forget, put}
@@ -160,8 +160,14 @@ settles_from (Some c) f id cs keeps =
     either (life.is_over (f c).lifecycle) cs (tell_end (f c).lifecycle id gone) (change f id cs)
     (and_then cs gone (tell_end (f c).lifecycle id gone) (forgets id cs) (tells_end (f c).lifecycle id gone)) (changes f id cs keeps)
 
-resets_from : (o : Option Channel) (id : ℕ) (cs : Channels) → IsQuiet cs (where_there o (λ c. cond c.lifecycle.is_incoming_reset cs (settle reset_incoming c id cs)) cs)
-resets_from None id cs = same cs
+resets_in_turn : (id : ℕ) (cs : Channels) → IsQuiet cs (reset_in_turn id cs)
+resets_in_turn id cs =
+    let there = refuse id cs in
+    either (has_stream id cs) cs (change reset_incoming id there) cs
+    (and_then cs there (change reset_incoming id there) (puts life.refused no_description id cs) (changes reset_incoming id there (λ x h. record { parts = refl; is_whole = refl }))) (same cs)
+
+resets_from : (o : Option Channel) (id : ℕ) (cs : Channels) → IsQuiet cs (incoming_reset_from o id cs)
+resets_from None id cs = resets_in_turn id cs
 resets_from (Some c) id cs =
     either c.lifecycle.is_incoming_reset cs cs (settle reset_incoming c id cs) (same cs) (settles_from (Some c) reset_incoming id cs (λ x h. record { parts = refl; is_whole = refl }))
 
@@ -197,6 +203,17 @@ drains_from (Some c) id buffered cs =
 
 pub drains : (id buffered : ℕ) (cs : Channels) → IsQuiet cs (drain id buffered cs)
 drains id buffered cs = drains_from (channel_at id cs.entries) id buffered cs
+
+ends_from : (o : Option Channel) (id : ℕ) (cs : Channels) → IsQuiet cs (where_there o (λ c. tell_end c.lifecycle id (with_entries (forget id cs.entries) cs)) cs)
+ends_from None id cs = same cs
+ends_from (Some c) id cs =
+    let gone = with_entries (forget id cs.entries) cs in
+    and_then cs gone (tell_end c.lifecycle id gone) (forgets id cs) (tells_end c.lifecycle id gone)
+
+pub ends_missing : (id : ℕ) (cs : Channels) → IsQuiet cs (end_missing id cs)
+ends_missing id cs =
+    either (has_stream id cs) cs cs (where_there (channel_at id cs.entries) (λ c. tell_end c.lifecycle id (with_entries (forget id cs.entries) cs)) cs) (same cs)
+    (ends_from (channel_at id cs.entries) id cs)
 
 silent : (ids : List ℕ) → flat_map message_in (map tell_closed ids) ≡ []
 silent [] = refl

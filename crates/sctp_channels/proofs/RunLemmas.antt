@@ -1,7 +1,7 @@
 -- What each act keeps, and so each run of them.
-use Rattle.std.proofs.Common.{◌≡◌, ℕ, ◌+◌, ◌≤◌, ◌==◌, cond, Bool, true, false, ◌&&◌, ◌||◌, List, [], ◌∷◌, refl, sym, ap, ◌∙◌, arith}
+use Rattle.std.proofs.Common.{◌≡◌, ℕ, ◌+◌, ◌≤◌, ◌==◌, cond, Bool, true, false, not, ◌&&◌, ◌||◌, List, [], ◌∷◌, refl, sym, ap, ◌∙◌, arith}
 use Rattle.sctp_channels.specs.Lifecycle.{answered, closed, confirmed, drained, is_connecting, is_draining, is_over, is_sending, is_stopped, may_send, settled, waits_for_answer}
-use Rattle.sctp_channels.specs.Runs.{Act, confirms, closes, stops_incoming, drains, finishes, denies, act, asks, has, is_confirmation, is_finish, is_stop, resets_asked, run}
+use Rattle.sctp_channels.specs.Runs.{Act, confirms, closes, stops_incoming, drains, finishes, denies, act, asks, has, is_answer, is_confirmation, is_finish, is_stop, resets_asked, run}
 use Rattle.sctp_channels.specs.declared.lifecycle.Lifecycle.{Lifecycle}
 use Rattle.sctp_channels.specs.declared.lifecycle.Opening.{Opening}
 use Rattle.sctp_channels.specs.declared.lifecycle.Opening.TheVariants.{Connecting, Established, Refused}
@@ -66,7 +66,7 @@ act_left : (a : Act) (l : Lifecycle) → cond (asks a l) 1 0 + left (act a l).ou
 act_left confirms l = omega arith
 act_left closes l = omega (arith, left_closed l.outgoing)
 act_left stops_incoming l = omega (arith, left_closed l.outgoing)
-act_left (drains buffered) l = left_drained (buffered == 0) l.outgoing
+act_left (drains buffered) l = left_drained (not l.awaits_answer && (buffered == 0)) l.outgoing
 act_left finishes l = omega (arith, left_answered l.awaits_answer Stopped l refl)
 act_left denies l = omega (arith, left_answered l.awaits_answer Denied l refl)
 
@@ -97,6 +97,39 @@ left_of_stopped Draining e = cc
 left_of_stopped Resetting e = cc
 left_of_stopped Stopped e = refl
 left_of_stopped Denied e = cc
+
+-- ---- while the reset before is unanswered
+
+act_awaits : (a : Act) (l : Lifecycle) → is_answer a ≡ false → (act a l).awaits_answer ≡ l.awaits_answer
+act_awaits confirms l e = refl
+act_awaits closes l e = refl
+act_awaits stops_incoming l e = refl
+act_awaits (drains buffered) l e = refl
+act_awaits finishes l e = cc
+act_awaits denies l e = cc
+
+not_meanwhile : (drains awaits sent : Bool) → awaits ≡ true → (drains && (not awaits && sent)) ≡ false
+not_meanwhile false awaits sent e = refl
+not_meanwhile true true sent e = refl
+not_meanwhile true false sent e = cc
+
+asks_none : (a : Act) (l : Lifecycle) → l.awaits_answer ≡ true → asks a l ≡ false
+asks_none confirms l e = refl
+asks_none closes l e = refl
+asks_none stops_incoming l e = refl
+asks_none (drains buffered) l e = not_meanwhile (is_draining l.outgoing) l.awaits_answer (buffered == 0) e
+asks_none finishes l e = refl
+asks_none denies l e = refl
+
+none_counted : (b : Bool) → b ≡ false → ◌≡◌ {A = ℕ} (cond b 1 0) 0
+none_counted true e = cc
+none_counted false e = refl
+
+pub none_before_the_answer : (acts : List Act) (l : Lifecycle) → l.awaits_answer ≡ true → has is_answer acts ≡ false → resets_asked acts l ≡ 0
+none_before_the_answer [] l e none = refl
+none_before_the_answer (a ∷ acts) l e none =
+    let parts = or_false (is_answer a) (has is_answer acts) none in
+    omega (arith, none_counted (asks a l) (asks_none a l e), none_before_the_answer acts (act a l) (act_awaits a l parts.0 ∙ e) parts.1)
 
 -- ---- the incoming stream
 
@@ -157,7 +190,7 @@ act_stopped : (a : Act) (l : Lifecycle) → is_finish a ≡ false → is_stopped
 act_stopped confirms l e = refl
 act_stopped closes l e = stopped_closed l.outgoing
 act_stopped stops_incoming l e = stopped_closed l.outgoing
-act_stopped (drains buffered) l e = stopped_drained (buffered == 0) l.outgoing
+act_stopped (drains buffered) l e = stopped_drained (not l.awaits_answer && (buffered == 0)) l.outgoing
 act_stopped finishes l e = cc
 act_stopped denies l e = stopped_answered l.awaits_answer l
 
@@ -214,7 +247,7 @@ act_silent : (a : Act) (l : Lifecycle) → may_send l ≡ false → may_send (ac
 act_silent confirms l e = e
 act_silent closes l e = silent_closed l.outgoing
 act_silent stops_incoming l e = silent_closed l.outgoing
-act_silent (drains buffered) l e = silent_drained (is_draining l.outgoing && (buffered == 0)) l.outgoing e
+act_silent (drains buffered) l e = silent_drained (is_draining l.outgoing && (not l.awaits_answer && (buffered == 0))) l.outgoing e
 act_silent finishes l e = silent_answered l.awaits_answer Stopped l refl e
 act_silent denies l e = silent_answered l.awaits_answer Denied l refl e
 

@@ -2,6 +2,7 @@
 use Rattle.std.proofs.Common.{◌≡◌, inl, inr, ℕ, ◌+◌, ◌≤◌, ◌∙◌, nat_lt, cond, Bool, true, false, ◌||◌, Option, Some, None, List, [], ◌∷◌, ◌++◌, length, map, refl, sym, ap, subst, arith, le-ltb}
 use Rattle.std.specs.Prelude.{All, IfSome, option_map, slice_get, unwrap_or}
 use Rattle.std.specs.List.{flat_map}
+use Rattle.std.specs.Map.{keys_of}
 use Rattle.std.proofs.lemmas.Grind.{flat_map-append}
 use Rattle.std.proofs.lemmas.List.{append-nil, append_assoc}
 use Rattle.std.proofs.lemmas.List.Elements.{All-get_or}
@@ -9,7 +10,7 @@ use Rattle.std.proofs.lemmas.Option.{slice_get_within, unwrap_or-slice_get}
 use Rattle.sctp_serial.specs.Messages.{Message}
 use Rattle.sctp_state.specs.Events as sockets
 use Rattle.sctp_channels.specs.Channel.{Channel, Received, exceeds, message, on_data, received, take_if, taken_if}
-use Rattle.sctp_channels.specs.Channels.{Channels, OnControl, OnMessage, Output, acknowledge, change, data_from, emit, hand, limit_of, on_ack, on_incoming_reset, on_reset_denied, on_reset_performed, on_payload, prioritize, reset, tell_closed, tell_message, tell_opened, tell_refused}
+use Rattle.sctp_channels.specs.Channels.{Channels, OnControl, OnMessage, Output, acknowledge, change, data_from, emit, end_missing, hand, limit_of, on_ack, on_incoming_reset, on_reset_denied, on_reset_performed, on_payload, prioritize, reset, tell_closed, tell_message, tell_opened, tell_refused}
 use Rattle.sctp_channels.specs.Steps.{DataChannels, Does, Event, Gets, PassesOn, Step, answers, buffers, carries_out, closes, counts, each, gets, heard, hears, named, passed_on, passes_on, refuses, told_by, with_outputs}
 use Rattle.sctp_channels.specs.Entries.{channel_at}
 use Rattle.sctp_channels.specs.Lifecycle.{takes_data}
@@ -21,7 +22,7 @@ use Rattle.sctp_channels.specs.declared.payload.PayloadKind.{PayloadKind}
 use Rattle.sctp_channels.specs.declared.payload.PayloadKind.TheVariants.{Text, Binary}
 use Rattle.sctp_channels.specs.declared.payload.PayloadProtocol.{PayloadProtocol}
 use Rattle.sctp_channels.specs.declared.payload.PayloadProtocol.TheVariants.{Data, Empty}
-use Rattle.sctp_channels.proofs.QuietLemmas.{IsQuiet, acknowledged, all_end, at_place, changes, closes as closing, denies, drains, each_row, emits, establishes, performs, resets, turns_down}
+use Rattle.sctp_channels.proofs.QuietLemmas.{IsQuiet, acknowledged, all_end, at_place, changes, closes as closing, denies, drains, each_row, emits, ends_missing, establishes, performs, resets, turns_down}
 
 -- ---- equations between lists and options
 
@@ -185,7 +186,7 @@ hears_it sockets.OnClosed d = by_row d _ [] (all_end d.channels)
 hears_it sockets.OnConnectionRestarted d = by_row d _ [] (all_end d.channels)
 hears_it (sockets.OnAborted kind text) d = by_row d _ [] (all_end d.channels)
 hears_it (sockets.SendPacket bytes) d = unchanged d
-hears_it sockets.OnConnected d = unchanged d
+hears_it sockets.OnConnected d = by_row d (each end_missing (keys_of d.channels.entries) d.channels) d.unanswered (each_row end_missing ends_missing (keys_of d.channels.entries) d.channels)
 hears_it (sockets.OnError kind text) d = unchanged d
 hears_it (sockets.OnBufferedAmountLow id) d = unchanged d
 hears_it sockets.OnTotalBufferedAmountLow d = unchanged d

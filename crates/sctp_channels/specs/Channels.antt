@@ -207,9 +207,17 @@ on_payload id protocol payload cs = deliver id protocol payload (on_ack id cs)
 abbrev pub settle : (Channel → Channel) → Channel → ℕ → Channels → Channels
 settle f c id cs = cond (life.is_over (f c).lifecycle) (tell_end (f c).lifecycle id (with_entries (forget id cs.entries) cs)) (change f id cs)
 
--- the peer has reset its outgoing stream, for the first time
+-- an end whose incoming stream was reset resets its outgoing one too, where the association has it, also without a channel (RFC 8831 section 6.7)
+abbrev pub reset_in_turn : ℕ → Channels → Channels
+reset_in_turn id cs = cond (has_stream id cs) (change reset_incoming id (refuse id cs)) cs
+
+-- the peer has reset its outgoing stream: that of a channel for the first time
+abbrev pub incoming_reset_from : Option Channel → ℕ → Channels → Channels
+incoming_reset_from None id cs = reset_in_turn id cs
+incoming_reset_from (Some c) id cs = cond c.lifecycle.is_incoming_reset cs (settle reset_incoming c id cs)
+
 abbrev pub on_incoming_reset : ℕ → Channels → Channels
-on_incoming_reset id cs = where_there (channel_at id cs.entries) (λ c. cond c.lifecycle.is_incoming_reset cs (settle reset_incoming c id cs)) cs
+on_incoming_reset id cs = incoming_reset_from (channel_at id cs.entries) id cs
 
 -- the streams that the peer has not reset yet
 abbrev pub incoming_streams : Entries → List ℕ
@@ -254,6 +262,12 @@ pub record Stands (old new : Channels) : Type 0 where
   pub more : List Output
   pub outputs : new.outputs ≡ old.outputs ++ more
   pub streams : keys_of new.entries ≡ keys_of old.entries
+
+-- ---- the association begins
+
+-- the channel on the stream is closed, where the association doesn't have that stream (RFC 9260 section 5.1.1)
+abbrev pub end_missing : ℕ → Channels → Channels
+end_missing id cs = cond (has_stream id cs) cs (where_there (channel_at id cs.entries) (λ c. tell_end c.lifecycle id (with_entries (forget id cs.entries) cs)) cs)
 
 -- ---- the end of the association
 

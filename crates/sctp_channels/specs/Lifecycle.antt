@@ -17,7 +17,7 @@ negotiated = record { opening = Established; outgoing = Sending; is_incoming_res
 abbrev pub opened : Lifecycle
 opened = record negotiated { opening = Connecting }
 
--- this end doesn't take what was opened
+-- this end doesn't take what was opened, or has no channel where the peer has reset its stream
 abbrev pub refused : Lifecycle
 refused = record negotiated { opening = Refused; outgoing = Draining }
 
@@ -100,9 +100,10 @@ abbrev pub is_draining : Outgoing → Bool
 is_draining Draining = true
 is_draining _ = false
 
--- the reset is asked for once nothing waits that the peer would take
+-- the reset is asked for once nothing waits that the peer would take, and the stream's former reset is answered: a stream is named in no second
+-- request before (RFC 6525 section 5.1.2)
 abbrev pub asks_for_reset : ℕ → Lifecycle → Bool
-asks_for_reset buffered l = is_draining l.outgoing && (buffered == 0)
+asks_for_reset buffered l = is_draining l.outgoing && (not l.awaits_answer && (buffered == 0))
 
 abbrev pub drained : Bool → Outgoing → Outgoing
 drained true outgoing = Resetting

@@ -46,6 +46,12 @@ abbrev pub is_finish : Act → Bool
 is_finish finishes = true
 is_finish _ = false
 
+-- a reset is answered
+abbrev pub is_answer : Act → Bool
+is_answer finishes = true
+is_answer denies = true
+is_answer _ = false
+
 abbrev pub is_confirmation : Act → Bool
 is_confirmation confirms = true
 is_confirmation _ = false

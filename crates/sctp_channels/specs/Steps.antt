@@ -1,6 +1,7 @@
 -- Channels over a socket: what becomes of them, and what their owner is told, by the socket's messages, events and answers, one after the other.
 use Rattle.std.specs.Prelude.{◌≡◌, ℕ, Option, Some, None, List, [], ◌∷◌, ◌++◌}
 use Rattle.std.specs.List.{flat_map}
+use Rattle.std.specs.Map.{keys_of}
 use Rattle.sctp_serial.specs.Messages.{Message}
 use Rattle.sctp_state.specs.Events as sockets
 use Rattle.sctp_channels.specs.Channels as table
@@ -84,6 +85,7 @@ abbrev pub heard : sockets.Event (List ℕ) → DataChannels → DataChannels
 heard (sockets.OnIncomingStreamReset ids) d = with_channels (each table.on_incoming_reset (named ids d.channels) d.channels) d
 heard (sockets.OnStreamsResetPerformed ids) d = with_channels (each table.on_reset_performed ids d.channels) d
 heard (sockets.OnStreamsResetFailed ids) d = with_channels (each table.on_reset_denied ids d.channels) d
+heard sockets.OnConnected d = with_channels (each table.end_missing (keys_of d.channels.entries) d.channels) d
 heard sockets.OnClosed d = ended d
 heard sockets.OnConnectionRestarted d = ended d
 heard (sockets.OnAborted kind text) d = ended d

@@ -3,12 +3,17 @@
 ghost use Rattle.std.specs.Prelude.{◌≡◌, ℕ, ◌≤◌, Bool, true, false, List, [], map, All};
 ghost use Rattle.sctp_channels.specs.Channel.{Channel};
 ghost use Rattle.sctp_channels.specs.Lifecycle.{is_connecting, is_over, is_resetting, is_stopped, may_send};
-ghost use Rattle.sctp_channels.specs.Runs.{Act, Content, IsShort, act, has, hands_out, is_confirmation, is_finish, is_stop, resets_asked, run, sent_as};
+ghost use Rattle.sctp_channels.specs.Runs.{Act, Content, IsShort, act, has, hands_out, is_answer, is_confirmation, is_finish, is_stop, resets_asked, run, sent_as};
 ghost use Rattle.sctp_channels.specs.declared.lifecycle.Lifecycle.{Lifecycle};
 
 /// A reset of a channel's stream is asked for at most once.
 pub fn a_reset_is_asked_for_once()
     ensures { (acts : List Act) (l : Lifecycle) → resets_asked acts l ≤ 1 }
+{}
+
+/// None is asked for while the reset of the channel before is unanswered.
+pub fn a_reset_waits_for_the_answer_to_the_former()
+    ensures { (acts : List Act) (l : Lifecycle) → l.awaits_answer ≡ true → has is_answer acts ≡ false → resets_asked acts l ≡ 0 }
 {}
 
 /// A channel that has begun to send, and is over: the peer has reset its stream since, this end has asked for a reset of its own, once nothing waited

@@ -8,7 +8,7 @@ ghost use Rattle.sctp_channels.specs.Payload.{protocol_of};
 ghost use Rattle.sctp_channels.specs.Steps.{each};
 ghost use Rattle.sctp_channels.specs.Views.{open_of};
 ghost use Rattle.sctp_channels.specs.Channel.{count_received, new_channel, received_as, takes_whole, with_lifecycle};
-ghost use Rattle.sctp_channels.specs.Channels.{Emits, OnControl, OnMessage, Output as output, Stands, change, close, deliver, drain, emit, end, hand, has_room, has_stream, incoming_streams, is_denied, is_own, is_shown, limit_of, negotiate, no_channels, on_ack, on_incoming_reset, on_open, on_payload, on_reset_denied, on_reset_performed, open_from, open_own, output_of, place, refuse, room, sent, shown_streams, take_open, tell_begin, tell_closed, tell_end, turn_down, with_entries};
+ghost use Rattle.sctp_channels.specs.Channels.{Emits, OnControl, OnMessage, Output as output, Stands, change, close, deliver, drain, emit, end, end_missing, hand, has_room, has_stream, incoming_streams, is_denied, is_own, is_shown, limit_of, negotiate, no_channels, on_ack, on_incoming_reset, on_open, on_payload, on_reset_denied, on_reset_performed, open_from, open_own, output_of, place, refuse, reset_in_turn, room, sent, shown_streams, take_open, tell_begin, tell_closed, tell_end, turn_down, with_entries};
 ghost use Rattle.sctp_channels.specs.DataChannels.{IsOpenAt};
 ghost use Rattle.sctp_channels.specs.Entries.{KeepsIncoming, channel_at, forget, put};
 
@@ -108,7 +108,8 @@ impl Channels {
         }
     }
 
-    /// Streams have numbers below this one from now on, the lesser of what was negotiated for both directions. Channels above it stay.
+    /// Streams have numbers below this one from now on, the lesser of what was negotiated for both directions. Channels above it stay, until
+    /// `end_all_missing`.
     pub fn set_stream_count(&mut self, stream_count: u16)
         ensures { self.new ≡ record self.old { stream_count = stream_count } }
     {
@@ -375,7 +376,8 @@ impl Channels {
         Ok(())
     }
 
-    /// The peer has performed a reset of this outgoing stream.
+    /// The peer has performed a reset of this outgoing stream. A channel that is closed there, and has waited for that, is to be looked at again
+    /// (`drain`).
     pub fn on_reset_performed(&mut self, id: StreamId) -> Result<(), AllocError>
         ensures ok { OnOk result (self.new ≡ on_reset_performed id.0 self.old) }
         ensures err { OnErr result (self.new ≡ self.old) }
@@ -402,13 +404,14 @@ impl Channels {
         Ok(())
     }
 
-    /// The peer has reset its outgoing stream of this number. One that was reset already stays as it is.
+    /// The peer has reset its outgoing stream of this number, which this end does too, also without a channel. One that was reset already stays as
+    /// it is.
     pub fn on_incoming_reset(&mut self, id: StreamId) -> Result<(), AllocError>
         ensures ok { OnOk result (self.new ≡ on_incoming_reset id.0 self.old) }
         ensures err { OnErr result (self.new ≡ self.old) }
     {
         let Some(channel) = self.entries.get(&id.0) else {
-            return Ok(());
+            return self.reset_in_turn(id);
         };
         let mut lifecycle = channel.lifecycle();
         if lifecycle.is_incoming_reset {
@@ -422,8 +425,21 @@ impl Channels {
         Ok(())
     }
 
+    /// The peer has reset its outgoing stream, on which there is no channel: this end's is to be reset too, where the association has it.
+    fn reset_in_turn(&mut self, id: StreamId) -> Result<(), AllocError>
+        ensures ok { OnOk result (self.new ≡ reset_in_turn id.0 self.old) }
+        ensures err { OnErr result (self.new ≡ self.old) }
+    {
+        if !self.has_stream(id) {
+            return Ok(());
+        }
+        self.refuse(id)?;
+        self.entries.reset_incoming(&id.0);
+        Ok(())
+    }
+
     /// So many bytes of the stream wait in the socket for a peer that takes them: of a channel that was closed the stream is reset once there are
-    /// none.
+    /// none, and its former reset is answered.
     pub fn drain(&mut self, id: StreamId, buffered_amount: usize) -> Result<(), AllocError>
         ensures ok { OnOk result (self.new ≡ drain id.0 buffered_amount self.old) }
         ensures err { OnErr result (self.new ≡ self.old) }
@@ -647,6 +663,37 @@ impl Channels {
         ensures { IfOk result (λ ids. map (λ id. id.0) ids.items ≡ incoming_streams self.now.entries) }
     {
         self.entries.incoming_streams(self.alloc)
+    }
+
+    /// The channel on the stream is closed, where the association doesn't have the stream.
+    fn end_missing(&mut self, id: StreamId) -> Result<(), AllocError>
+        ensures ok { OnOk result (self.new ≡ end_missing id.0 self.old) }
+        ensures err { OnErr result (self.new ≡ self.old) }
+    {
+        if !self.has_stream(id) {
+            if let Some(channel) = self.entries.get(&id.0) {
+                let lifecycle = channel.lifecycle();
+                return self.end_one(id, lifecycle);
+            }
+        }
+        Ok(())
+    }
+
+    fn end_each_missing(&mut self, ids: &[StreamId]) -> Result<(), AllocError>
+        ensures { OnOk result (self.new ≡ each end_missing (numbers_of ids.now) self.old) }
+    {
+        for id in ids {
+            self.end_missing(*id)?;
+        }
+        Ok(())
+    }
+
+    /// The association stands: each channel on a stream that it doesn't have is closed.
+    pub fn end_all_missing(&mut self) -> Result<(), AllocError>
+        ensures { OnOk result (self.new ≡ each end_missing (keys_of self.old.entries) self.old) }
+    {
+        let ids = self.streams()?;
+        self.end_each_missing(&ids)
     }
 
     /// The association has ended: each channel is closed, and its stream is free.

@@ -2,18 +2,27 @@
 
 use crate::take_first;
 use sctp_serial::StreamId;
+use sctp_state::{DcSctpSocket, SocketState};
 use std::alloc::{AllocError, Global};
 use std::collections::{BTreeSet, VecDeque};
 
 /// So many streams are looked at in a row at most, from where the last look ended; behind the last one comes the first.
 const IN_TURN: usize = 2;
 
+/// Whether streams may be reset: there is an association, also one that shuts down.
+pub(crate) fn has_association<S: DcSctpSocket>(socket: &S) -> bool {
+    match socket.state() {
+        SocketState::Connected | SocketState::ShuttingDown => true,
+        SocketState::Closed | SocketState::Connecting => false,
+    }
+}
+
 /// Streams that are to be reset once what was accepted is sent, or the peer has reset them.
 #[derive(Drop)]
 pub(crate) struct Closing {
     alloc: Global,
     streams: BTreeSet<u16>,
-    // those to be looked at first, and perhaps others: the peer has reset them, or little of them waits
+    // those to be looked at first, and perhaps others: the peer has reset them, or answered their former reset, or little of them waits
     due: VecDeque<StreamId>,
     // the first one of the others to be looked at
     next: u16,
@@ -61,6 +70,18 @@ impl Closing {
 
     /// Little of the stream waits: where its channel is closed it is to be looked at first.
     pub fn on_low(&mut self, id: StreamId) -> Result<(), AllocError> {
+        self.insert_due_if_closing(id)
+    }
+
+    /// The former resets of these streams were answered: where a channel is closed meanwhile, its stream is to be looked at first.
+    pub fn on_answers(&mut self, ids: &[StreamId]) -> Result<(), AllocError> {
+        for id in ids {
+            self.insert_due_if_closing(*id)?;
+        }
+        Ok(())
+    }
+
+    fn insert_due_if_closing(&mut self, id: StreamId) -> Result<(), AllocError> {
         if !self.streams.contains(&id.0) {
             return Ok(());
         }

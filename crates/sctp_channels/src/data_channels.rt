@@ -6,12 +6,12 @@ ghost use Rattle.sctp_state.specs.Events.{event_of as socket_event_of, numbers_o
 ghost use Rattle.sctp_channels.specs.Channel.{count_received, takes_whole};
 ghost use Rattle.sctp_channels.specs.Views.{open_of};
 ghost use Rattle.sctp_channels.specs.Payload.{protocol_of};
-ghost use Rattle.sctp_channels.specs.Channels.{OnMessage, change, close, drain, is_own, negotiate, no_channels, on_incoming_reset, open_own, output_of, sent};
+ghost use Rattle.sctp_channels.specs.Channels.{OnMessage, change, close, drain, is_own, negotiate, no_channels, on_incoming_reset, on_reset_denied, on_reset_performed, open_own, output_of, sent};
 ghost use Rattle.sctp_channels.specs.Entries.{channel_at};
 ghost use Rattle.sctp_channels.specs.DataChannels.{IsOpenAt, IsShortEnough, is_draining_at, is_incoming_reset_at};
 ghost use Rattle.sctp_channels.specs.Steps.{DataChannels, Follows, Gets, StaysTold, acknowledged_by, each, ended, event_of, heard, named, passed_on, told_by, with_channels, with_outputs};
 
-use crate::closing::Closing;
+use crate::closing::{Closing, has_association};
 use crate::event::passed_on;
 use crate::unanswered::{Unanswered, answer_each, takes_answers};
 use crate::{
@@ -185,7 +185,7 @@ impl DataChannels {
     }
 
     /// Closes a channel. What was accepted is sent first, as long as the peer doesn't close it too; `Closed` tells when the stream is free, unless
-    /// its reset was refused, or the peer has opened another channel there.
+    /// its reset was refused, or the peer has opened another channel there. Before there is an association the reset waits for that.
     #[tactic(auto, using(crate::proofs::FollowsLemmas::told_then, crate::proofs::FollowsLemmas::told_same))]
     pub fn close<S: DcSctpSocket>(&mut self, socket: &mut S, id: StreamId) -> Result<(), CallError>
         ensures closed { OnOk result (Follows (with_channels (close id.0 self.old.channels) self.old) self.new) }
@@ -478,16 +478,18 @@ impl DataChannels {
         Ok(())
     }
 
-    /// What an event makes of the channels: all are closed before the owner is told of their end.
+    /// What an event makes of the channels: all are closed before the owner is told of their end, and those on streams that an association doesn't
+    /// have before it is told that this stands.
     fn hear(&mut self, event: &SocketEvent) -> Result<(), AllocError>
         ensures row { OnOk result (self.new ≡ heard (socket_event_of event.now) self.old) }
         ensures told { self.new.events ≡ self.old.events }
     {
         match event {
             SocketEvent::OnIncomingStreamReset(ids) => self.on_incoming_resets(ids),
-            SocketEvent::OnStreamsResetPerformed(ids) => self.channels.on_resets_performed(ids),
-            SocketEvent::OnStreamsResetFailed(ids) => self.channels.on_resets_denied(ids),
+            SocketEvent::OnStreamsResetPerformed(ids) => self.on_resets_performed(ids),
+            SocketEvent::OnStreamsResetFailed(ids) => self.on_resets_denied(ids),
             SocketEvent::OnBufferedAmountLow(id) => self.closing.on_low(*id),
+            SocketEvent::OnConnected() => self.channels.end_all_missing(),
             SocketEvent::OnClosed() => self.end(),
             SocketEvent::OnConnectionRestarted() => self.end(),
             SocketEvent::OnAborted(_kind, _text) => self.end(),
@@ -503,6 +505,24 @@ impl DataChannels {
         self.unanswered.clear();
         self.closing.clear();
         Ok(())
+    }
+
+    /// The peer has performed resets. A channel that is closed on such a stream, and has waited for that, has its own asked for.
+    fn on_resets_performed(&mut self, ids: &[StreamId]) -> Result<(), AllocError>
+        ensures row { OnOk result (self.new ≡ with_channels (each on_reset_performed (numbers_of ids.now) self.old.channels) self.old) }
+        ensures told { self.new.events ≡ self.old.events }
+    {
+        self.closing.on_answers(ids)?;
+        self.channels.on_resets_performed(ids)
+    }
+
+    /// The peer has refused resets: a channel that has waited for that has its own asked for too.
+    fn on_resets_denied(&mut self, ids: &[StreamId]) -> Result<(), AllocError>
+        ensures row { OnOk result (self.new ≡ with_channels (each on_reset_denied (numbers_of ids.now) self.old.channels) self.old) }
+        ensures told { self.new.events ≡ self.old.events }
+    {
+        self.closing.on_answers(ids)?;
+        self.channels.on_resets_denied(ids)
     }
 
     /// Where no stream is named all are meant that weren't reset yet.
@@ -582,12 +602,15 @@ impl DataChannels {
         self.closing.next_due()
     }
 
-    /// Asks for the reset of the stream, where it is due.
+    /// Asks for the reset of the stream, where it is due. Before there is an association it waits for that.
     #[tactic(auto, using(crate::proofs::FollowsLemmas::follows_same, crate::proofs::FollowsLemmas::follows_drains, crate::proofs::FollowsLemmas::told_same))]
     fn settle_one<S: DcSctpSocket>(&mut self, socket: &S, id: StreamId) -> Result<(), AllocError>
         ensures steps { OnOk result (Follows self.old self.new) }
         ensures told { StaysTold self.old self.new }
     {
+        if !has_association(socket) {
+            return self.note_closing(id);
+        }
         if socket.buffered_amount(id) == 0 || self.is_incoming_reset(id) {
             return self.drain(id);
         }
@@ -622,15 +645,17 @@ impl DataChannels {
         Ok(self.closing.len() < before)
     }
 
-    /// Nothing of the stream waits in the socket that the peer would take. One whose reset was asked for isn't looked at again.
+    /// Nothing of the stream waits in the socket that the peer would take. One whose reset was asked for isn't looked at again; one that waits for the
+    /// answer to the former reset is.
     fn drain(&mut self, id: StreamId) -> Result<(), AllocError>
         ensures row { OnOk result (self.new ≡ with_channels (drain id.0 0 self.old.channels) self.old) }
         ensures told { self.new.events ≡ self.old.events }
     {
         self.channels.drain(id, 0)?;
-        if !self.is_draining(id) {
-            self.closing.remove(id);
+        if self.is_draining(id) {
+            return self.closing.insert(id);
         }
+        self.closing.remove(id);
         Ok(())
     }
 
@@ -738,7 +763,7 @@ impl DataChannels {
         answer_each(self.alloc, socket, &self.channels, &mut self.unanswered)
     }
 
-    /// A reset that the socket doesn't ask for is refused. Without an association there is nothing to reset: its end closes the channels.
+    /// A reset that the socket doesn't ask for, since the peer takes none, is refused.
     #[tactic(auto, using(crate::proofs::FollowsLemmas::follows_same, crate::proofs::FollowsLemmas::follows_refuses))]
     fn ask_for_resets<S: DcSctpSocket>(
         &mut self,

@@ -27,7 +27,8 @@ mod unanswered;
 
 pub use channel::{Channel, Received, Statistics};
 pub use channel_laws::{
-    a_reset_is_asked_for_once, both_resets_free_a_stream, data_is_handed_out_as_it_was_accepted,
+    a_reset_is_asked_for_once, a_reset_waits_for_the_answer_to_the_former,
+    both_resets_free_a_stream, data_is_handed_out_as_it_was_accepted,
     ordered_until_it_is_confirmed, who_closes_sends_no_more,
 };
 pub use channels::Channels;

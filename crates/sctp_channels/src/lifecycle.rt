@@ -10,7 +10,7 @@ pub enum Opening {
     Connecting,
     /// Both ends have it.
     Established,
-    /// The peer opened it, and this end doesn't take it: its stream is reset, and nothing else.
+    /// The peer opened it, and this end doesn't take it, or the peer has reset a stream without a channel: its stream is reset, and nothing else.
     Refused,
 }
 
@@ -19,7 +19,7 @@ pub enum Opening {
 pub enum Outgoing {
     /// Messages are accepted.
     Sending,
-    /// No message is accepted any more; those that were go out first, as long as the peer hasn't reset its stream.
+    /// No message is accepted any more; those that were go out first, as long as the peer hasn't reset its stream. A former reset is answered first.
     Draining,
     /// The reset was asked for, and isn't answered.
     Resetting,
@@ -66,7 +66,7 @@ impl Lifecycle {
         }
     }
 
-    /// The peer has opened what this end doesn't take.
+    /// The peer has opened what this end doesn't take, or has reset a stream without a channel.
     pub fn refused() -> Lifecycle
         ensures { result ≡ refused }
     {
@@ -160,13 +160,13 @@ impl Lifecycle {
     }
 
     /// So many bytes of the stream wait in the socket for a peer that takes them: none where it has reset its stream. Answers whether this stream's
-    /// reset is to be asked for, which drops what waits.
+    /// reset is to be asked for, which drops what waits. It isn't before the stream's former reset is answered.
     pub fn drain(&mut self, buffered_amount: usize) -> bool
         ensures asks { result ≡ asks_for_reset buffered_amount self.old }
         ensures row { self.new ≡ drain buffered_amount self.old }
     {
         match self.outgoing {
-            Outgoing::Draining if buffered_amount == 0 => {
+            Outgoing::Draining if buffered_amount == 0 && !self.awaits_answer => {
                 self.outgoing = Outgoing::Resetting;
                 true
             }

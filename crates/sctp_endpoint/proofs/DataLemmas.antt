@@ -13,7 +13,7 @@ use Rattle.sctp_tx.proofs.IdleLemmas.{idle_send}
 use Rattle.spec_endpoint.specs.Association.{Context}
 use Rattle.spec_endpoint.specs.Heartbeats.{restart_interval_if}
 use Rattle.spec_endpoint.specs.Packets.{PacketDraft, add, add_all, room}
-use Rattle.spec_endpoint.specs.Sending.{Filling, data_chunk_of, is_small, small_window, with_data, with_fragments}
+use Rattle.spec_endpoint.specs.Sending.{Filling, data_chunk_of, asks_at_once, with_data, with_fragments}
 use Rattle.sctp_endpoint.specs.declared.transmission_control_block.TransmissionControlBlock.{TransmissionControlBlock}
 use Rattle.sctp_endpoint.specs.Views.{ContextValue, filling_of}
 
@@ -52,20 +52,18 @@ module _ {P : Type 0} (x : Filling P) where
   abbrev packet_with : (is_immediate : Bool) → PacketDraft
   packet_with is_immediate = taken_all (taken x.tcb.capabilities.message_interleaving is_immediate) (sent (room x.packet)).chunks x.packet
 
-  packet_added : (is_immediate : Bool) → is_immediate ≡ is_small x.context.options (sent (room x.packet)).sender → packet_with is_immediate ≡ (with_data x).packet
+  packet_added : (is_immediate : Bool) → is_immediate ≡ asks_at_once x.context.options x.tcb.sender → packet_with is_immediate ≡ (with_data x).packet
   packet_added is_immediate small =
       taken_are_added x.tcb.capabilities.message_interleaving is_immediate (sent (room x.packet)).chunks x.packet
       ∙ ap (λ (b : Bool). add_all (map (data_chunk_of x.tcb.capabilities.message_interleaving b) (sent (room x.packet)).chunks) x.packet) small
 
   all_added : (packet : PacketDraft) (s : Sender) (c : Context P) (queue : Queue) (emitted : Emitted P) (is_immediate is_sent : Bool)
-      → packet ≡ packet_with is_immediate → is_immediate ≡ is_small x.context.options x.tcb.sender → s.windows.cwnd ≡ x.tcb.sender.windows.cwnd
+      → packet ≡ packet_with is_immediate → is_immediate ≡ asks_at_once x.context.options x.tcb.sender
       → s ≡ (sent (room x.packet)).sender → queue ≡ (sent (room x.packet)).queue → emitted ≡ (sent (room x.packet)).emitted
       → is_sent ≡ nat_lt 0 (length (sent (room x.packet)).chunks) → c ≡ context_with queue emitted is_sent → filling packet s c ≡ with_data x
-  all_added packet s c queue emitted is_immediate is_sent added small same sender in_queue in_events some context =
+  all_added packet s c queue emitted is_immediate is_sent added small sender in_queue in_events some context =
       let f = sent (room x.packet) in
-      let cwnd : x.tcb.sender.windows.cwnd ≡ f.sender.windows.cwnd = sym same ∙ ap (λ (t : Sender). t.windows.cwnd) sender in
-      let is : is_immediate ≡ is_small x.context.options f.sender = small ∙ ap (λ (n : ℕ). nat_lt n (small_window x.context.options)) cwnd in
-      ap (λ (p : PacketDraft). filling p s c) (added ∙ packet_added is_immediate is)
+      ap (λ (p : PacketDraft). filling p s c) (added ∙ packet_added is_immediate small)
       ∙ (ap (λ (t : Sender). filling (with_data x).packet t c) sender
       ∙ (ap (λ (d : Context P). filling (with_data x).packet f.sender d) context
       ∙ (ap (λ (q : Queue). filling (with_data x).packet f.sender (context_with q emitted is_sent)) in_queue
@@ -73,29 +71,24 @@ module _ {P : Type 0} (x : Filling P) where
       ∙ ap (λ (b : Bool). filling (with_data x).packet f.sender (context_with f.queue f.emitted b)) (some ∙ some_or_none (length f.chunks))))))
 
 -- the same of the program's values
-module _ {C : Type 0} (word_of : C → List ℕ → ℕ) (p : PacketDraft) (t : TransmissionControlBlock) (v now : ContextValue C) (most cwnd limit : ℕ) where
+module _ {C : Type 0} (word_of : C → List ℕ → ℕ) (p : PacketDraft) (t : TransmissionControlBlock) (v now : ContextValue C) (most : ℕ) (is_immediate : Bool) where
   abbrev x : Filling (List ℕ)
   x = filling_of word_of p t v
 
   abbrev Taken : (packet : PacketDraft) (s : Sender) (queue : Queue) (emitted : Emitted (List ℕ)) (is_sent : Bool) → ℕ → Type 0
   Taken packet s queue emitted is_sent n =
-      (packet ≡ taken_all (taken x.tcb.capabilities.message_interleaving (nat_lt cwnd limit)) (sent x n).chunks p) × (s ≡ (sent x n).sender)
+      (packet ≡ taken_all (taken x.tcb.capabilities.message_interleaving is_immediate) (sent x n).chunks p) × (s ≡ (sent x n).sender)
       × (queue ≡ (sent x n).queue) × (emitted ≡ (sent x n).emitted) × (is_sent ≡ nat_lt 0 (length (sent x n).chunks))
 
   pub data_added : (packet : PacketDraft) (s : Sender) (c : Context (List ℕ)) (queue : Queue) (emitted : Emitted (List ℕ)) (is_sent b : Bool)
-      → v ≡ now → most ≡ room p → cwnd ≡ x.tcb.sender.windows.cwnd → limit ≡ small_window now.options
-      → packet ≡ taken_all (taken x.tcb.capabilities.message_interleaving (nat_lt cwnd limit)) (sent x most).chunks p → s ≡ (sent x most).sender
+      → v ≡ now → most ≡ room p → is_immediate ≡ asks_at_once now.options x.tcb.sender
+      → packet ≡ taken_all (taken x.tcb.capabilities.message_interleaving is_immediate) (sent x most).chunks p → s ≡ (sent x most).sender
       → queue ≡ (sent x most).queue → emitted ≡ (sent x most).emitted → is_sent ≡ nat_lt 0 (length (sent x most).chunks)
-      → s.windows.cwnd ≡ x.tcb.sender.windows.cwnd → is_sent ≡ b → c ≡ context_with x queue emitted b
+      → is_sent ≡ b → c ≡ context_with x queue emitted b
       → filling x packet s c ≡ with_data (filling_of word_of p t now)
-  data_added packet s c queue emitted is_sent b viewed room_is cwnd_is limit_is added sender in_queue in_events some same is context =
+  data_added packet s c queue emitted is_sent b viewed room_is asks added sender in_queue in_events some is context =
       let all : Taken packet s queue emitted is_sent (room p) = subst (Taken packet s queue emitted is_sent) room_is (added, sender, in_queue, in_events, some) in
-      let limit_here : limit ≡ small_window v.options =
-      limit_is ∙ ap (λ (u : ContextValue C). small_window u.options) (sym viewed)
-      in
-      let small : nat_lt cwnd limit ≡ is_small v.options x.tcb.sender =
-      ap (λ (n : ℕ). nat_lt n limit) cwnd_is ∙ ap (λ (n : ℕ). nat_lt x.tcb.sender.windows.cwnd n) limit_here
-      in
-      all_added x packet s c queue emitted (nat_lt cwnd limit) is_sent all.0 small same all.1 all.2 all.3 all.4
+      let here : is_immediate ≡ asks_at_once v.options x.tcb.sender = asks ∙ ap (λ (u : ContextValue C). asks_at_once u.options x.tcb.sender) (sym viewed) in
+      all_added x packet s c queue emitted is_immediate is_sent all.0 here all.1 all.2 all.3 all.4
       (context ∙ ap (λ (o : Bool). context_with x queue emitted o) (sym is))
       ∙ ap (λ (u : ContextValue C). with_data (filling_of word_of p t u)) viewed

@@ -5,10 +5,12 @@ use Rattle.sctp_chunk.specs.declared.sack.GapAckBlock.{GapAckBlock}
 use Rattle.sctp_state.specs.declared.api.GivenUpCause.TheVariants.{Lifetime, Retransmissions}
 use Rattle.sctp_state.specs.Events.{Emitted, Event, OnBufferedAmountLow, OnTotalBufferedAmountLow, emit_events, emit_given_up, expired_events}
 use Rattle.sctp_state.specs.ThresholdWatcher.{crosses}
+use Rattle.sctp_tx_outstanding.specs.declared.item.MissIndication.{MissIndication}
+use Rattle.sctp_tx_outstanding.specs.declared.item.MissIndication.TheVariants.{Timeout}
 use Rattle.sctp_tx_outstanding.specs.Item.{Item, is_abandoned}
 use Rattle.sctp_tx_outstanding.specs.OutstandingData.{Discard, Items}
 use Rattle.sctp_tx_outstanding.specs.Losses.{Step, first_step, nack_item, nack_at, nack_below, nack_all, is_to_be_abandoned, given_up_if, expired_at, expire_below, expire_outstanding}
-use Rattle.sctp_tx_outstanding.specs.Sack.{all_leaving_events, leaving_events, ending, leaving, staying, reported_below, receive_sack_first, is_valid}
+use Rattle.sctp_tx_outstanding.specs.Sack.{report_by, all_leaving_events, leaving_events, ending, leaving, staying, reported_below, receive_sack_first, is_valid}
 use Rattle.sctp_tx_outstanding.specs.Interrupted.{Same, SackPartlyTaken}
 use Rattle.sctp_tx.specs.Windows.{is_open}
 use Rattle.sctp_tx_queue.specs.SendQueue.{Queue, Queued, Stream, Streams, stream, watched_amount, watched_total}
@@ -169,21 +171,21 @@ partly_sent_events now most s q t after rest later (inr (inr h)) =
 
 -- ---- items that are missing, and lifetimes
 
-nacked_one : (at_once fast : Bool) (k : ℕ) (i : Item) (x : Step (List ℕ)) (b : Bool) → is_to_be_abandoned x.items.is_partial at_once i ≡ b → GrownQuietly x.emitted (nack_item at_once fast k i x).emitted
-nacked_one at_once fast k i x true e = rw e (quietly_given_up i.number (Retransmissions (i.sent - 1)) x.emitted)
-nacked_one at_once fast k i x false e = rw e (quietly_same x.emitted)
+nacked_one : (indication : MissIndication) (fast : Bool) (k : ℕ) (i : Item) (x : Step (List ℕ)) (b : Bool) → is_to_be_abandoned x.items.is_partial indication i ≡ b → GrownQuietly x.emitted (nack_item indication fast k i x).emitted
+nacked_one indication fast k i x true e = rw e (quietly_given_up i.number (Retransmissions (i.sent - 1)) x.emitted)
+nacked_one indication fast k i x false e = rw e (quietly_same x.emitted)
 
-nacked_at : (at_once fast : Bool) (k : ℕ) (x : Step (List ℕ)) → GrownQuietly x.emitted (nack_at at_once fast k x).emitted
-nacked_at at_once fast k x = by (slice_get x.items.kept k) where
-  by : (found : Option Item) → GrownQuietly x.emitted (unwrap_or (option_map (λ i. nack_item at_once fast k i x) found) x).emitted
+nacked_at : (indication : MissIndication) (fast : Bool) (k : ℕ) (x : Step (List ℕ)) → GrownQuietly x.emitted (nack_at indication fast k x).emitted
+nacked_at indication fast k x = by (slice_get x.items.kept k) where
+  by : (found : Option Item) → GrownQuietly x.emitted (unwrap_or (option_map (λ i. nack_item indication fast k i x) found) x).emitted
   by None = quietly_same x.emitted
-  by (Some i) = nacked_one at_once fast k i x (is_to_be_abandoned x.items.is_partial at_once i) refl
+  by (Some i) = nacked_one indication fast k i x (is_to_be_abandoned x.items.is_partial indication i) refl
 
-nacked_grown : (at_once fast : Bool) (count : ℕ) (x : Step (List ℕ)) → GrownQuietly x.emitted (nack_below at_once fast count x).emitted
-nacked_grown at_once fast zero x = quietly_same x.emitted
-nacked_grown at_once fast (suc n) x =
-    let y = nack_below at_once fast n x in
-    quietly_through x.emitted y.emitted (nack_at at_once fast n y).emitted (nacked_grown at_once fast n x) (nacked_at at_once fast n y)
+nacked_grown : (indication : MissIndication) (fast : Bool) (count : ℕ) (x : Step (List ℕ)) → GrownQuietly x.emitted (nack_below indication fast count x).emitted
+nacked_grown indication fast zero x = quietly_same x.emitted
+nacked_grown indication fast (suc n) x =
+    let y = nack_below indication fast n x in
+    quietly_through x.emitted y.emitted (nack_at indication fast n y).emitted (nacked_grown indication fast n x) (nacked_at indication fast n y)
 
 given_up_grown : (found : Option ℕ) (x : Step (List ℕ)) → GrownQuietly x.emitted (given_up_if found x).emitted
 given_up_grown None x = quietly_same x.emitted
@@ -205,11 +207,11 @@ partly_expired_events now s t after later h =
 
 pub timed_out_events : (s : Sender) (t u : E) → u ≡ (nack_all s.outstanding.items t).emitted → GrownQuietly t u
 timed_out_events s t u e =
-    to t (nack_all s.outstanding.items t).emitted u e (nacked_grown true false (length s.outstanding.items.kept) (first_step s.outstanding.items t))
+    to t (nack_all s.outstanding.items t).emitted u e (nacked_grown Timeout false (length s.outstanding.items.kept) (first_step s.outstanding.items t))
 
 pub partly_timed_out_events : (now : ℕ) (s : Sender) (t : E) (after : Sender) (later : E) → PartlyTimedOut now s t after later → GrownQuietly t later
 partly_timed_out_events now s t after later h =
-    to t (nack_below true false h.items.0 (first_step s.outstanding.items t)).emitted later h.items.1.events (nacked_grown true false h.items.0 (first_step s.outstanding.items t))
+    to t (nack_below Timeout false h.items.0 (first_step s.outstanding.items t)).emitted later h.items.1.events (nacked_grown Timeout false h.items.0 (first_step s.outstanding.items t))
 
 -- ---- a SACK
 
@@ -229,13 +231,13 @@ quiet_leaving (i ∷ is) = quiet_both (leaving_events i) (all_leaving_events is)
 sack_first_grown : (n : ℕ) (blocks : List GapAckBlock) (s : Items) (t : E) → GrownQuietly t (receive_sack_first n blocks s t).emitted
 sack_first_grown n blocks s t = quietly_emitted (all_leaving_events (take (leaving n s) s.kept)) t (quiet_leaving (take (leaving n s) s.kept))
 
-sack_below_grown : (n : ℕ) (blocks : List GapAckBlock) (fast : Bool) (count : ℕ) (s : Items) (t : E) → GrownQuietly t (nack_below false fast count (receive_sack_first n blocks s t)).emitted
-sack_below_grown n blocks fast count s t =
+sack_below_grown : (n : ℕ) (blocks : List GapAckBlock) (indication : MissIndication) (fast : Bool) (count : ℕ) (s : Items) (t : E) → GrownQuietly t (nack_below indication fast count (receive_sack_first n blocks s t)).emitted
+sack_below_grown n blocks indication fast count s t =
     let x = receive_sack_first n blocks s t in
-    quietly_through t x.emitted (nack_below false fast count x).emitted (sack_first_grown n blocks s t) (nacked_grown false fast count x)
+    quietly_through t x.emitted (nack_below indication fast count x).emitted (sack_first_grown n blocks s t) (nacked_grown indication fast count x)
 
 sack_step_grown : (valid : Bool) (n : ℕ) (blocks : List GapAckBlock) (s : Sender) (t : E) → GrownQuietly t (emitted_if valid n blocks s t)
-sack_step_grown true n blocks s t = sack_below_grown n blocks (not (not (is_open n s.windows))) (reported_below blocks (staying n s.outstanding.items)) s.outstanding.items t
+sack_step_grown true n blocks s t = sack_below_grown n blocks (report_by s.windows.avoids_stalls n blocks s.outstanding.items) (not (not (is_open n s.windows))) (reported_below blocks (staying n s.outstanding.items)) s.outstanding.items t
 sack_step_grown false n blocks s t = quietly_same t
 
 pub sack_events : (n : ℕ) (blocks : List GapAckBlock) (s : Sender) (t u : E) → u ≡ emitted_if (is_valid n blocks s.outstanding.items) n blocks s t → GrownQuietly t u
@@ -243,6 +245,6 @@ sack_events n blocks s t u e = to t (emitted_if (is_valid n blocks s.outstanding
 
 pub partly_acknowledged_events : (n : ℕ) (blocks : List GapAckBlock) (s : Sender) (t : E) (after : Sender) (later : E) → PartlyAcknowledged n blocks s t after later → GrownQuietly t later
 partly_acknowledged_events n blocks s t after later h = by h.items where
-  by : Same s.outstanding t after.outstanding later ⊎ SackPartlyTaken n blocks (not (is_open n s.windows)) s.outstanding t after.outstanding later → GrownQuietly t later
+  by : Same s.outstanding t after.outstanding later ⊎ SackPartlyTaken n blocks s.windows.avoids_stalls (not (is_open n s.windows)) s.outstanding t after.outstanding later → GrownQuietly t later
   by (inl same) = to t t later same.events (quietly_same t)
-  by (inr part) = to t (nack_below false (not (not (is_open n s.windows))) part.0 (receive_sack_first n blocks s.outstanding.items t)).emitted later part.1.events (sack_below_grown n blocks (not (not (is_open n s.windows))) part.0 s.outstanding.items t)
+  by (inr part) = to t (nack_below (report_by s.windows.avoids_stalls n blocks s.outstanding.items) (not (not (is_open n s.windows))) part.0 (receive_sack_first n blocks s.outstanding.items t)).emitted later part.1.events (sack_below_grown n blocks (report_by s.windows.avoids_stalls n blocks s.outstanding.items) (not (not (is_open n s.windows))) part.0 s.outstanding.items t)

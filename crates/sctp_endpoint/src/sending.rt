@@ -5,7 +5,7 @@ ghost use Rattle.sctp_tx_outstanding.specs.Views.{chunk_of};
 ghost use Rattle.sctp_state.specs.Events.{numbers_of};
 ghost use Rattle.spec_endpoint.specs.Packets.{add_all};
 ghost use Rattle.std.specs.Duration.{as_nanos};
-ghost use Rattle.spec_endpoint.specs.Sending.{burst_with, carrying, data_chunks, filled_as, forward_if, forward_pause, most_streams, request_of, request_started, send_buffered, send_cookie, send_lost, send_with, small_window, next_packet, with_ack, with_data, with_forward, with_request, send_in};
+ghost use Rattle.spec_endpoint.specs.Sending.{asks_at_once, burst_with, carrying, data_chunks, filled_as, forward_if, forward_pause, most_streams, request_of, request_started, send_buffered, send_cookie, send_lost, send_with, small_window, next_packet, with_ack, with_data, with_forward, with_request, send_in};
 ghost use Rattle.spec_endpoint.specs.Calls.{ready_in};
 ghost use Rattle.sctp_endpoint.specs.GoesOn.{GoesOn};
 ghost use Rattle.sctp_endpoint.specs.Views.{context_of, filling_of, after_sending_of, tcb_of, endpoint_state_of, state_of};
@@ -18,7 +18,7 @@ use crate::state::State;
 use crate::transmission_control_block::TransmissionControlBlock;
 use sctp_packet::{COMMON_HEADER_SIZE, Chunk, CookieEchoChunk, Data};
 use sctp_serial::{StreamId, Tsn};
-use sctp_tx::{ChunkForm, SendOpportunity};
+use sctp_tx::{ChunkForm, RetransmissionQueue, SendOpportunity};
 use sctp_wire::Checksum;
 use std::alloc::AllocError;
 use std::time::Duration;
@@ -175,7 +175,7 @@ impl<C: Checksum> Context<C> {
         }
         let form = ChunkForm {
             is_interleaved: tcb.capabilities.message_interleaving,
-            is_immediate: tcb.retransmission_queue.cwnd() < self.immediate_sack_cwnd(),
+            is_immediate: self.asks_at_once(&tcb.retransmission_queue),
         };
         let room = packet.bytes_remaining();
         let opportunity = SendOpportunity {
@@ -196,7 +196,16 @@ impl<C: Checksum> Context<C> {
         Ok(())
     }
 
-    /// Below this window the peer is asked to acknowledge at once (RFC 7053): with stalls avoided below any, where a burst has one packet.
+    /// Whether a packet asks the peer to acknowledge at once (RFC 7053): the congestion window is small, or with stalls avoided the
+    /// packet fills the peer's.
+    fn asks_at_once(&self, sender: &RetransmissionQueue) -> bool
+        ensures { result ≡ asks_at_once self.now.options sender.now }
+    {
+        let fills_window = self.options.avoid_stalls && sender.rwnd() < 2 * self.options.mtu;
+        sender.cwnd() < self.immediate_sack_cwnd() || fills_window
+    }
+
+    /// Below this congestion window it does: with stalls avoided below any, where a burst has one packet.
     fn immediate_sack_cwnd(&self) -> usize
         ensures { result ≡ small_window self.now.options }
     {
@@ -404,7 +413,8 @@ fn add_fragments(
     Ok(())
 }
 
-/// What waits goes out, as far as it may, where there is a control block.
+/// What waits goes out, as far as it may, where there is a control block; with stalls avoided not before the COOKIE ACK, as a packet
+/// without the cookie may not go then (RFC 9260 section 5.1 C).
 #[tactic(auto, using(crate::proofs::GoesOnLemmas::goes_on_same, crate::proofs::GoesOnLemmas::goes_on_through))]
 pub fn send_waiting<C: Checksum>(
     state: &mut State,
@@ -417,6 +427,12 @@ pub fn send_waiting<C: Checksum>(
 {
     match state {
         State::Closed | State::CookieWait(_) => Ok(()),
-        State::Open(phase, tcb) => context.send_buffered_packets(tcb, phase.is_before_cookie_ack()),
+        State::Open(phase, tcb) => {
+            let is_alone = phase.is_before_cookie_ack();
+            if is_alone && context.options.avoid_stalls {
+                return Ok(());
+            }
+            context.send_buffered_packets(tcb, is_alone)
+        }
     }
 }

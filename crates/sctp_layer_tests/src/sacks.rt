@@ -54,7 +54,7 @@ impl Outstanding for Sender {
         }
         let info = self
             .items
-            .handle_sack(sack, false, &mut self.spares, &mut self.events)?;
+            .handle_sack(sack, false, false, &mut self.spares, &mut self.events)?;
         Ok((
             info.bytes_acked,
             self.items.unacked_items(),

@@ -1,5 +1,5 @@
 -- A timer that is asked whether it expired. Moments and spans are in nanoseconds.
-use Rattle.std.specs.Prelude.{ℕ, ◌-◌, ◌*◌, ◌^◌, ◌==◌, nat_lt, nat_le, min, Bool, false, if◌then◌else◌, Option, Some, None, is_some}
+use Rattle.std.specs.Prelude.{ℕ, ◌-◌, ◌*◌, ◌^◌, ◌==◌, nat_lt, nat_le, min, max, Bool, false, if◌then◌else◌, Option, Some, None, is_some}
 use Rattle.sctp_serial.specs.Time.{forever, later}
 use Rattle.sctp_state.specs.Numbers.{ms, more}
 use Rattle.sctp_state.specs.declared.timer.BackoffAlgorithm.{BackoffAlgorithm}
@@ -81,6 +81,10 @@ is_last_expiry (Some n) k = nat_lt n k
 abbrev pub next_due : Timer → ℕ → Option ℕ → Option ℕ
 next_due t k None = None
 next_due t k (Some moment) = if is_last_expiry t.restarts k then None else Some (later moment (backoff t k))
+
+-- it begins anew with the wait to which it has backed off, which is its duration then, and no shorter than that was
+abbrev pub start_backed_off : ℕ → Timer → Timer
+start_backed_off now t = start now (set_duration (max t.duration (backoff t (more t.expiries))) t)
 
 abbrev pub expired_at : ℕ → Timer → Timer
 expired_at k t = record t { expiries = k; due = next_due t k t.due }

@@ -44,7 +44,7 @@ impl Model for Timer {
 }
 
 impl Timer {
-    ghost use Rattle.sctp_state.specs.Timer.{timer, start, stop, expire, is_due, is_running, next_expiry, set_duration, backed_off, backed_off_with, cap_at, longest, is_last_expiry};
+    ghost use Rattle.sctp_state.specs.Timer.{timer, start, start_backed_off, stop, expire, is_due, is_running, next_expiry, set_duration, backed_off, backed_off_with, cap_at, longest, is_last_expiry};
 
     /// A stopped timer. After more than `max_restarts` expiries it stops by itself, and no wait after an expiry is
     /// longer than `max_backoff_duration`.
@@ -76,6 +76,20 @@ impl Timer {
         } else {
             Some(now + self.duration)
         };
+    }
+
+    /// Starts the timer with the wait to which it has backed off, where that is longer: it is its duration then, until another one
+    /// is set.
+    pub fn start_backed_off(&mut self, now: SocketTime)
+        ensures { self.new ≡ start_backed_off now self.old }
+    {
+        let count = self.expiry_count.saturating_add(1);
+        let nanos = Timer::doubled(self.backoff_algorithm, self.duration, count);
+        let wait = Timer::bounded(nanos, self.max_backoff_duration);
+        if self.duration < wait {
+            self.duration = wait;
+        }
+        self.start(now);
     }
 
     /// Stops the timer: it expires no more until it is started.

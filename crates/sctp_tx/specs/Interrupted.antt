@@ -3,6 +3,7 @@ use Rattle.std.specs.Prelude.{◌≡◌, ◌⊎◌, ◌<◌, ◌-◌, ℕ, zero,
 use Rattle.sctp_chunk.specs.declared.sack.GapAckBlock.{GapAckBlock}
 use Rattle.sctp_state.specs.Events.{Emitted}
 use Rattle.sctp_state.specs.Timer.{expire}
+use Rattle.sctp_tx_outstanding.specs.declared.item.MissIndication.TheVariants.{Timeout}
 use Rattle.sctp_tx_outstanding.specs.Interrupted.{Same, SomeNacked, SomeExpired, SackPartlyTaken}
 use Rattle.sctp_tx_outstanding.specs.OutstandingData.{Outstanding}
 use Rattle.sctp_tx_outstanding.specs.Resending.{SomeResent, empty_packet}
@@ -21,12 +22,12 @@ ItemsAlone s after = after ≡ record s { outstanding = after.outstanding }
 
 -- of a SACK
 pub record PartlyAcknowledged {P : Type 0} (n : ℕ) (blocks : List GapAckBlock) (s : Sender) (emitted : Emitted P) (after : Sender) (later : Emitted P) : Type 0 where
-  pub items : Same s.outstanding emitted after.outstanding later ⊎ SackPartlyTaken n blocks (not (is_open n s.windows)) s.outstanding emitted after.outstanding later
+  pub items : Same s.outstanding emitted after.outstanding later ⊎ SackPartlyTaken n blocks s.windows.avoids_stalls (not (is_open n s.windows)) s.outstanding emitted after.outstanding later
   pub alone : ItemsAlone s after
 
 -- of a timeout: the windows are cut, and the timer's expiry is counted
 pub record PartlyTimedOut {P : Type 0} (now : ℕ) (s : Sender) (emitted : Emitted P) (after : Sender) (later : Emitted P) : Type 0 where
-  pub items : SomeNacked true false s.outstanding emitted after.outstanding later
+  pub items : SomeNacked Timeout false s.outstanding emitted after.outstanding later
   pub rest : after ≡ record s { outstanding = after.outstanding; windows = timed_out s.windows; t3 = expire now s.t3 }
 
 -- of the lifetimes that passed

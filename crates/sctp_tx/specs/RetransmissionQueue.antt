@@ -1,10 +1,10 @@
 -- What is sent again, and when: the items, the windows, and the timer of retransmissions (RFC 9260 sections 6.3, 7.2).
-use Rattle.std.specs.Prelude.{ℕ, ◌-◌, ◌==◌, ◌&&◌, ◌||◌, not, nat_lt, Bool, true, false, if◌then◌else◌, Option, None, option_map, List, length}
+use Rattle.std.specs.Prelude.{ℕ, ◌-◌, ◌==◌, ◌&&◌, ◌||◌, not, nat_lt, Bool, true, false, if◌then◌else◌, Option, None, is_some, option_map, List, length}
 use Rattle.std.specs.Duration.{as_nanos}
 use Rattle.sctp_chunk.specs.declared.sack.GapAckBlock.{GapAckBlock}
 use Rattle.sctp_state.specs.Events.{Emitted}
 use Rattle.sctp_state.specs.Options.{Options, t3_backoff}
-use Rattle.sctp_state.specs.Timer.{Timer, timer, start, stop, is_running, expire}
+use Rattle.sctp_state.specs.Timer.{Timer, timer, start, start_backed_off, stop, is_running, expire}
 use Rattle.sctp_state.specs.declared.timer.BackoffAlgorithm.TheVariants.{Exponential}
 use Rattle.sctp_tx_outstanding.specs.OutstandingData.{Outstanding, Items, no_items, next_number, flight_bytes, flight_payload, flight_items}
 use Rattle.sctp_tx_outstanding.specs.Losses.{Step}
@@ -19,6 +19,7 @@ pub record Sender : Type 0 where
   pub t3 : Timer
   pub rtx_packets : ℕ  -- packets in which an item was sent again
   pub rtx_bytes : ℕ
+  pub is_sampled : Bool  -- a round trip was measured
 
 abbrev pub sender : Options → (first a_rwnd : ℕ) → (is_partial is_interleaved : Bool) → Sender
 sender o first a_rwnd is_partial is_interleaved = record {
@@ -27,6 +28,7 @@ sender o first a_rwnd is_partial is_interleaved = record {
   t3 = timer o.rto_initial Exponential None (t3_backoff o);
   rtx_packets = 0;
   rtx_bytes = 0;
+  is_sampled = false;
 }
 
 -- ---- the timer runs while something is in flight or missing
@@ -49,6 +51,14 @@ t3_after_sack restarts s now t = kept_running (nothing_in_flight s) now (if rest
 abbrev pub restarts : (moved : Bool) → (before after : Windows) → Timer → Bool
 restarts moved before after t = moved || (reopens before after && nat_lt 0 t.expiries)
 
+-- with stalls avoided it stays backed off until the first round trip is measured (RFC 9260 sections 6.3.1 C1, C5, 6.3.3)
+abbrev pub stays_backed_off : (moved : Bool) → (sample : Option ℕ) → Sender → Bool
+stays_backed_off moved sample s = not (is_some sample) && (not s.is_sampled && (moved && (s.windows.avoids_stalls && nat_lt 0 s.t3.expiries)))
+
+abbrev pub backed_off_if : Bool → ℕ → Timer → Timer
+backed_off_if true now t = start_backed_off now t
+backed_off_if false now t = t
+
 -- what is kept is timed from now on
 abbrev pub wake : ℕ → Sender → Sender
 wake now s = record s { t3 = restart_or_stop (length s.outstanding.items.kept == 0) now s.t3 }
@@ -70,7 +80,7 @@ windows_after n a_rwnd moved is_lossy before acked payload exit w =
 
 -- what the items say to it
 abbrev pub step_of : {P : Type 0} → (cumulative : ℕ) → List GapAckBlock → Sender → Emitted P → Step P
-step_of n blocks s emitted = receive_sack n blocks (not (is_open n s.windows)) s.outstanding.items emitted
+step_of n blocks s emitted = receive_sack n blocks s.windows.avoids_stalls (not (is_open n s.windows)) s.outstanding.items emitted
 
 abbrev pub windows_by : {P : Type 0} → (cumulative a_rwnd : ℕ) → List GapAckBlock → Sender → Step P → Windows
 windows_by n a_rwnd blocks s step =
@@ -81,7 +91,8 @@ abbrev pub handle_sack_by : {P : Type 0} → ℕ → (cumulative a_rwnd : ℕ) �
 handle_sack_by now n a_rwnd blocks s step = let w = windows_by n a_rwnd blocks s step in record s {
   outstanding = record s.outstanding { items = step.items };
   windows = w;
-  t3 = t3_after_sack (restarts (nat_lt s.outstanding.items.acked n) s.windows w s.t3) step.items now s.t3;
+  t3 = t3_after_sack (restarts (nat_lt s.outstanding.items.acked n) s.windows w s.t3) step.items now
+      (backed_off_if (stays_backed_off (nat_lt s.outstanding.items.acked n) (sample now n s.outstanding.items) s) now s.t3);
 }
 
 abbrev pub handle_sack : {P : Type 0} → ℕ → (cumulative a_rwnd : ℕ) → List GapAckBlock → Sender → Emitted P → Sender

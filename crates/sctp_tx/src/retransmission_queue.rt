@@ -1,6 +1,6 @@
 //! What is sent again, and when (RFC 9260 sections 6.3 and 7.2).
 
-ghost use Rattle.std.specs.Prelude.{◌≡◌, ◌-◌, ◌==◌, min, ◌^◌, ◌<◌, ◌≤◌, ◌&&◌, ◌||◌, not, [], suc, nat_lt, length, map, is_some, true, false, IsTrue, OnOk, OnErr, IfOk, IfSome, Ok};
+ghost use Rattle.std.specs.Prelude.{◌≡◌, ◌-◌, ◌==◌, min, ◌^◌, ◌<◌, ◌≤◌, ◌&&◌, ◌||◌, not, [], suc, nat_lt, length, map, is_some, option_map, true, false, IsTrue, OnOk, OnErr, IfOk, IfSome, Ok};
 ghost use Rattle.std.specs.Duration.{as_nanos};
 ghost use Rattle.sctp_state.specs.Options.{options_of, IsValid};
 ghost use Rattle.sctp_state.specs.Timer.{backed_off_with, is_due, next_expiry, set_duration};
@@ -9,8 +9,8 @@ ghost use Rattle.sctp_tx_outstanding.specs.Losses.{nack_all, expire_outstanding}
 ghost use Rattle.sctp_tx_outstanding.specs.Forward.{is_forward_due};
 ghost use Rattle.sctp_control_chunk.specs.ChunkView.{chunk_tree};
 ghost use Rattle.sctp_tx.specs.ForwardPoints.{abandon_expired, forward_chunk, most_of};
-ghost use Rattle.sctp_tx_outstanding.specs.Sack.{is_valid, is_open_at, acked_bytes};
-ghost use Rattle.sctp_tx.specs.RetransmissionQueue.{sender, wake, handle_sack, step_of, sender_if, emitted_if, answer_if, answer_of, windows_after, t3_after_sack, kept_running, nothing_in_flight, timed_out_sender};
+ghost use Rattle.sctp_tx_outstanding.specs.Sack.{is_valid, is_open_at, acked_bytes, sample};
+ghost use Rattle.sctp_tx.specs.RetransmissionQueue.{backed_off_if, stays_backed_off, sender, wake, handle_sack, step_of, sender_if, emitted_if, answer_if, answer_of, windows_after, t3_after_sack, kept_running, nothing_in_flight, timed_out_sender};
 ghost use Rattle.sctp_tx.specs.Interrupted.{PartlyAcknowledged, PartlyTimedOut, PartlyExpired, PartlyResentFast, PartlyResent, TurnStopped, PartlyFilled, SomeDiscarded, PartlySent};
 ghost use Rattle.sctp_tx.specs.Flight.{StaysWithin, AddsAtMost, FitWithin};
 ghost use Rattle.sctp_tx.specs.Windows.{saturate_u64};
@@ -75,6 +75,8 @@ pub struct RetransmissionQueue {
     t3_rtx: Timer,
     rtx_packets_count: usize,
     rtx_bytes_count: u64,
+    /// A round trip was measured.
+    is_sampled: bool,
     /// Buffers of payloads that were acknowledged, for the next ones, while something is outstanding.
     spares: SpareBuffers,
 }
@@ -84,7 +86,7 @@ impl Model for RetransmissionQueue {
 
     ghost Value = { Sender };
 
-    ghost view = { λ q. record { outstanding = q.outstanding; windows = q.windows; t3 = q.t3_rtx; rtx_packets = q.rtx_packets_count; rtx_bytes = q.rtx_bytes_count } };
+    ghost view = { λ q. record { outstanding = q.outstanding; windows = q.windows; t3 = q.t3_rtx; rtx_packets = q.rtx_packets_count; rtx_bytes = q.rtx_bytes_count; is_sampled = q.is_sampled } };
 }
 
 impl RetransmissionQueue {
@@ -117,6 +119,7 @@ impl RetransmissionQueue {
             ),
             rtx_packets_count: 0,
             rtx_bytes_count: 0,
+            is_sampled: false,
             spares: SpareBuffers::new(alloc, SPARE_BUFFERS),
         }
     }
@@ -130,9 +133,10 @@ impl RetransmissionQueue {
 
     /// From the next start or expiry of t3-rtx on, this is its duration.
     pub fn update_rto(&mut self, rto: Duration)
-        ensures { self.new ≡ record self.old { t3 = set_duration (as_nanos rto) self.old.t3 } }
+        ensures { self.new ≡ record self.old { t3 = set_duration (as_nanos rto) self.old.t3; is_sampled = true } }
     {
         self.t3_rtx.set_duration(rto);
+        self.is_sampled = true;
     }
 
     /// This span, doubled as often as t3-rtx expired since it was started last, at most `most`.
@@ -234,21 +238,23 @@ impl RetransmissionQueue {
             return Ok(HandleSackResult::Invalid);
         }
         let rtt = self.outstanding.measure_rtt(now, sack.cumulative_tsn_ack);
-        let acked = self.receive_sack(now, sack, events)?;
+        let acked = self.receive_sack(now, sack, rtt, events)?;
         Ok(HandleSackResult::Valid {
             rtt,
             reset_error_counter: acked > 0,
         })
     }
 
-    /// A SACK that is valid. The answer is how many bytes are newly acknowledged.
+    /// A SACK that is valid, with the round trip that it measures. The answer is how many bytes are newly acknowledged.
     fn receive_sack(
         &mut self,
         now: SocketTime,
         sack: &SackChunk,
+        rtt: Option<Duration>,
         events: &mut Events,
     ) -> Result<usize, AllocError>
         requires valid { IsTrue (is_valid (number_of self.old.outstanding sack.now.cumulative_tsn_ack.0) sack.now.gap_ack_blocks.items self.old.outstanding.items) }
+        requires timed { option_map as_nanos rtt ≡ sample now (number_of self.old.outstanding sack.now.cumulative_tsn_ack.0) self.old.outstanding.items }
         ensures queue { let n = number_of self.old.outstanding sack.now.cumulative_tsn_ack.0 in let blocks = sack.now.gap_ack_blocks.items in
             OnOk result (self.new ≡ handle_sack now n sack.now.a_rwnd blocks self.old events.old) }
         ensures emitted { let n = number_of self.old.outstanding sack.now.cumulative_tsn_ack.0 in let blocks = sack.now.gap_ack_blocks.items in
@@ -266,18 +272,47 @@ impl RetransmissionQueue {
         };
         let is_open = self.windows.is_open_at(number);
         let was_shut = self.windows.is_shut();
+        let stays = self.stays_backed_off(ack.moved, rtt);
+        let once_a_flight = self.avoids_stalls();
         let info = self
             .outstanding
-            .handle_sack(sack, !is_open, &mut self.spares, events)?;
+            .handle_sack(sack, once_a_flight, !is_open, &mut self.spares, events)?;
         self.let_spares_go();
         self.update_windows(sack.a_rwnd, ack, info);
         let restarts = self.restarts_timer(ack.moved, was_shut);
+        self.back_off_if(stays, now);
         self.run_timer(now, restarts);
         Ok(info.bytes_acked)
     }
 
-    /// Whether t3-rtx begins anew: the cumulative TSN moved, or the peer's window was shut and opened once the timer backed off, so that what is in
-    /// flight was sent into a closed one.
+    fn avoids_stalls(&self) -> bool
+        ensures { result ≡ self.now.windows.avoids_stalls }
+    {
+        self.windows.avoids_stalls
+    }
+
+    /// Whether t3-rtx stays backed off: with stalls avoided, before the first round trip is measured (RFC 9260 section 6.3.1 C5).
+    fn stays_backed_off(&self, moved: bool, rtt: Option<Duration>) -> bool
+        ensures { result ≡ stays_backed_off moved (option_map as_nanos rtt) self.now }
+    {
+        match rtt {
+            Some(_) => false,
+            None => !self.is_sampled
+                && moved
+                && self.windows.avoids_stalls
+                && self.t3_rtx.expiry_count() > 0,
+        }
+    }
+
+    fn back_off_if(&mut self, stays: bool, now: SocketTime)
+        ensures { self.new ≡ record self.old { t3 = backed_off_if stays now self.old.t3 } }
+    {
+        if stays {
+            self.t3_rtx.start_backed_off(now);
+        }
+    }
+
+    /// Whether t3-rtx begins anew: the cumulative TSN moved, or it had expired and the peer's window, into which it was sent, opened.
     fn restarts_timer(&self, moved: bool, was_shut: bool) -> bool
         ensures { result ≡ (moved || ((was_shut && not (self.now.windows.rwnd == 0)) && nat_lt 0 self.now.t3.expiries)) }
     {
@@ -417,8 +452,7 @@ impl RetransmissionQueue {
         (self.windows.mtu() / 4 * 4).saturating_sub(COMMON_HEADER_SIZE)
     }
 
-    /// The forward point, as FORWARD-TSN or, where messages are interleaved, as I-FORWARD-TSN. The chunk fits a packet of
-    /// `mtu`.
+    /// The forward point, as FORWARD-TSN or, where messages are interleaved, as I-FORWARD-TSN. It fits a packet of `mtu`.
     pub fn create_forward_tsn(&self) -> Result<Chunk, AllocError>
         ensures { IfOk result (λ chunk. chunk_tree chunk ≡ forward_chunk self.now) }
     {
@@ -655,8 +689,7 @@ impl RetransmissionQueue {
         room.saturating_sub(header_size(self.outstanding.is_interleaved()))
     }
 
-    /// The fragment takes the next TSN. The answer is the size of its chunk. Without memory it is lost, and nothing changes but
-    /// the packet.
+    /// The fragment takes the next TSN. The answer is the size of its chunk. Without memory it is lost, and the packet alone changes.
     fn append<P: TakesFragments>(
         &mut self,
         now: SocketTime,
@@ -715,8 +748,7 @@ impl RetransmissionQueue {
     }
 }
 
-/// What is left of messages that were given up leaves the send queue. Without memory this is done for some of the first
-/// alone.
+/// What is left of messages that were given up leaves the send queue. Without memory this is done for some of the first.
 fn discard_all(
     outstanding: &mut OutstandingData,
     queue: &mut SendQueue,

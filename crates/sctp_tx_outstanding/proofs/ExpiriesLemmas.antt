@@ -70,7 +70,7 @@ expires_expected dropped m (suc k) (i ∷ is) less h = expires_expected dropped 
 same_deadline : (x : Change) (i : Item) → (apply_change x i).expires ≡ i.expires
 same_deadline changes.Ack i = refl
 same_deadline changes.Uncover i = refl
-same_deadline (changes.Nack at_once fast) i = refl
+same_deadline (changes.Nack indication fast) i = refl
 same_deadline changes.Retransmit i = refl
 same_deadline changes.MissFast i = refl
 same_deadline changes.Abandon i = refl

@@ -6,6 +6,7 @@ use Rattle.sctp_chunk.specs.declared.sack.GapAckBlock.{GapAckBlock}
 use Rattle.sctp_chunk.specs.Covered.{is_covered}
 use Rattle.sctp_state.specs.Events.{Emitted}
 use Rattle.sctp_state.specs.declared.api.GivenUpCause.TheVariants.{Retransmissions}
+use Rattle.sctp_tx_outstanding.specs.declared.item.MissIndication.{MissIndication}
 use Rattle.sctp_tx_outstanding.specs.declared.item.ItemState.{ItemState}
 use Rattle.sctp_tx_outstanding.specs.declared.item.ItemState.TheVariants.{InFlight, Missing, Queued, QueuedFast, Acked, GivenUp}
 use Rattle.sctp_tx_outstanding.specs.declared.outstanding_data.Turn.{Turn}
@@ -14,7 +15,7 @@ use Rattle.sctp_tx_outstanding.specs.Item.{Item, is_in_flight, is_given_up, is_o
 use Rattle.sctp_tx_outstanding.specs.OutstandingData.{Items, change_at, abandon_if_of, last_of, append_item}
 use Rattle.sctp_tx_outstanding.specs.Losses.{Step, end_with_placeholder, placeholders, abandon_message, abandon_with_record, given_up_if, is_to_be_abandoned, loses, nack_item, nack_at, nack_below, expired_at, expire_at, expire_below, change_items}
 use Rattle.sctp_tx_outstanding.specs.Resending.{Resent, again_of, again_at, apply_turn, turn_at, step_at, resent_below}
-use Rattle.sctp_tx_outstanding.specs.Sack.{ack_or_uncover_all, ack_or_uncover, staying, receive_sack, receive_sack_first, reported_below}
+use Rattle.sctp_tx_outstanding.specs.Sack.{report_by, ack_or_uncover_all, ack_or_uncover, staying, receive_sack, receive_sack_first, reported_below}
 use Rattle.sctp_tx_outstanding.specs.Keeps.{Remains, Remain, Keeps, is_given_up_in}
 
 -- ---- lists
@@ -93,8 +94,8 @@ by_ack i = record { fragment = refl; number = refl; given_up = acked_given_up i.
 pub by_uncover : (i : Item) → Remains i (uncover i)
 by_uncover i = record { fragment = refl; number = refl; given_up = uncovered_given_up i.state }
 
-pub by_nack : (at_once fast : Bool) (i : Item) → Remains i (nack at_once fast i)
-by_nack at_once fast i = record { fragment = refl; number = refl; given_up = nacked_given_up i.state (nack_state (is_lost at_once i) fast) }
+pub by_nack : (indication : MissIndication) (fast : Bool) (i : Item) → Remains i (nack indication fast i)
+by_nack indication fast i = record { fragment = refl; number = refl; given_up = nacked_given_up i.state (nack_state (is_lost indication i) fast) }
 
 pub by_resending : (i : Item) → Remains i (mark_as_retransmitted i)
 by_resending i = record { fragment = refl; number = refl; given_up = resent_given_up i.state }
@@ -133,24 +134,24 @@ given_up_keeps number s = record {
 changed_keeps : (k : ℕ) (f : Item → Item) (s : Items) → ((i : Item) → Remains i (f i)) → Keeps s (change_items k f s)
 changed_keeps k f s h = record { acked = refl; items = remain_changed f h k s.kept }
 
-module _ (at_once fast : Bool) where
-  item_keeps : (k : ℕ) (i : Item) (x : Step (List ℕ)) → Keeps x.items (nack_item at_once fast k i x).items
-  item_keeps k i x = go (is_to_be_abandoned x.items.is_partial at_once i) where
-    go : (b : Bool) → Keeps x.items (if b then abandon_with_record i.number (Retransmissions (i.sent - 1)) x else record x { items = change_items k (nack at_once fast) x.items; is_lossy = x.is_lossy || loses at_once i }).items
+module _ (indication : MissIndication) (fast : Bool) where
+  item_keeps : (k : ℕ) (i : Item) (x : Step (List ℕ)) → Keeps x.items (nack_item indication fast k i x).items
+  item_keeps k i x = go (is_to_be_abandoned x.items.is_partial indication i) where
+    go : (b : Bool) → Keeps x.items (if b then abandon_with_record i.number (Retransmissions (i.sent - 1)) x else record x { items = change_items k (nack indication fast) x.items; is_lossy = x.is_lossy || loses indication i }).items
     go true = given_up_keeps i.number x.items
-    go false = changed_keeps k (nack at_once fast) x.items (by_nack at_once fast)
+    go false = changed_keeps k (nack indication fast) x.items (by_nack indication fast)
 
-  at_keeps : (k : ℕ) (x : Step (List ℕ)) → Keeps x.items (nack_at at_once fast k x).items
+  at_keeps : (k : ℕ) (x : Step (List ℕ)) → Keeps x.items (nack_at indication fast k x).items
   at_keeps k x = go (slice_get x.items.kept k) where
-    go : (o : Option Item) → Keeps x.items (unwrap_or (option_map (λ i. nack_item at_once fast k i x) o) x).items
+    go : (o : Option Item) → Keeps x.items (unwrap_or (option_map (λ i. nack_item indication fast k i x) o) x).items
     go None = keeps_all x.items
     go (Some i) = item_keeps k i x
 
-  pub losses_keep : (n : ℕ) (x : Step (List ℕ)) → Keeps x.items (nack_below at_once fast n x).items
+  pub losses_keep : (n : ℕ) (x : Step (List ℕ)) → Keeps x.items (nack_below indication fast n x).items
   losses_keep zero x = keeps_all x.items
   losses_keep (suc n) x =
-      let before = nack_below at_once fast n x in
-      keeps_on x.items before.items (nack_at at_once fast n before).items (losses_keep n x) (at_keeps n before)
+      let before = nack_below indication fast n x in
+      keeps_on x.items before.items (nack_at indication fast n before).items (losses_keep n x) (at_keeps n before)
 
 module _ (now : ℕ) where
   lifetime_keeps : (k : ℕ) (x : Step (List ℕ)) → Keeps x.items (expire_at now k x).items
@@ -188,13 +189,13 @@ module _ (fast : Bool) where
 pub new_items_keep : (i : Item) (s : Items) → Keeps s (append_item i s)
 new_items_keep i s = record { acked = refl; items = remain_before s.kept (i ∷ []) }
 
-pub sacks_keep : (cumulative : ℕ) (blocks : List GapAckBlock) (is_in_fast_recovery : Bool) (s : Items) (emitted : Emitted (List ℕ))
-    → Keeps (staying cumulative s) (receive_sack cumulative blocks is_in_fast_recovery s emitted).items
-sacks_keep cumulative blocks is_in_fast_recovery s emitted =
+pub sacks_keep : (cumulative : ℕ) (blocks : List GapAckBlock) (once_a_flight is_in_fast_recovery : Bool) (s : Items) (emitted : Emitted (List ℕ))
+    → Keeps (staying cumulative s) (receive_sack cumulative blocks once_a_flight is_in_fast_recovery s emitted).items
+sacks_keep cumulative blocks once_a_flight is_in_fast_recovery s emitted =
     let left = staying cumulative s in
     let first : Step (List ℕ) = receive_sack_first cumulative blocks s emitted in
     let settled-keeps : Keeps left first.items = record { acked = refl; items = remain_settled blocks 1 left.kept } in
-    keeps_on left first.items (receive_sack cumulative blocks is_in_fast_recovery s emitted).items settled-keeps (losses_keep false (not is_in_fast_recovery) (reported_below blocks left) first)
+    keeps_on left first.items (receive_sack cumulative blocks once_a_flight is_in_fast_recovery s emitted).items settled-keeps (losses_keep (report_by once_a_flight cumulative blocks s) (not is_in_fast_recovery) (reported_below blocks left) first)
 
 -- ---- a message that is given up
 

@@ -142,7 +142,7 @@ none_kept keys e = record {
 same_id : (x : Change) (i : Item) → (apply_change x i).number ≡ i.number
 same_id changes.Ack i = refl
 same_id changes.Uncover i = refl
-same_id (changes.Nack at_once fast) i = refl
+same_id (changes.Nack indication fast) i = refl
 same_id changes.Retransmit i = refl
 same_id changes.MissFast i = refl
 same_id changes.Abandon i = refl

@@ -103,7 +103,7 @@ passed_kept m is count left ts h = record {
 remains : (how : Change) (i : Item) → Remains i (apply_change how i)
 remains changes.Ack i = by_ack i
 remains changes.Uncover i = by_uncover i
-remains (changes.Nack at_once fast) i = by_nack at_once fast i
+remains (changes.Nack indication fast) i = by_nack indication fast i
 remains changes.Retransmit i = by_resending i
 remains changes.MissFast i = by_missing i
 remains changes.Abandon i = record { fragment = refl; number = refl; given_up = λ e. refl }
@@ -111,7 +111,7 @@ remains changes.Abandon i = record { fragment = refl; number = refl; given_up = 
 same_entry : (how : Change) (m : Bool) (i : Item) → entry_of m (apply_change how i) ≡ entry_of m i
 same_entry changes.Ack m i = refl
 same_entry changes.Uncover m i = refl
-same_entry (changes.Nack at_once fast) m i = refl
+same_entry (changes.Nack indication fast) m i = refl
 same_entry changes.Retransmit m i = refl
 same_entry changes.MissFast m i = refl
 same_entry changes.Abandon m i = refl

@@ -1,14 +1,15 @@
 -- What the last blocks said of the items, as items come, change and leave, and as new blocks come.
-use Rattle.std.proofs.Common.{◌≡◌, ℕ, zero, suc, ◌+◌, ◌<◌, ◌≤◌, ◌||◌, Bool, true, false, cond, List, [], ◌∷◌, ◌++◌, map, length, drop, slice_index_or, IsTrue, refl, ap, sym, subst, ◌∙◌, arith}
+use Rattle.std.proofs.Common.{◌≡◌, ℕ, zero, suc, ◌+◌, ◌<◌, ◌≤◌, ◌&&◌, ◌||◌, Bool, true, false, cond, List, [], ◌∷◌, ◌++◌, map, length, drop, slice_index_or, IsTrue, refl, ap, sym, subst, ◌∙◌, arith}
 use Rattle.std.specs.Prelude.{Some, None, slice_get}
 use Rattle.std.proofs.lemmas.Bool.Decides.{nat_tests}
 use Rattle.sctp_chunk.specs.declared.sack.GapAckBlock.{GapAckBlock}
 use Rattle.sctp_chunk.specs.Covered.{is_covered, AreRuns}
+use Rattle.sctp_tx_outstanding.specs.declared.item.MissIndication.{MissIndication}
 use Rattle.sctp_tx_outstanding.specs.declared.item.ItemState.{ItemState}
 use Rattle.sctp_tx_outstanding.specs.declared.item.ItemState.TheVariants.{InFlight, Missing, Queued, QueuedFast, Acked, GivenUp}
 use Rattle.sctp_tx_outstanding.specs.declared.kept.Change.{Change}
 use Rattle.sctp_tx_outstanding.specs.declared.kept.Change.TheVariants as changes
-use Rattle.sctp_tx_outstanding.specs.Item.{Item, is_of, is_in_flight, waits, is_given_up, has_ack, is_acked, is_lost, nack_state, acked, ack, uncovered, uncover, resent, demote_fast, nack, mark_as_retransmitted, miss_fast, abandon, chunk_size}
+use Rattle.sctp_tx_outstanding.specs.Item.{Item, is_of, is_in_flight, waits, is_given_up, has_ack, is_acked, is_lost, reported, counts_again, nack_state, acked, ack, uncovered, uncover, resent, demote_fast, nack, mark_as_retransmitted, miss_fast, abandon, chunk_size}
 use Rattle.sctp_tx_outstanding.specs.OutstandingData.{change_at, when, abandon_if_of}
 use Rattle.sctp_tx_outstanding.specs.Change.{apply_change, is_of_sack}
 use Rattle.sctp_tx_outstanding.specs.Sack.{highest_end, ack_or_uncover_all, ack_or_uncover, newly_acked, is_newly_acked, below_highest, open_size}
@@ -64,11 +65,12 @@ still Acked h = refl
 still GivenUp h = refl
 
 -- a missing report says nothing of what isn't in flight
-pub nack_still : (at_once fast : Bool) (i : Item) → is_in_flight i.state ≡ false → nack at_once fast i ≡ i
-nack_still at_once fast i h =
-    let s : cond (is_in_flight i.state) (nack_state (is_lost at_once i) fast) i.state ≡ i.state = ap (λ b. cond b (nack_state (is_lost at_once i) fast) i.state) h in
-    let r : cond (is_in_flight i.state) (cond (is_lost at_once i) 0 (suc i.reports)) i.reports ≡ i.reports = ap (λ b. cond b (cond (is_lost at_once i) 0 (suc i.reports)) i.reports) h in
-    λ j. record i { state = s j; reports = r j }
+pub nack_still : (indication : MissIndication) (fast : Bool) (i : Item) → is_in_flight i.state ≡ false → nack indication fast i ≡ i
+nack_still indication fast i h =
+    let s : cond (is_in_flight i.state) (nack_state (is_lost indication i) fast) i.state ≡ i.state = ap (λ b. cond b (nack_state (is_lost indication i) fast) i.state) h in
+    let r : cond (is_in_flight i.state) (cond (is_lost indication i) 0 (reported indication i)) i.reports ≡ i.reports = ap (λ b. cond b (cond (is_lost indication i) 0 (reported indication i)) i.reports) h in
+    let n : cond (is_in_flight i.state && is_lost indication i) (counts_again indication i) i.counts_from ≡ i.counts_from = ap (λ b. cond (b && is_lost indication i) (counts_again indication i) i.counts_from) h in
+    λ j. record i { state = s j; reports = r j; counts_from = n j }
 
 nack_open : (b l f : Bool) (s : ItemState) → uncovered s ≡ s → uncovered (cond b (nack_state l f) s) ≡ cond b (nack_state l f) s
 nack_open true true true s h = refl
@@ -117,10 +119,10 @@ reports_of_lem x y h = ap (λ (z : Item). z.reports) h
 rests_changed : (x : Change) (c : Bool) (i : Item) → is_of_sack x ≡ false → Rests c i → Rests c (apply_change x i)
 rests_changed changes.Ack c i e h = absurd (cc)
 rests_changed changes.Uncover c i e h = absurd (cc)
-rests_changed (changes.Nack at_once fast) true i e h =
-    subst (λ (y : Item). Rests true y) (sym (nack_still at_once fast i (still i.state (state_of_lem (ack i) i h)))) h
-rests_changed (changes.Nack at_once fast) false i e h =
-    rests_uncovered (nack at_once fast i) (nack_open (is_in_flight i.state) (is_lost at_once i) fast i.state (state_of_lem (uncover i) i h))
+rests_changed (changes.Nack indication fast) true i e h =
+    subst (λ (y : Item). Rests true y) (sym (nack_still indication fast i (still i.state (state_of_lem (ack i) i h)))) h
+rests_changed (changes.Nack indication fast) false i e h =
+    rests_uncovered (nack indication fast i) (nack_open (is_in_flight i.state) (is_lost indication i) fast i.state (state_of_lem (uncover i) i h))
 rests_changed changes.Retransmit true i e h =
     rests_covered (mark_as_retransmitted i) (resent_acked i.state (state_of_lem (ack i) i h)) (ap (λ b. cond b i.reports 0) (resent_same i.state) ∙ reports_of_lem (ack i) i h)
 rests_changed changes.Retransmit false i e h = rests_uncovered (mark_as_retransmitted i) (resent_open i.state (state_of_lem (uncover i) i h))

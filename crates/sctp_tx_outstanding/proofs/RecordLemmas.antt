@@ -9,6 +9,7 @@ use Rattle.sctp_chunk.specs.Covered.{is_covered}
 use Rattle.sctp_state.specs.Events.{GivenUp, Emitted}
 use Rattle.sctp_state.specs.declared.api.GivenUpCause.{GivenUpCause}
 use Rattle.sctp_state.specs.declared.api.GivenUpCause.TheVariants.{Lifetime, Retransmissions}
+use Rattle.sctp_tx_outstanding.specs.declared.item.MissIndication.{MissIndication}
 use Rattle.sctp_tx_outstanding.specs.declared.item.ItemState.{ItemState}
 use Rattle.sctp_tx_outstanding.specs.declared.item.ItemState.TheVariants.{InFlight, Missing, Queued, QueuedFast, Acked, GivenUp as Abandoned}
 use Rattle.sctp_tx_outstanding.specs.declared.outstanding_data.Turn.{Turn}
@@ -17,7 +18,7 @@ use Rattle.sctp_tx_outstanding.specs.Item.{Item, is_in_flight, has_nack, is_give
 use Rattle.sctp_tx_outstanding.specs.OutstandingData.{Items, change_at, abandon_if_of, last_of, append_item, no_items}
 use Rattle.sctp_tx_outstanding.specs.Losses.{Step, placeholders, placeholder, abandon_message, abandon_with_record, given_up_if, is_to_be_abandoned, loses, nack_item, nack_at, nack_below, expires, expired_of, option_bind, expire_at, expire_below, change_items}
 use Rattle.sctp_tx_outstanding.specs.Resending.{Resent, again_of, again_at, apply_turn, turn_at, step_at, resent_below}
-use Rattle.sctp_tx_outstanding.specs.Sack.{ack_or_uncover_all, ack_or_uncover, leaving, staying, receive_sack, receive_sack_first, reported_below}
+use Rattle.sctp_tx_outstanding.specs.Sack.{report_by, ack_or_uncover_all, ack_or_uncover, leaving, staying, receive_sack, receive_sack_first, reported_below}
 use Rattle.sctp_chunk.specs.Chunk.{FragmentTree}
 use Rattle.sctp_tx_outstanding.specs.Records.{is_recorded, are_distinct, IsGivenUpAsRecorded, RecordedOnce, RecordsRetransmissions, RecordsLifetime}
 use Rattle.sctp_serial.proofs.NumberLemmas.{or_regroup}
@@ -131,8 +132,8 @@ nacked_same lost fast QueuedFast = refl
 nacked_same lost fast Acked = refl
 nacked_same lost fast Abandoned = refl
 
-alike_nack : (at_once fast : Bool) (i : Item) → Alike i (nack at_once fast i)
-alike_nack at_once fast i = record { number = refl; given_up = nacked_same (is_lost at_once i) fast i.state }
+alike_nack : (indication : MissIndication) (fast : Bool) (i : Item) → Alike i (nack indication fast i)
+alike_nack indication fast i = record { number = refl; given_up = nacked_same (is_lost indication i) fast i.state }
 
 alike_resent : (i : Item) → Alike i (mark_as_retransmitted i)
 alike_resent i = record { number = refl; given_up = resent_same i.state }
@@ -212,31 +213,31 @@ module _ (before : List GivenUp) where
   first true b h = refl
   first false b h = absurd (cc)
 
-  module _ (at_once fast : Bool) where
+  module _ (indication : MissIndication) (fast : Bool) where
     emitted_nack_item : (k : ℕ) (i : Item) (x : Step (List ℕ)) → slice_get x.items.kept k ≡ Some i → RecordedOnce before x.items x.emitted.given_up
-        → RecordedOnce before (nack_item at_once fast k i x).items (nack_item at_once fast k i x).emitted.given_up
-    emitted_nack_item k i x there h = go (is_to_be_abandoned x.items.is_partial at_once i) refl where
+        → RecordedOnce before (nack_item indication fast k i x).items (nack_item indication fast k i x).emitted.given_up
+    emitted_nack_item k i x there h = go (is_to_be_abandoned x.items.is_partial indication i) refl where
       given : (b : Bool) → Step (List ℕ)
-      given b = if b then abandon_with_record i.number (Retransmissions (i.sent - 1)) x else record x { items = change_items k (nack at_once fast) x.items; is_lossy = x.is_lossy || loses at_once i }
+      given b = if b then abandon_with_record i.number (Retransmissions (i.sent - 1)) x else record x { items = change_items k (nack indication fast) x.items; is_lossy = x.is_lossy || loses indication i }
 
-      go : (b : Bool) → is_to_be_abandoned x.items.is_partial at_once i ≡ b
-          → RecordedOnce before (if b then abandon_with_record i.number (Retransmissions (i.sent - 1)) x else record x { items = change_items k (nack at_once fast) x.items; is_lossy = x.is_lossy || loses at_once i }).items
-          (if b then abandon_with_record i.number (Retransmissions (i.sent - 1)) x else record x { items = change_items k (nack at_once fast) x.items; is_lossy = x.is_lossy || loses at_once i }).emitted.given_up
+      go : (b : Bool) → is_to_be_abandoned x.items.is_partial indication i ≡ b
+          → RecordedOnce before (if b then abandon_with_record i.number (Retransmissions (i.sent - 1)) x else record x { items = change_items k (nack indication fast) x.items; is_lossy = x.is_lossy || loses indication i }).items
+          (if b then abandon_with_record i.number (Retransmissions (i.sent - 1)) x else record x { items = change_items k (nack indication fast) x.items; is_lossy = x.is_lossy || loses indication i }).emitted.given_up
       go true e =
-          let stays : is_abandoned i ≡ false = flying_stays i.state (is_lost at_once i) (first (loses at_once i) (x.items.is_partial && is_used_up i) e) in
+          let stays : is_abandoned i ≡ false = flying_stays i.state (is_lost indication i) (first (loses indication i) (x.items.is_partial && is_used_up i) e) in
           emitted_given_up i.number (Retransmissions (i.sent - 1)) x (sym (emitted_at (before ++ x.emitted.given_up) k x.items.kept i h.exact there) ∙ stays) h
-      go false e = emitted_items x.items (change_items k (nack at_once fast) x.items) x.emitted.given_up (emitted_changed (before ++ x.emitted.given_up) (nack at_once fast) (alike_nack at_once fast) k x.items.kept h.exact) h
+      go false e = emitted_items x.items (change_items k (nack indication fast) x.items) x.emitted.given_up (emitted_changed (before ++ x.emitted.given_up) (nack indication fast) (alike_nack indication fast) k x.items.kept h.exact) h
 
-    emitted_nack_at : (k : ℕ) (x : Step (List ℕ)) → RecordedOnce before x.items x.emitted.given_up → RecordedOnce before (nack_at at_once fast k x).items (nack_at at_once fast k x).emitted.given_up
+    emitted_nack_at : (k : ℕ) (x : Step (List ℕ)) → RecordedOnce before x.items x.emitted.given_up → RecordedOnce before (nack_at indication fast k x).items (nack_at indication fast k x).emitted.given_up
     emitted_nack_at k x h = go (slice_get x.items.kept k) refl where
       go : (o : Option Item) → slice_get x.items.kept k ≡ o
-          → RecordedOnce before (unwrap_or (option_map (λ i. nack_item at_once fast k i x) o) x).items (unwrap_or (option_map (λ i. nack_item at_once fast k i x) o) x).emitted.given_up
+          → RecordedOnce before (unwrap_or (option_map (λ i. nack_item indication fast k i x) o) x).items (unwrap_or (option_map (λ i. nack_item indication fast k i x) o) x).emitted.given_up
       go None e = h
       go (Some i) e = emitted_nack_item k i x e h
 
-    pub losses_emit_event_once : (n : ℕ) (x : Step (List ℕ)) → RecordedOnce before x.items x.emitted.given_up → RecordedOnce before (nack_below at_once fast n x).items (nack_below at_once fast n x).emitted.given_up
+    pub losses_emit_event_once : (n : ℕ) (x : Step (List ℕ)) → RecordedOnce before x.items x.emitted.given_up → RecordedOnce before (nack_below indication fast n x).items (nack_below indication fast n x).emitted.given_up
     losses_emit_event_once zero x h = h
-    losses_emit_event_once (suc n) x h = emitted_nack_at n (nack_below at_once fast n x) (losses_emit_event_once n x h)
+    losses_emit_event_once (suc n) x h = emitted_nack_at n (nack_below indication fast n x) (losses_emit_event_once n x h)
 
   -- ---- lifetimes
 
@@ -272,15 +273,15 @@ module _ (before : List GivenUp) where
 
   -- ---- SACKs
 
-  pub sacks_emit_event_once : (cumulative : ℕ) (blocks : List GapAckBlock) (is_in_fast_recovery : Bool) (s : Items) (emitted : Emitted (List ℕ)) → RecordedOnce before s emitted.given_up
-      → RecordedOnce before (receive_sack cumulative blocks is_in_fast_recovery s emitted).items (receive_sack cumulative blocks is_in_fast_recovery s emitted).emitted.given_up
-  sacks_emit_event_once cumulative blocks is_in_fast_recovery s emitted h =
+  pub sacks_emit_event_once : (cumulative : ℕ) (blocks : List GapAckBlock) (once_a_flight is_in_fast_recovery : Bool) (s : Items) (emitted : Emitted (List ℕ)) → RecordedOnce before s emitted.given_up
+      → RecordedOnce before (receive_sack cumulative blocks once_a_flight is_in_fast_recovery s emitted).items (receive_sack cumulative blocks once_a_flight is_in_fast_recovery s emitted).emitted.given_up
+  sacks_emit_event_once cumulative blocks once_a_flight is_in_fast_recovery s emitted h =
       let left = staying cumulative s in
       let x : Step (List ℕ) = receive_sack_first cumulative blocks s emitted in
       let gs = before ++ emitted.given_up in
       let a : RecordedOnce before x.items x.emitted.given_up =
       record { once = h.once; exact = emitted_settled gs blocks 1 left.kept (emitted_behind gs (leaving cumulative s) s.kept h.exact) } in
-      losses_emit_event_once false (not is_in_fast_recovery) (reported_below blocks left) x a
+      losses_emit_event_once (report_by once_a_flight cumulative blocks s) (not is_in_fast_recovery) (reported_below blocks left) x a
 
   -- ---- what is sent, again and for the first time
 
@@ -318,13 +319,13 @@ new_is_emitted_once is_partial is_interleaved = record { once = refl; exact = tt
 at_most : (a b : ℕ) → nat_le a b ≡ true → a ≤ b
 at_most a b e = grind (arith, nat_tests)
 
-pub counts_are_emitted : (at_once fast : Bool) (k : ℕ) (i : Item) (x : Step (List ℕ)) → slice_get x.items.kept k ≡ Some i → RecordsRetransmissions at_once fast k i x
-counts_are_emitted at_once fast k i x there =
-    let here : (nack_at at_once fast k x).emitted ≡ (nack_item at_once fast k i x).emitted = ap (λ (o : Option Item). (unwrap_or (option_map (λ j. nack_item at_once fast k j x) o) x).emitted) there in
+pub counts_are_emitted : (indication : MissIndication) (fast : Bool) (k : ℕ) (i : Item) (x : Step (List ℕ)) → slice_get x.items.kept k ≡ Some i → RecordsRetransmissions indication fast k i x
+counts_are_emitted indication fast k i x there =
+    let here : (nack_at indication fast k x).emitted ≡ (nack_item indication fast k i x).emitted = ap (λ (o : Option Item). (unwrap_or (option_map (λ j. nack_item indication fast k j x) o) x).emitted) there in
     record {
-      made = λ e. here ∙ ap (λ b. (if b then abandon_with_record i.number (Retransmissions (i.sent - 1)) x else record x { items = change_items k (nack at_once fast) x.items; is_lossy = x.is_lossy || loses at_once i }).emitted) e;
-      used_up = λ e. at_most i.limit (i.sent - 1) (second x.items.is_partial (is_used_up i) (second (loses at_once i) (x.items.is_partial && is_used_up i) e));
-      else = λ e. here ∙ ap (λ b. (if b then abandon_with_record i.number (Retransmissions (i.sent - 1)) x else record x { items = change_items k (nack at_once fast) x.items; is_lossy = x.is_lossy || loses at_once i }).emitted) e;
+      made = λ e. here ∙ ap (λ b. (if b then abandon_with_record i.number (Retransmissions (i.sent - 1)) x else record x { items = change_items k (nack indication fast) x.items; is_lossy = x.is_lossy || loses indication i }).emitted) e;
+      used_up = λ e. at_most i.limit (i.sent - 1) (second x.items.is_partial (is_used_up i) (second (loses indication i) (x.items.is_partial && is_used_up i) e));
+      else = λ e. here ∙ ap (λ b. (if b then abandon_with_record i.number (Retransmissions (i.sent - 1)) x else record x { items = change_items k (nack indication fast) x.items; is_lossy = x.is_lossy || loses indication i }).emitted) e;
     }
 
 pub lifetimes_are_emitted : (now k : ℕ) (i : Item) (x : Step (List ℕ)) → slice_get x.items.kept k ≡ Some i → RecordsLifetime now k i x

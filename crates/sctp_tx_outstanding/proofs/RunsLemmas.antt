@@ -242,7 +242,7 @@ same_pushed (x ∷ is) i (suc p) e (suc k) other = same_pushed is i p (omega (ar
 for_good : (x : Change) (i : Item) → i.state ≡ GivenUp → is_abandoned (apply_change x i) ≡ true
 for_good changes.Ack i e = ap (λ s. is_given_up (acked s)) e
 for_good changes.Uncover i e = ap (λ s. is_given_up (uncovered s)) e
-for_good (changes.Nack at_once fast) i e = ap (λ s. is_given_up (cond (is_in_flight s) (nack_state (is_lost at_once i) fast) s)) e
+for_good (changes.Nack indication fast) i e = ap (λ s. is_given_up (cond (is_in_flight s) (nack_state (is_lost indication i) fast) s)) e
 for_good changes.Retransmit i e = ap (λ s. is_given_up (resent s)) e
 for_good changes.MissFast i e = ap (λ s. is_given_up (demote_fast s)) e
 for_good changes.Abandon i e = refl

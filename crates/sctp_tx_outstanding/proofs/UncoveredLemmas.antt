@@ -7,6 +7,7 @@ use Rattle.sctp_chunk.specs.declared.sack.GapAckBlock.{GapAckBlock}
 use Rattle.sctp_chunk.specs.Covered.{is_covered}
 use Rattle.sctp_state.specs.Events.{Emitted}
 use Rattle.sctp_state.specs.declared.api.GivenUpCause.TheVariants.{Retransmissions}
+use Rattle.sctp_tx_outstanding.specs.declared.item.MissIndication.{MissIndication}
 use Rattle.sctp_tx_outstanding.specs.declared.kept.Change.TheVariants as changes
 use Rattle.sctp_tx_outstanding.specs.Item.{Item, ack, nack}
 use Rattle.sctp_tx_outstanding.specs.OutstandingData.{Items, Outstanding, last_of}
@@ -66,47 +67,47 @@ rest_placed : (bs : List GapAckBlock) (number offset : ℕ) (o : Option Fragment
 rest_placed bs number offset None = tt
 rest_placed bs number offset (Some f) = rest_one bs offset f.is_end (placeholder number f) (λ c. rests_placed c number f)
 
-module _ {P : Type 0} (fast : Bool) (bs : List GapAckBlock) where
+module _ {P : Type 0} (indication : MissIndication) (fast : Bool) (bs : List GapAckBlock) where
   rest_cond : (b : Bool) (y z : Step P) → Rest bs 1 y.items.kept → Rest bs 1 z.items.kept → Rest bs 1 (cond b y z).items.kept
   rest_cond true y z h k = h
   rest_cond false y z h k = k
 
-  rest_item : (k : ℕ) (x : Step P) (i : Item) → Rest bs 1 x.items.kept → Rest bs 1 (nack_item false fast k i x).items.kept
+  rest_item : (k : ℕ) (x : Step P) (i : Item) → Rest bs 1 x.items.kept → Rest bs 1 (nack_item indication fast k i x).items.kept
   rest_item k x i h =
       let more = placeholders i.number (last_of i.number x.items.kept) in
-      rest_cond (is_to_be_abandoned x.items.is_partial false i) (abandon_with_record i.number (Retransmissions (i.sent - 1)) x)
-      (record x { items = change_items k (nack false fast) x.items; is_lossy = x.is_lossy || loses false i })
+      rest_cond (is_to_be_abandoned x.items.is_partial indication i) (abandon_with_record i.number (Retransmissions (i.sent - 1)) x)
+      (record x { items = change_items k (nack indication fast) x.items; is_lossy = x.is_lossy || loses indication i })
       (rest_laid bs 1 i.number (x.items.kept ++ more) (rest_behind bs 1 x.items.kept more (λ o. rest_placed bs i.number o (last_of i.number x.items.kept)) h))
-      (rest_changed bs (changes.Nack false fast) 1 k x.items.kept refl h)
+      (rest_changed bs (changes.Nack indication fast) 1 k x.items.kept refl h)
 
-  rest_option : (k : ℕ) (x : Step P) (o : Option Item) → Rest bs 1 x.items.kept → Rest bs 1 (unwrap_or (option_map (λ i. nack_item false fast k i x) o) x).items.kept
+  rest_option : (k : ℕ) (x : Step P) (o : Option Item) → Rest bs 1 x.items.kept → Rest bs 1 (unwrap_or (option_map (λ i. nack_item indication fast k i x) o) x).items.kept
   rest_option k x None h = h
   rest_option k x (Some i) h = rest_item k x i h
 
-  pub rest_at : (k : ℕ) (x : Step P) → Rest bs 1 x.items.kept → Rest bs 1 (nack_at false fast k x).items.kept
+  pub rest_at : (k : ℕ) (x : Step P) → Rest bs 1 x.items.kept → Rest bs 1 (nack_at indication fast k x).items.kept
   rest_at k x h = rest_option k x (slice_get x.items.kept k) h
 
   -- one report more
-  pub rest_next : (k : ℕ) (x : Step P) → Rest bs 1 (nack_below false fast k x).items.kept → Rest bs 1 (nack_below false fast (k + 1) x).items.kept
+  pub rest_next : (k : ℕ) (x : Step P) → Rest bs 1 (nack_below indication fast k x).items.kept → Rest bs 1 (nack_below indication fast (k + 1) x).items.kept
   rest_next k x h =
       let one : suc k ≡ k + 1 = omega arith in
-      subst (λ n. Rest bs 1 (nack_below false fast n x).items.kept) one (rest_at k (nack_below false fast k x) h)
+      subst (λ n. Rest bs 1 (nack_below indication fast n x).items.kept) one (rest_at k (nack_below indication fast k x) h)
 
 -- ---- the walk goes on behind items that aren't outstanding
 
-module _ {P : Type 0} (fast : Bool) (bs : List GapAckBlock) (s : Items) (emitted : Emitted P) (place next : ℕ) (le : place ≤ next)
-    (rest : Rest bs 1 (nack_below false fast place (first_step s emitted)).items.kept) (none : NoneFlies place next (nack_below false fast place (first_step s emitted)).items.kept) where
-  same : nack_below false fast next (first_step s emitted) ≡ nack_below false fast place (first_step s emitted)
-  same = passed false fast (first_step s emitted) place next le none
+module _ {P : Type 0} (indication : MissIndication) (fast : Bool) (bs : List GapAckBlock) (s : Items) (emitted : Emitted P) (place next : ℕ) (le : place ≤ next)
+    (rest : Rest bs 1 (nack_below indication fast place (first_step s emitted)).items.kept) (none : NoneFlies place next (nack_below indication fast place (first_step s emitted)).items.kept) where
+  same : nack_below indication fast next (first_step s emitted) ≡ nack_below indication fast place (first_step s emitted)
+  same = passed indication fast (first_step s emitted) place next le none
 
-  pub passed_items : (d now : Outstanding) → now ≡ record d { items = (nack_below false fast place (first_step s emitted)).items } → now ≡ record d { items = (nack_below false fast next (first_step s emitted)).items }
+  pub passed_items : (d now : Outstanding) → now ≡ record d { items = (nack_below indication fast place (first_step s emitted)).items } → now ≡ record d { items = (nack_below indication fast next (first_step s emitted)).items }
   passed_items d now is_now = is_now ∙ ap (λ (y : Step P). record d { items = y.items }) (sym same)
 
-  pub passed_emitted : (now : Emitted P) → now ≡ (nack_below false fast place (first_step s emitted)).emitted → now ≡ (nack_below false fast next (first_step s emitted)).emitted
+  pub passed_emitted : (now : Emitted P) → now ≡ (nack_below indication fast place (first_step s emitted)).emitted → now ≡ (nack_below indication fast next (first_step s emitted)).emitted
   passed_emitted now is_now = is_now ∙ ap (λ (y : Step P). y.emitted) (sym same)
 
-  pub passed_lossy : (now : Bool) → now ≡ (nack_below false fast place (first_step s emitted)).is_lossy → now ≡ (nack_below false fast next (first_step s emitted)).is_lossy
+  pub passed_lossy : (now : Bool) → now ≡ (nack_below indication fast place (first_step s emitted)).is_lossy → now ≡ (nack_below indication fast next (first_step s emitted)).is_lossy
   passed_lossy now is_now = is_now ∙ ap (λ (y : Step P). y.is_lossy) (sym same)
 
-  pub passed_rest : Rest bs 1 (nack_below false fast (next + 1) (first_step s emitted)).items.kept
-  passed_rest = rest_next fast bs next (first_step s emitted) (subst (λ (y : Step P). Rest bs 1 y.items.kept) (sym same) rest)
+  pub passed_rest : Rest bs 1 (nack_below indication fast (next + 1) (first_step s emitted)).items.kept
+  passed_rest = rest_next indication fast bs next (first_step s emitted) (subst (λ (y : Step P). Rest bs 1 y.items.kept) (sym same) rest)

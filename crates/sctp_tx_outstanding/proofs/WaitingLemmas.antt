@@ -14,7 +14,7 @@ false_from_none false h = refl
 pub same_fragment : (x : Change) (i : Item) → (apply_change x i).fragment ≡ i.fragment
 same_fragment changes.Ack i = refl
 same_fragment changes.Uncover i = refl
-same_fragment (changes.Nack at_once fast) i = refl
+same_fragment (changes.Nack indication fast) i = refl
 same_fragment changes.Retransmit i = refl
 same_fragment changes.MissFast i = refl
 same_fragment changes.Abandon i = refl

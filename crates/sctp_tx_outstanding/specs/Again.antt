@@ -21,6 +21,7 @@ item_again now i = record i {
   state = demote_fast i.state;
   sent = min (i.sent - 1) 65535 + 1;
   reports = reports_in (demote_fast i.state);
+  counts_from = 0;
   sent_at = sent_again now i.sent_at;
 }
 

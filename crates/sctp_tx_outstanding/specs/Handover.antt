@@ -80,6 +80,7 @@ item_from now r = record {
   state = state_from r;
   sent = r.retransmission_count + 1;
   reports = reports_in (state_from r);
+  counts_from = 0;
   sent_at = moment_before now r.time_since_sent_ms;
 }
 

@@ -1,6 +1,8 @@
 -- A fragment that has its TSN, until the peer's cumulative TSN passes it.
 use Rattle.std.specs.Prelude.{◌≡◌, ◌<◌, ◌^◌, ℕ, suc, ◌+◌, ◌-◌, ◌*◌, ◌/◌, ◌==◌, ◌&&◌, ◌||◌, nat_lt, nat_le, min, Bool, true, false, if◌then◌else◌, Option, Some, None, List, [], ◌∷◌, length}
 use Rattle.sctp_chunk.specs.Chunk.{FragmentTree}
+use Rattle.sctp_tx_outstanding.specs.declared.item.MissIndication.{MissIndication}
+use Rattle.sctp_tx_outstanding.specs.declared.item.MissIndication.TheVariants.{Timeout, Report, ReportOnce}
 use Rattle.sctp_tx_outstanding.specs.declared.item.ItemState.{ItemState}
 use Rattle.sctp_tx_outstanding.specs.declared.item.ItemState.TheVariants.{InFlight, Missing, Queued, QueuedFast, Acked, GivenUp}
 
@@ -13,6 +15,7 @@ pub record Item : Type 0 where
   pub state : ItemState
   pub sent : ℕ  -- how often it was handed out to be sent
   pub reports : ℕ  -- that it is missing, since it was sent
+  pub counts_from : ℕ  -- the first number whose acknowledgement reports it missing, where it was lost before
   pub sent_at : ℕ  -- the first time
 
 -- ---- what it is
@@ -165,9 +168,28 @@ uncovered GivenUp = GivenUp
 abbrev pub uncover : Item → Item
 uncover i = record i { state = uncovered i.state }
 
--- the third missing report says that it is lost
-abbrev pub is_lost : (at_once : Bool) → Item → Bool
-is_lost at_once i = at_once || nat_le 2 i.reports
+-- Whether an indication counts. With stalls avoided an item is lost once a flight: a report counts anew where it is made by the acknowledgement of
+-- a fragment that was first sent behind the loss (RFC 9260 section 7.2.4 step 5).
+abbrev pub counts : MissIndication → Item → Bool
+counts Timeout i = true
+counts Report i = true
+counts (ReportOnce newest next) i = nat_le i.counts_from newest
+
+-- the third missing report says that it is lost, a timeout at once
+abbrev pub is_lost : MissIndication → Item → Bool
+is_lost Timeout i = true
+is_lost Report i = nat_le 2 i.reports
+is_lost (ReportOnce newest next) i = nat_le i.counts_from newest && nat_le 2 i.reports
+
+-- the reports of one that isn't lost
+abbrev pub reported : MissIndication → Item → ℕ
+reported indication i = if counts indication i then suc i.reports else i.reports
+
+-- from which number on reports count of one that is lost now
+abbrev pub counts_again : MissIndication → Item → ℕ
+counts_again Timeout i = i.counts_from
+counts_again Report i = i.counts_from
+counts_again (ReportOnce newest next) i = next
 
 abbrev pub nack_state : (is_lost fast : Bool) → ItemState
 nack_state true true = QueuedFast
@@ -175,10 +197,11 @@ nack_state true false = Queued
 nack_state false fast = Missing
 
 -- it is missing, by a report or a timeout. What is lost is to be sent again
-abbrev pub nack : (at_once fast : Bool) → Item → Item
-nack at_once fast i = record i {
-  state = if is_in_flight i.state then nack_state (is_lost at_once i) fast else i.state;
-  reports = if is_in_flight i.state then (if is_lost at_once i then 0 else suc i.reports) else i.reports;
+abbrev pub nack : (indication : MissIndication) (fast : Bool) → Item → Item
+nack indication fast i = record i {
+  state = if is_in_flight i.state then nack_state (is_lost indication i) fast else i.state;
+  reports = if is_in_flight i.state then (if is_lost indication i then 0 else reported indication i) else i.reports;
+  counts_from = if is_in_flight i.state && is_lost indication i then counts_again indication i else i.counts_from;
 }
 
 abbrev pub resent : ItemState → ItemState

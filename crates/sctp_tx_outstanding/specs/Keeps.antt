@@ -4,6 +4,7 @@ use Rattle.std.specs.Prelude.{◌≡◌, ℕ, ◌||◌, not, Bool, true, List, [
 use Rattle.std.specs.List.{list_all}
 use Rattle.sctp_chunk.specs.declared.sack.GapAckBlock.{GapAckBlock}
 use Rattle.sctp_state.specs.Events.{Emitted}
+use Rattle.sctp_tx_outstanding.specs.declared.item.MissIndication.{MissIndication}
 use Rattle.sctp_tx_outstanding.specs.Item.{Item, is_of, is_abandoned}
 use Rattle.sctp_tx_outstanding.specs.OutstandingData.{Items, append_item}
 use Rattle.sctp_tx_outstanding.specs.Losses.{Step, abandon_message, nack_below, expire_below}
@@ -28,7 +29,7 @@ pub record Keeps (s after : Items) : Type 0 where
 
 -- missing reports and timeouts, also where memory ran out in between
 abbrev pub LossesKeep : Type 0
-LossesKeep = (at_once fast : Bool) (count : ℕ) (x : Step (List ℕ)) → Keeps x.items (nack_below at_once fast count x).items
+LossesKeep = (indication : MissIndication) (fast : Bool) (count : ℕ) (x : Step (List ℕ)) → Keeps x.items (nack_below indication fast count x).items
 
 abbrev pub LifetimesKeep : Type 0
 LifetimesKeep = (now count : ℕ) (x : Step (List ℕ)) → Keeps x.items (expire_below now count x).items
@@ -41,8 +42,8 @@ NewItemsKeep = (i : Item) (s : Items) → Keeps s (append_item i s)
 
 -- a SACK lets the items up to its cumulative TSN leave, and no other
 abbrev pub SacksKeep : Type 0
-SacksKeep = (cumulative : ℕ) (blocks : List GapAckBlock) (is_in_fast_recovery : Bool) (s : Items) (emitted : Emitted (List ℕ))
-    → Keeps (staying cumulative s) (receive_sack cumulative blocks is_in_fast_recovery s emitted).items
+SacksKeep = (cumulative : ℕ) (blocks : List GapAckBlock) (once_a_flight is_in_fast_recovery : Bool) (s : Items) (emitted : Emitted (List ℕ))
+    → Keeps (staying cumulative s) (receive_sack cumulative blocks once_a_flight is_in_fast_recovery s emitted).items
 
 -- a fragment of this message is given up
 abbrev pub is_given_up_in : ℕ → Item → Bool

@@ -4,6 +4,8 @@ use Rattle.sctp_chunk.specs.Chunk.{FragmentTree}
 use Rattle.sctp_state.specs.Events.{Emitted, emit_given_up}
 use Rattle.sctp_state.specs.declared.api.GivenUpCause.{GivenUpCause}
 use Rattle.sctp_state.specs.declared.api.GivenUpCause.TheVariants.{Lifetime, Retransmissions}
+use Rattle.sctp_tx_outstanding.specs.declared.item.MissIndication.{MissIndication}
+use Rattle.sctp_tx_outstanding.specs.declared.item.MissIndication.TheVariants.{Timeout}
 use Rattle.sctp_tx_outstanding.specs.declared.item.ItemState.TheVariants.{GivenUp}
 use Rattle.sctp_tx_outstanding.specs.declared.outstanding_data.Loss.{Loss}
 use Rattle.sctp_tx_outstanding.specs.Item.{Item, is_outstanding, is_lost, is_used_up, is_nacked, has_expired, nack}
@@ -22,6 +24,7 @@ placeholder number f = record {
   state = GivenUp;
   sent = 0;
   reports = 0;
+  counts_from = 0;
   sent_at = 0;
 }
 
@@ -59,37 +62,37 @@ abbrev pub change_items : ℕ → (Item → Item) → Items → Items
 change_items k f s = record s { kept = change_at k f s.kept }
 
 -- the item is found to be lost
-abbrev pub loses : (at_once : Bool) → Item → Bool
-loses at_once i = is_outstanding i && is_lost at_once i
+abbrev pub loses : (indication : MissIndication) → Item → Bool
+loses indication i = is_outstanding i && is_lost indication i
 
 -- and it was sent again as often as it may be
-abbrev pub is_to_be_abandoned : (is_partial at_once : Bool) → Item → Bool
-is_to_be_abandoned is_partial at_once i = loses at_once i && (is_partial && is_used_up i)
+abbrev pub is_to_be_abandoned : (is_partial : Bool) (indication : MissIndication) → Item → Bool
+is_to_be_abandoned is_partial indication i = loses indication i && (is_partial && is_used_up i)
 
 -- what a missing report, or a timeout, finds of an item
-abbrev pub loss_of : (is_partial at_once : Bool) → Item → Loss
-loss_of is_partial at_once i = record { is_lost = loses at_once i; gives_up = is_to_be_abandoned is_partial at_once i; message_id = record { 0 = i.number }; resendings = i.sent - 1 }
+abbrev pub loss_of : (is_partial : Bool) (indication : MissIndication) → Item → Loss
+loss_of is_partial indication i = record { is_lost = loses indication i; gives_up = is_to_be_abandoned is_partial indication i; message_id = record { 0 = i.number }; resendings = i.sent - 1 }
 
 -- the item at place k is missing, by a report or, at once, by a timeout: it is to be sent again, or its message given up
-abbrev pub nack_item : {P : Type 0} → (at_once fast : Bool) → ℕ → Item → Step P → Step P
-nack_item at_once fast k i x =
-    if is_to_be_abandoned x.items.is_partial at_once i then abandon_with_record i.number (Retransmissions (i.sent - 1)) x
-    else record x { items = change_items k (nack at_once fast) x.items; is_lossy = x.is_lossy || loses at_once i }
+abbrev pub nack_item : {P : Type 0} → (indication : MissIndication) (fast : Bool) → ℕ → Item → Step P → Step P
+nack_item indication fast k i x =
+    if is_to_be_abandoned x.items.is_partial indication i then abandon_with_record i.number (Retransmissions (i.sent - 1)) x
+    else record x { items = change_items k (nack indication fast) x.items; is_lossy = x.is_lossy || loses indication i }
 
-abbrev pub nack_at : {P : Type 0} → (at_once fast : Bool) → ℕ → Step P → Step P
-nack_at at_once fast k x = unwrap_or (option_map (λ i. nack_item at_once fast k i x) (slice_get x.items.kept k)) x
+abbrev pub nack_at : {P : Type 0} → (indication : MissIndication) (fast : Bool) → ℕ → Step P → Step P
+nack_at indication fast k x = unwrap_or (option_map (λ i. nack_item indication fast k i x) (slice_get x.items.kept k)) x
 
 -- the items at the places below n are missing, in ascending order
-abbrev pub nack_below : {P : Type 0} → (at_once fast : Bool) → ℕ → Step P → Step P
-nack_below at_once fast zero x = x
-nack_below at_once fast (suc n) x = nack_at at_once fast n (nack_below at_once fast n x)
+abbrev pub nack_below : {P : Type 0} → (indication : MissIndication) (fast : Bool) → ℕ → Step P → Step P
+nack_below indication fast zero x = x
+nack_below indication fast (suc n) x = nack_at indication fast n (nack_below indication fast n x)
 
 abbrev pub first_step : {P : Type 0} → Items → Emitted P → Step P
 first_step s emitted = record { items = s; emitted = emitted; is_lossy = false }
 
 -- a timeout: all that is in flight or missing is lost
 abbrev pub nack_all : {P : Type 0} → Items → Emitted P → Step P
-nack_all s emitted = nack_below true false (length s.kept) (first_step s emitted)
+nack_all s emitted = nack_below Timeout false (length s.kept) (first_step s emitted)
 
 -- ---- lifetimes
 

@@ -140,6 +140,7 @@ first_sent number fragment now limit expires lifecycle = record {
   state = InFlight;
   sent = 1;
   reports = 0;
+  counts_from = 0;
   sent_at = now;
 }
 

@@ -5,6 +5,7 @@ use Rattle.std.specs.List.{AllByRecursion}
 use Rattle.sctp_chunk.specs.declared.sack.GapAckBlock.{GapAckBlock}
 use Rattle.sctp_state.specs.Events.{GivenUp, Emitted, emit_given_up}
 use Rattle.sctp_state.specs.declared.api.GivenUpCause.TheVariants.{Lifetime, Retransmissions}
+use Rattle.sctp_tx_outstanding.specs.declared.item.MissIndication.{MissIndication}
 use Rattle.sctp_tx_outstanding.specs.Item.{Item, is_abandoned, has_expired}
 use Rattle.sctp_tx_outstanding.specs.OutstandingData.{Items, no_items, append_item}
 use Rattle.sctp_tx_outstanding.specs.Losses.{Step, is_to_be_abandoned, expires, nack_at, nack_below, expire_at, expire_below}
@@ -41,15 +42,15 @@ NewItemsRecordOnce = (taken records : List GivenUp) (i : Item) (s : Items) → i
 
 -- missing reports and timeouts, also where memory ran out in between
 abbrev pub LossesRecordOnce : Type 0
-LossesRecordOnce = (taken : List GivenUp) (at_once fast : Bool) (count : ℕ) (x : Step (List ℕ)) → RecordedOnce taken x.items x.emitted.given_up → RecordedOnce taken (nack_below at_once fast count x).items (nack_below at_once fast count x).emitted.given_up
+LossesRecordOnce = (taken : List GivenUp) (indication : MissIndication) (fast : Bool) (count : ℕ) (x : Step (List ℕ)) → RecordedOnce taken x.items x.emitted.given_up → RecordedOnce taken (nack_below indication fast count x).items (nack_below indication fast count x).emitted.given_up
 
 abbrev pub LifetimesRecordOnce : Type 0
 LifetimesRecordOnce = (taken : List GivenUp) (now count : ℕ) (x : Step (List ℕ)) → RecordedOnce taken x.items x.emitted.given_up → RecordedOnce taken (expire_below now count x).items (expire_below now count x).emitted.given_up
 
 abbrev pub SacksRecordOnce : Type 0
 SacksRecordOnce =
-    (taken : List GivenUp) (cumulative : ℕ) (blocks : List GapAckBlock) (is_in_fast_recovery : Bool) (s : Items) (emitted : Emitted (List ℕ)) → RecordedOnce taken s emitted.given_up
-    → RecordedOnce taken (receive_sack cumulative blocks is_in_fast_recovery s emitted).items (receive_sack cumulative blocks is_in_fast_recovery s emitted).emitted.given_up
+    (taken : List GivenUp) (cumulative : ℕ) (blocks : List GapAckBlock) (once_a_flight is_in_fast_recovery : Bool) (s : Items) (emitted : Emitted (List ℕ)) → RecordedOnce taken s emitted.given_up
+    → RecordedOnce taken (receive_sack cumulative blocks once_a_flight is_in_fast_recovery s emitted).items (receive_sack cumulative blocks once_a_flight is_in_fast_recovery s emitted).emitted.given_up
 
 abbrev pub ResendingRecordsOnce : Type 0
 ResendingRecordsOnce = (taken records : List GivenUp) (fast : Bool) (count : ℕ) (x : Resent) → RecordedOnce taken x.outstanding.items records → RecordedOnce taken (resent_below fast count x).outstanding.items records
@@ -60,13 +61,13 @@ TakingRecordsOnce = (taken records : List GivenUp) (g : GivenUp) (s : Items) →
 -- ---- where a record is made, and what it says
 
 -- of the item at a place, which is lost: its count is how often the item was sent again, and no less than its limit
-pub record RecordsRetransmissions (at_once fast : Bool) (k : ℕ) (i : Item) (x : Step (List ℕ)) : Type 0 where
-  pub made : is_to_be_abandoned x.items.is_partial at_once i ≡ true → (nack_at at_once fast k x).emitted ≡ emit_given_up i.number (Retransmissions (i.sent - 1)) x.emitted
-  pub used_up : is_to_be_abandoned x.items.is_partial at_once i ≡ true → i.limit ≤ i.sent - 1
-  pub else : is_to_be_abandoned x.items.is_partial at_once i ≡ false → (nack_at at_once fast k x).emitted ≡ x.emitted
+pub record RecordsRetransmissions (indication : MissIndication) (fast : Bool) (k : ℕ) (i : Item) (x : Step (List ℕ)) : Type 0 where
+  pub made : is_to_be_abandoned x.items.is_partial indication i ≡ true → (nack_at indication fast k x).emitted ≡ emit_given_up i.number (Retransmissions (i.sent - 1)) x.emitted
+  pub used_up : is_to_be_abandoned x.items.is_partial indication i ≡ true → i.limit ≤ i.sent - 1
+  pub else : is_to_be_abandoned x.items.is_partial indication i ≡ false → (nack_at indication fast k x).emitted ≡ x.emitted
 
 abbrev pub CountsAreRecorded : Type 0
-CountsAreRecorded = (at_once fast : Bool) (k : ℕ) (i : Item) (x : Step (List ℕ)) → slice_get x.items.kept k ≡ Some i → RecordsRetransmissions at_once fast k i x
+CountsAreRecorded = (indication : MissIndication) (fast : Bool) (k : ℕ) (i : Item) (x : Step (List ℕ)) → slice_get x.items.kept k ≡ Some i → RecordsRetransmissions indication fast k i x
 
 -- of one that is missing or lost, once its message expired
 pub record RecordsLifetime (now k : ℕ) (i : Item) (x : Step (List ℕ)) : Type 0 where

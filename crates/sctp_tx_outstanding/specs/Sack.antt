@@ -4,6 +4,8 @@ use Rattle.sctp_serial.specs.Unwrapped.{origin}
 use Rattle.sctp_state.specs.Events.{Event, OnLifecycleMessageMaybeExpired, OnLifecycleMessageDelivered, OnLifecycleEnd, Emitted, emit_events}
 use Rattle.sctp_chunk.specs.declared.sack.GapAckBlock.{GapAckBlock}
 use Rattle.sctp_chunk.specs.Covered.{is_covered}
+use Rattle.sctp_tx_outstanding.specs.declared.item.MissIndication.{MissIndication}
+use Rattle.sctp_tx_outstanding.specs.declared.item.MissIndication.TheVariants.{Report, ReportOnce}
 use Rattle.sctp_tx_outstanding.specs.Item.{Item, is_acked, is_open, is_abandoned, chunk_size, ack, uncover, rtt_from}
 use Rattle.sctp_tx_outstanding.specs.OutstandingData.{Items, when, next_number}
 use Rattle.sctp_tx_outstanding.specs.Losses.{Step, first_step, nack_below}
@@ -118,10 +120,17 @@ open_size m (Some i) = if is_open i then Some (chunk_size m i) else None
 abbrev pub receive_sack_first : {P : Type 0} → (cumulative : ℕ) → List GapAckBlock → Items → Emitted P → Step P
 receive_sack_first cumulative blocks s emitted = first_step (acked_by blocks (staying cumulative s)) (emit_events (all_leaving_events (take (leaving cumulative s) s.kept)) emitted)
 
+-- a report by the highest number newly acknowledged, where an item may be lost once a flight
+abbrev pub report : (once_a_flight : Bool) → (newest next : ℕ) → MissIndication
+report once_a_flight newest next = if once_a_flight then ReportOnce newest next else Report
+
+abbrev pub report_by : (once_a_flight : Bool) → (cumulative : ℕ) → List GapAckBlock → Items → MissIndication
+report_by once_a_flight cumulative blocks s = report once_a_flight (cumulative + 1 + reported_below blocks (staying cumulative s)) (next_number s)
+
 -- and after the missing reports: items below the highest one newly acknowledged get one
-abbrev pub receive_sack : {P : Type 0} → (cumulative : ℕ) → List GapAckBlock → (is_in_fast_recovery : Bool) → Items → Emitted P → Step P
-receive_sack cumulative blocks is_in_fast_recovery s emitted =
-    nack_below false (not is_in_fast_recovery) (reported_below blocks (staying cumulative s)) (receive_sack_first cumulative blocks s emitted)
+abbrev pub receive_sack : {P : Type 0} → (cumulative : ℕ) → List GapAckBlock → (once_a_flight is_in_fast_recovery : Bool) → Items → Emitted P → Step P
+receive_sack cumulative blocks once_a_flight is_in_fast_recovery s emitted =
+    nack_below (report_by once_a_flight cumulative blocks s) (not is_in_fast_recovery) (reported_below blocks (staying cumulative s)) (receive_sack_first cumulative blocks s emitted)
 
 -- the bytes newly acknowledged
 abbrev pub acked_bytes : (cumulative : ℕ) → List GapAckBlock → Items → ℕ

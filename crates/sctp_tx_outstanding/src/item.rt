@@ -34,6 +34,18 @@ pub enum ItemState {
     GivenUp,
 }
 
+/// What says that items are missing.
+#[derive(Clone, Copy)]
+pub enum MissIndication {
+    /// The expiry of T3-rtx (RFC 9260 section 6.3.3).
+    Timeout,
+    /// A SACK (section 7.2.4).
+    Report,
+    /// A SACK whose highest number newly acknowledged is `newest`, where an item is lost once a flight: of one that was lost
+    /// a report counts if `newest` was first sent behind that. `next` is the number that the next fragment takes.
+    ReportOnce { newest: u128, next: u128 },
+}
+
 impl ItemState {
     fn acked(self) -> ItemState
         ensures { result ≡ acked self }
@@ -79,6 +91,7 @@ pub struct Item {
     sendings: u32,
     reports: u32,
     expires_at: Option<SocketTime>,
+    counts_from: u128,
     sent_at: SocketTime,
 }
 
@@ -89,14 +102,14 @@ impl Model for Item {
 
     ghost Value = { Item };
 
-    ghost view = { λ i. record { number = i.message_id.0; fragment = fragment_tree i.«data»; expires = i.expires_at; limit = i.max_retransmissions; lifecycle = i.lifecycle_id; state = i.state; sent = i.sendings; reports = i.reports; sent_at = i.sent_at } };
+    ghost view = { λ i. record { number = i.message_id.0; fragment = fragment_tree i.«data»; expires = i.expires_at; limit = i.max_retransmissions; lifecycle = i.lifecycle_id; state = i.state; sent = i.sendings; reports = i.reports; counts_from = i.counts_from; sent_at = i.sent_at } };
 
     ghost invariant = { λ i. (length i.«data».payload.items < 2 ^ 32) × ((i.sendings ≤ 65536) × (i.reports ≤ 2)) };
 }
 
 impl Item {
     ghost use Rattle.std.specs.Prelude.{Option, true};
-    ghost use Rattle.sctp_tx_outstanding.specs.Item.{is_outstanding, is_open, should_be_retransmitted, is_fast, is_nacked, is_acked, is_abandoned, has_been_retransmitted, has_expired, expiry, or_never, is_used_up, ack, uncover, is_lost, nack, mark_as_retransmitted, miss_fast, abandon, rtt_from};
+    ghost use Rattle.sctp_tx_outstanding.specs.Item.{is_outstanding, is_open, should_be_retransmitted, is_fast, is_nacked, is_acked, is_abandoned, has_been_retransmitted, has_expired, expiry, or_never, is_used_up, ack, uncover, is_lost, reported, counts_again, nack, mark_as_retransmitted, miss_fast, abandon, rtt_from};
 
     /// A fragment that is sent now for the first time.
     pub fn new(
@@ -119,6 +132,7 @@ impl Item {
             state: ItemState::InFlight,
             sendings: 1,
             reports: 0,
+            counts_from: 0,
             sent_at: now,
         }
     }
@@ -135,6 +149,7 @@ impl Item {
           state = ItemState.GivenUp;
           sent = 0;
           reports = 0;
+          counts_from = 0;
           sent_at = 0;
         } }
     {
@@ -147,6 +162,7 @@ impl Item {
             state: ItemState::GivenUp,
             sendings: 0,
             reports: 0,
+            counts_from: 0,
             sent_at: SocketTime::zero(),
         }
     }
@@ -330,24 +346,59 @@ impl Item {
         }
     }
 
-    /// Whether it is lost by one more report, or at once.
-    pub fn is_lost(&self, at_once: bool) -> bool
-        ensures { result ≡ is_lost at_once self.now }
+    /// Whether it is lost by this.
+    pub fn is_lost(&self, indication: MissIndication) -> bool
+        ensures { result ≡ is_lost indication self.now }
     {
-        at_once || self.reports >= 2
+        match indication {
+            MissIndication::Timeout => true,
+            MissIndication::Report => self.reports >= 2,
+            MissIndication::ReportOnce { newest, .. } => {
+                self.counts_from <= newest && self.reports >= 2
+            }
+        }
     }
 
-    /// It is missing, by a report of the peer or, `at_once`, by a timeout. By the third report it is lost, and is to be
-    /// sent again, or `fast`. What is not in flight or missing stays as it is.
-    pub fn nack(&mut self, at_once: bool, fast: bool)
-        ensures { self.new ≡ nack at_once fast self.old }
+    /// The reports of one that isn't lost by this.
+    fn reported(&self, indication: MissIndication) -> u32
+        requires { is_lost indication self.now ≡ false }
+        ensures reports { result ≡ reported indication self.now }
+        ensures few { result ≤ 2 }
+    {
+        if let MissIndication::ReportOnce { newest, .. } = indication
+            && newest < self.counts_from
+        {
+            return self.reports;
+        }
+        self.reports + 1
+    }
+
+    /// From which number on reports count, where it is lost by this.
+    fn counts_again(&self, indication: MissIndication) -> u128
+        ensures { result ≡ counts_again indication self.now }
+    {
+        match indication {
+            MissIndication::ReportOnce { next, .. } => next,
+            _ => self.counts_from,
+        }
+    }
+
+    /// It is missing, by a report of the peer or by a timeout. By a timeout, or the third report that counts, it is lost, and is
+    /// to be sent again, or `fast`. What is not in flight or missing stays as it is.
+    pub fn nack(&mut self, indication: MissIndication, fast: bool)
+        ensures { self.new ≡ nack indication fast self.old }
     {
         if !self.is_outstanding() {
             return;
         }
-        let is_lost = self.is_lost(at_once);
+        let is_lost = self.is_lost(indication);
         self.state = ItemState::nacked(is_lost, fast);
-        self.reports = if is_lost { 0 } else { self.reports + 1 };
+        if is_lost {
+            self.reports = 0;
+            self.counts_from = self.counts_again(indication);
+        } else {
+            self.reports = self.reported(indication);
+        }
     }
 
     /// It is handed out to be sent once more.

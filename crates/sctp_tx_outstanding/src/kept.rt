@@ -24,7 +24,7 @@ mod handover;
 use crate::emitting::emit_left;
 use crate::expiries::{Due, Expiries};
 use crate::indexes::Indexes;
-use crate::item::{Item, padded_size};
+use crate::item::{Item, MissIndication, padded_size};
 use crate::last_blocks::LastBlocks;
 use crate::messages::Messages;
 use crate::passed::ForwardPoint;
@@ -44,8 +44,8 @@ pub enum Change {
     Ack,
     /// No block of the last SACK covers it.
     Uncover,
-    /// It is missing: whether it is lost at once, and whether it then waits for the fast packet.
-    Nack(bool, bool),
+    /// It is missing: by what, and whether it waits for the fast packet where it is lost.
+    Nack(MissIndication, bool),
     /// It is sent once more.
     Retransmit,
     /// The fast packet had no room for it.
@@ -259,7 +259,7 @@ fn apply(item: &mut Item, change: Change)
     match change {
         Change::Ack => item.ack(),
         Change::Uncover => item.uncover(),
-        Change::Nack(at_once, fast) => item.nack(at_once, fast),
+        Change::Nack(indication, fast) => item.nack(indication, fast),
         Change::Retransmit => item.mark_as_retransmitted(),
         Change::MissFast => item.miss_fast(),
         Change::Abandon => item.abandon(),

@@ -24,10 +24,10 @@ mod resending;
 
 use crate::breakpoints::Breakpoints;
 use crate::expiries::Due;
-use crate::item::Item;
+use crate::item::{Item, MissIndication};
 use crate::kept::{Change, Kept, abandon_all, placeholder};
 use crate::passed::ForwardPoint;
-use crate::sack::{AckInfo, highest_end, pass_idle, settle_all, take_out};
+use crate::sack::{AckInfo, highest_end, pass_idle, report, settle_all, take_out};
 use crate::skips::{mid_skips, pass, ssn_skips};
 use sctp_chunk::{
     Data, ForwardTsnChunk, GapAckBlock, IForwardTsnChunk, SackChunk, SpareBuffers, are_runs,
@@ -316,15 +316,15 @@ impl OutstandingData {
     }
 
     /// What a missing report, or a timeout, finds of the item at the place, if it is in flight or missing.
-    fn loss_at(&self, place: usize, at_once: bool) -> Option<Loss>
-        ensures loss { IfSome result (λ loss. Some loss ≡ option_map (loss_of self.now.items.is_partial at_once) (slice_get self.now.items.kept place)) }
+    fn loss_at(&self, place: usize, indication: MissIndication) -> Option<Loss>
+        ensures loss { IfSome result (λ loss. Some loss ≡ option_map (loss_of self.now.items.is_partial indication) (slice_get self.now.items.kept place)) }
         ensures none { IfNone result (flies_at place self.now.items.kept ≡ false) }
     {
         let item = self.kept.get(place)?;
         if !item.is_outstanding() {
             return None;
         }
-        let is_lost = item.is_lost(at_once);
+        let is_lost = item.is_lost(indication);
         let may_give_up = self.is_partial && item.is_used_up();
         Some(Loss {
             is_lost,
@@ -338,17 +338,17 @@ impl OutstandingData {
     fn nack_item(
         &mut self,
         place: usize,
-        at_once: bool,
+        indication: MissIndication,
         fast: bool,
         events: &mut Events,
     ) -> Result<bool, AllocError>
-        ensures items { OnOk result (self.new ≡ record self.old { items = (nack_at at_once fast place (first_step self.old.items events.old)).items }) }
-        ensures emitted { OnOk result (events.new ≡ (nack_at at_once fast place (first_step self.old.items events.old)).emitted) }
-        ensures lossy { IfOk result (λ is_lossy. is_lossy ≡ (nack_at at_once fast place (first_step self.old.items events.old)).is_lossy) }
+        ensures items { OnOk result (self.new ≡ record self.old { items = (nack_at indication fast place (first_step self.old.items events.old)).items }) }
+        ensures emitted { OnOk result (events.new ≡ (nack_at indication fast place (first_step self.old.items events.old)).emitted) }
+        ensures lossy { IfOk result (λ is_lossy. is_lossy ≡ (nack_at indication fast place (first_step self.old.items events.old)).is_lossy) }
         ensures err { OnErr result (self.new ≡ self.old) }
         ensures silent { OnErr result (events.new ≡ events.old) }
     {
-        let Some(loss) = self.loss_at(place, at_once) else {
+        let Some(loss) = self.loss_at(place, indication) else {
             return Ok(false);
         };
         if loss.gives_up {
@@ -356,7 +356,7 @@ impl OutstandingData {
             self.give_up(place, loss.message_id, cause, events)?;
             return Ok(true);
         }
-        self.kept.change(place, Change::Nack(at_once, fast));
+        self.kept.change(place, Change::Nack(indication, fast));
         Ok(loss.is_lost)
     }
 
@@ -364,18 +364,18 @@ impl OutstandingData {
     fn nack_below(
         &mut self,
         count: usize,
-        at_once: bool,
+        indication: MissIndication,
         fast: bool,
         events: &mut Events,
     ) -> Result<bool, AllocError>
-        ensures items { OnOk result (self.new ≡ record self.old { items = (nack_below at_once fast count (first_step self.old.items events.old)).items }) }
-        ensures emitted { OnOk result (events.new ≡ (nack_below at_once fast count (first_step self.old.items events.old)).emitted) }
-        ensures lossy { IfOk result (λ is_lossy. is_lossy ≡ (nack_below at_once fast count (first_step self.old.items events.old)).is_lossy) }
-        ensures err { OnErr result (SomeNacked at_once fast self.old events.old self.new events.new) }
+        ensures items { OnOk result (self.new ≡ record self.old { items = (nack_below indication fast count (first_step self.old.items events.old)).items }) }
+        ensures emitted { OnOk result (events.new ≡ (nack_below indication fast count (first_step self.old.items events.old)).emitted) }
+        ensures lossy { IfOk result (λ is_lossy. is_lossy ≡ (nack_below indication fast count (first_step self.old.items events.old)).is_lossy) }
+        ensures err { OnErr result (SomeNacked indication fast self.old events.old self.new events.new) }
     {
         let mut is_lossy = false;
         for place in 0..count {
-            let is_lost = self.nack_item(place, at_once, fast, events)?;
+            let is_lost = self.nack_item(place, indication, fast, events)?;
             is_lossy |= is_lost;
         }
         Ok(is_lossy)
@@ -387,14 +387,15 @@ impl OutstandingData {
         &mut self,
         count: usize,
         blocks: &[GapAckBlock],
+        indication: MissIndication,
         fast: bool,
         events: &mut Events,
     ) -> Result<bool, AllocError>
         requires { Rest blocks.now 1 self.old.items.kept }
-        ensures items { OnOk result (self.new ≡ record self.old { items = (nack_below false fast count (first_step self.old.items events.old)).items }) }
-        ensures emitted { OnOk result (events.new ≡ (nack_below false fast count (first_step self.old.items events.old)).emitted) }
-        ensures lossy { IfOk result (λ is_lossy. is_lossy ≡ (nack_below false fast count (first_step self.old.items events.old)).is_lossy) }
-        ensures err { OnErr result (SomeNacked false fast self.old events.old self.new events.new) }
+        ensures items { OnOk result (self.new ≡ record self.old { items = (nack_below indication fast count (first_step self.old.items events.old)).items }) }
+        ensures emitted { OnOk result (events.new ≡ (nack_below indication fast count (first_step self.old.items events.old)).emitted) }
+        ensures lossy { IfOk result (λ is_lossy. is_lossy ≡ (nack_below indication fast count (first_step self.old.items events.old)).is_lossy) }
+        ensures err { OnErr result (SomeNacked indication fast self.old events.old self.new events.new) }
     {
         let are_in_order = are_runs(0, blocks);
         let mut is_lossy = false;
@@ -414,7 +415,7 @@ impl OutstandingData {
             if count <= next {
                 return Ok(is_lossy);
             }
-            let is_lost = self.nack_item(next, false, fast, events)?;
+            let is_lost = self.nack_item(next, indication, fast, events)?;
             is_lossy |= is_lost;
             from = block;
             uncovered = end;
@@ -429,10 +430,10 @@ impl OutstandingData {
     pub fn nack_all(&mut self, events: &mut Events) -> Result<(), AllocError>
         ensures items { OnOk result (self.new ≡ record self.old { items = (nack_all self.old.items events.old).items }) }
         ensures emitted { OnOk result (events.new ≡ (nack_all self.old.items events.old).emitted) }
-        ensures err { OnErr result (SomeNacked true false self.old events.old self.new events.new) }
+        ensures err { OnErr result (SomeNacked MissIndication.Timeout false self.old events.old self.new events.new) }
     {
         let count = self.kept.len();
-        self.nack_below(count, true, false, events)?;
+        self.nack_below(count, MissIndication::Timeout, false, events)?;
         Ok(())
     }
 
@@ -582,7 +583,8 @@ impl OutstandingData {
     /// Takes a SACK, with blocks of any kind: items up to its cumulative TSN leave, in order, and an event says of each message
     /// with a lifecycle whose end leaves whether it was delivered; those in blocks are acknowledged, and those that no block covers any more
     /// are in flight again; each that is in flight or missing below the highest one newly acknowledged by a block is
-    /// reported missing, and is lost by the third report. Without memory nothing changes, or only some of the first of these
+    /// reported missing, and is lost by the third report. `once_a_flight` one that was lost gets reports anew by what was first
+    /// sent behind that. Without memory nothing changes, or only some of the first of these
     /// reports are done.
     ///
     /// Items of which the blocks say what the last SACK's said are passed over as they are settled. Blocks that stand in order, as in a
@@ -592,27 +594,37 @@ impl OutstandingData {
     pub fn handle_sack(
         &mut self,
         sack: &SackChunk,
+        once_a_flight: bool,
         is_in_fast_recovery: bool,
         spares: &mut SpareBuffers,
         events: &mut Events,
     ) -> Result<AckInfo, AllocError>
         requires valid { IsTrue (is_in_range (number_of self.old sack.now.cumulative_tsn_ack.0) self.old.items) }
         ensures items { let n = number_of self.old sack.now.cumulative_tsn_ack.0 in let blocks = sack.now.gap_ack_blocks.items in
-            OnOk result (self.new ≡ record self.old { items = (receive_sack n blocks is_in_fast_recovery self.old.items events.old).items }) }
+            OnOk result (self.new ≡ record self.old { items = (receive_sack n blocks once_a_flight is_in_fast_recovery self.old.items events.old).items }) }
         ensures emitted { let n = number_of self.old sack.now.cumulative_tsn_ack.0 in let blocks = sack.now.gap_ack_blocks.items in
-            OnOk result (events.new ≡ (receive_sack n blocks is_in_fast_recovery self.old.items events.old).emitted) }
+            OnOk result (events.new ≡ (receive_sack n blocks once_a_flight is_in_fast_recovery self.old.items events.old).emitted) }
         ensures lossy { let n = number_of self.old sack.now.cumulative_tsn_ack.0 in let blocks = sack.now.gap_ack_blocks.items in
-            IfOk result (λ info. info.has_packet_loss ≡ (receive_sack n blocks is_in_fast_recovery self.old.items events.old).is_lossy) }
+            IfOk result (λ info. info.has_packet_loss ≡ (receive_sack n blocks once_a_flight is_in_fast_recovery self.old.items events.old).is_lossy) }
         ensures bytes { let n = number_of self.old sack.now.cumulative_tsn_ack.0 in let blocks = sack.now.gap_ack_blocks.items in
             IfOk result (λ info. info.bytes_acked ≡ min (acked_bytes n blocks self.old.items) (2 ^ 64 - 1)) }
         ensures err { let n = number_of self.old sack.now.cumulative_tsn_ack.0 in let blocks = sack.now.gap_ack_blocks.items in
-            OnErr result (Same self.old events.old self.new events.new ⊎ SackPartlyTaken n blocks is_in_fast_recovery self.old events.old self.new events.new) }
+            OnErr result (Same self.old events.old self.new events.new ⊎ SackPartlyTaken n blocks once_a_flight is_in_fast_recovery self.old events.old self.new events.new) }
     {
         let number = self.unwrapped(sack.cumulative_tsn_ack);
+        let next = self.next_number();
         let left = self.leave(number, spares, events)?;
         let covered = settle_all(&mut self.kept, self.alloc, &sack.gap_ack_blocks);
+        let newest = number as u128 + 1 + covered.below as u128;
+        let indication = report(once_a_flight, newest, next);
         let fast = !is_in_fast_recovery;
-        let is_lossy = self.nack_uncovered(covered.below, &sack.gap_ack_blocks, fast, events)?;
+        let is_lossy = self.nack_uncovered(
+            covered.below,
+            &sack.gap_ack_blocks,
+            indication,
+            fast,
+            events,
+        )?;
         Ok(AckInfo {
             bytes_acked: left.saturating_add(covered.bytes),
             has_packet_loss: is_lossy,

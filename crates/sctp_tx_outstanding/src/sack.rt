@@ -3,12 +3,12 @@
 ghost use Rattle.std.specs.Prelude.{◌≡◌, ◌+◌, ◌-◌, ◌<◌, ◌≤◌, ◌^◌, true, List, min, length, take, drop, sum_by, slice_get, if◌then◌else◌};
 ghost use Rattle.sctp_chunk.specs.declared.sack.GapAckBlock.{GapAckBlock};
 ghost use Rattle.sctp_tx_outstanding.specs.OutstandingData.{change_at};
-ghost use Rattle.sctp_tx_outstanding.specs.Sack.{departing_part, ack_or_uncover_all, newly_acked, below_highest, ack_or_uncover, bytes_of, newly_of, highest_end};
+ghost use Rattle.sctp_tx_outstanding.specs.Sack.{departing_part, ack_or_uncover_all, newly_acked, below_highest, ack_or_uncover, bytes_of, newly_of, highest_end, report};
 ghost use Rattle.sctp_tx_outstanding.specs.LastBlocks.{Rest};
 ghost use Rattle.sctp_tx_outstanding.specs.Passes.{IsWalk, AllAre, Advances};
 ghost use Rattle.sctp_tx_outstanding.specs.Flights.{NoneFlies};
 
-use crate::item::Item;
+use crate::item::{Item, MissIndication};
 use crate::kept::{Change, Kept};
 use crate::last_blocks::LastBlocks;
 use crate::stretches::stretch_of;
@@ -22,6 +22,17 @@ pub struct AckInfo {
     pub bytes_acked: usize,
     /// Whether an item was found to be lost.
     pub has_packet_loss: bool,
+}
+
+/// The reports of a SACK by its highest number newly acknowledged, where an item may be lost once a flight.
+pub(crate) fn report(once_a_flight: bool, newest: u128, next: u128) -> MissIndication
+    ensures { result ≡ report once_a_flight newest next }
+{
+    if once_a_flight {
+        MissIndication::ReportOnce { newest, next }
+    } else {
+        MissIndication::Report
+    }
 }
 
 /// The bytes that count as newly acknowledged as an item leaves.

@@ -34,7 +34,7 @@ clean_blocks (b ∷ bs) = if nat_le b.start b.end then merge_block b (clean_bloc
 abbrev pub timed_by : Rtt → Tcb → Tcb
 timed_by r t = record t {
   rtt = r;
-  sender = record t.sender { t3 = set_duration (rto r) t.sender.t3 };
+  sender = record t.sender { t3 = set_duration (rto r) t.sender.t3; is_sampled = true };
   tracker = record t.tracker { tracker = update_rto (rto r) t.tracker.tracker };
 }
 

@@ -163,13 +163,18 @@ small_window_if false o = o.immediate_sack_under_cwnd_mtus * o.mtu
 abbrev pub small_window : Options → ℕ
 small_window o = small_window_if (o.avoid_stalls && nat_lt o.max_burst 2) o
 
-abbrev pub is_small : Options → Sender → Bool
-is_small o s = nat_lt s.windows.cwnd (small_window o)
+-- and with stalls avoided where the packet fills the peer's window
+abbrev pub fills_window : Options → Sender → Bool
+fills_window o s = o.avoid_stalls && nat_lt s.windows.rwnd (2 * o.mtu)
+
+-- the windows are those before the packet
+abbrev pub asks_at_once : Options → Sender → Bool
+asks_at_once o s = nat_lt s.windows.cwnd (small_window o) || fills_window o s
 
 -- data asks the peer as well: the next heartbeat is an interval away
 abbrev pub with_fragments : {P : Type 0} → fragments.Filling P → Filling P → Filling P
 with_fragments f x = record {
-  packet = add_all (data_chunks x.tcb (is_small x.context.options f.sender) f.chunks) x.packet;
+  packet = add_all (data_chunks x.tcb (asks_at_once x.context.options x.tcb.sender) f.chunks) x.packet;
   tcb = record x.tcb { sender = f.sender };
   context = record x.context {
     queue = f.queue;
@@ -243,9 +248,14 @@ send_with is_alone p t c = sent_by (burst_with is_alone p t c)
 abbrev pub send_buffered : {P : Type 0} → (is_alone : Bool) → Tcb → Context P → AfterSending P
 send_buffered is_alone t c = send_with is_alone (new_packet c.options t) t c
 
--- the same in a phase
+abbrev pub send_unless : {P : Type 0} → (waits is_alone : Bool) → Tcb → Context P → AfterSending P
+send_unless true is_alone t c = after_sending t c
+send_unless false is_alone t c = send_buffered is_alone t c
+
+-- What a call has sent in a phase. With stalls avoided no packet goes without the cookie before the COOKIE ACK (RFC 9260 section 5.1 C): what waits
+-- goes with the next COOKIE ECHO, or behind the COOKIE ACK.
 abbrev pub send_in : {P : Type 0} → Phase → Tcb → Context P → EndpointState P
-send_in phase t c = open_with phase (send_buffered (is_before_cookie_ack phase) t c)
+send_in phase t c = open_with phase (send_unless (is_before_cookie_ack phase && c.options.avoid_stalls) (is_before_cookie_ack phase) t c)
 
 -- ---- the cookie, with data where both fit
 

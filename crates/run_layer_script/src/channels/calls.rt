@@ -1,32 +1,15 @@
 //! The channels of one end, call by call.
 
+use crate::answer::{Answer, done};
 use crate::output::Output;
-use crate::words::{bytes_of, cut};
+use crate::words::{Line, bytes_of, cut};
 use sctp_channels::{Channels, DataChannelOpen, Reliability};
 use sctp_serial::{Message, PpId, StreamId};
 use std::alloc::Global;
 use std::mem;
 
-/// More is not printed of what one command asks for.
-const MANY: u32 = 100_000;
-
-/// No channels, at an end that has so many streams, takes messages of so many bytes, and keeps so many of labels, protocols and parts.
-pub fn begin(
-    alloc: Global,
-    is_client: bool,
-    stream_count: u32,
-    limit: u32,
-    max_kept: u32,
-) -> Channels {
-    let stream_count = stream(stream_count).0;
-    Channels::new(
-        alloc,
-        is_client,
-        stream_count,
-        limit as usize,
-        max_kept as usize,
-    )
-}
+/// A client and a server of rows keep as many labels, protocols and parts as come.
+const MANY: usize = 100_000;
 
 fn description(alloc: Global) -> DataChannelOpen {
     DataChannelOpen {
@@ -38,140 +21,72 @@ fn description(alloc: Global) -> DataChannelOpen {
     }
 }
 
-fn stream(number: u32) -> StreamId {
-    StreamId((number & 0xffff) as u16)
-}
-
-/// The number that the word is, `None` where it is none.
-pub fn parsed(word: &str) -> Option<u32> {
-    word.parse::<u32>().ok()
-}
-
-/// Whether the line was a call that takes memory.
-fn call_noted(
-    output: &mut Output,
-    channels: &mut Channels,
-    name: &str,
-    id: StreamId,
-    size: usize,
-) -> bool {
-    let outcome = match name {
-        "negotiate" => channels.negotiate(id, description(output.alloc)),
-        "buffered" => channels.drain(id, size),
-        "performed" => channels.on_reset_performed(id),
-        "denied" => channels.on_reset_denied(id),
-        "reset" => channels.on_incoming_reset(id),
-        _ => return false,
-    };
-    output.note(outcome);
-    true
-}
-
-/// Whether the line was a command over numbers.
-fn call(output: &mut Output, channels: &mut Channels, name: &str, first: u32, second: u32) -> bool {
-    let id = stream(first);
-    let size = second as usize;
-    match name {
-        "client" | "server" => drop(mem::replace(
+/// A call over numbers.
+pub fn change(channels: &mut Channels, line: &Line<'_>, output: &mut Output) -> Answer {
+    let (alloc, id, size) = (output.alloc, StreamId(line.first.half), line.second.size);
+    match line.name {
+        "client" | "server" => {
+            let is_client = line.name == "client";
+            drop(mem::replace(channels, Channels::new(alloc, is_client, id.0, size, MANY)));
+        }
+        "narrow" => drop(mem::replace(
             channels,
-            begin(output.alloc, name == "client", first, second, MANY),
+            Channels::new(alloc, true, 8, line.first.size, size),
         )),
-        "narrow" => drop(mem::replace(channels, begin(output.alloc, true, 8, first, second))),
         "close" => channels.close(id),
         "streams" => channels.set_stream_count(id.0),
-        "show" => show(output, channels, id),
-        _ => return call_noted(output, channels, name, id, size),
+        "show" => return show(channels, id, output),
+        "negotiate" => return done(channels.negotiate(id, description(alloc))),
+        "buffered" => return done(channels.drain(id, size)),
+        "performed" => return done(channels.on_reset_performed(id)),
+        "denied" => return done(channels.on_reset_denied(id)),
+        "reset" => return done(channels.on_incoming_reset(id)),
+        _ => return Answer::Unknown,
     }
-    true
+    Answer::Done
 }
 
-fn show(output: &mut Output, channels: &Channels, id: StreamId) {
+fn show(channels: &Channels, id: StreamId, output: &mut Output) -> Answer {
     match channels.get(id) {
         Some(channel) => {
-            output.push_str("unordered ");
-            output.put(&channel.goes_unordered());
-            output.push_str(", ");
-            output.put_debug(&channel.lifecycle());
-            output.push_str(", ");
-            output.debug_line(&channel.statistics());
+            write!(output, "unordered {}", channel.goes_unordered());
+            output.debug_text(", ", &channel.lifecycle());
+            output.debug_text(", ", &channel.statistics())
         }
-        None => output.push_str("none\n"),
+        None => Answer::Nothing,
     }
 }
 
-fn list(output: &mut Output, channels: &Channels) {
-    let ids = output.made(channels.streams());
-    output.debug_line(&ids);
-}
-
-fn open(output: &mut Output, channels: &mut Channels) {
-    match channels.free_stream() {
-        Some(id) => {
-            output.note(channels.open(id, description(output.alloc)));
-            output.push_str("stream ");
-            output.put_line(&id);
-        }
-        None => output.push_str("none\n"),
-    }
-}
-
-/// Whether the words are a stream, a PPID and bytes.
-fn got(output: &mut Output, channels: &mut Channels, words: &str) -> bool {
-    let (first, rest) = cut(words, ' ');
-    let (second, digits) = cut(rest, ' ');
-    match (parsed(first), parsed(second)) {
-        (Some(id), Some(ppid)) => got_bytes(output, channels, stream(id), PpId(ppid), digits),
-        _ => false,
-    }
-}
-
-fn got_bytes(
-    output: &mut Output,
-    channels: &mut Channels,
-    id: StreamId,
-    ppid: PpId,
-    digits: &str,
-) -> bool {
-    match bytes_of(digits, output) {
-        Some(bytes) => {
-            output.note(channels.on_message(Message::new(id, ppid, bytes)));
-            true
-        }
-        None => false,
-    }
-}
-
-fn answer_numbers(output: &mut Output, channels: &mut Channels, name: &str, words: &str) -> bool {
-    let (first, second) = words.split_once(' ').unwrap_or((words, "0"));
-    match (parsed(first), parsed(second)) {
-        (Some(first), Some(second)) => call(output, channels, name, first, second),
-        _ => false,
-    }
-}
-
-fn answer_call(output: &mut Output, channels: &mut Channels, name: &str, words: &str) -> bool {
+/// A call without numbers.
+pub fn call(channels: &mut Channels, name: &str, output: &mut Output) -> Answer {
     match name {
-        "open" => open(output, channels),
-        "end" => output.note(channels.end()),
-        "list" => list(output, channels),
-        "got" => return got(output, channels, words),
-        _ => return answer_numbers(output, channels, name, words),
-    }
-    true
-}
-
-fn show_outputs(output: &mut Output, channels: &mut Channels) {
-    for _ in 0..MANY {
-        match channels.next_output() {
-            Some(next) => output.debug_line(&next),
-            None => break,
+        "open" => match channels.free_stream() {
+            Some(id) => {
+                output.note(channels.open(id, description(output.alloc)));
+                writeln!(output, "stream {id}");
+                Answer::Done
+            }
+            None => Answer::Nothing,
+        },
+        "end" => done(channels.end()),
+        "begin" => done(channels.end_all_missing()),
+        _ => {
+            let ids = output.made(channels.streams());
+            output.debug_line(&ids);
+            Answer::Done
         }
     }
 }
 
-/// Whether the line was a command; then what is to be done follows.
-pub fn answer(output: &mut Output, channels: &mut Channels, name: &str, words: &str) -> bool {
-    let is_known = answer_call(output, channels, name, words);
-    show_outputs(output, channels);
-    is_known
+/// The words are a stream, a PPID and bytes.
+pub fn got(channels: &mut Channels, line: &Line<'_>, output: &mut Output) -> Answer {
+    let (first, rest) = cut(line.rest, ' ');
+    let (second, digits) = cut(rest, ' ');
+    let (Ok(id), Ok(ppid)) = (first.parse::<u16>(), second.parse::<u32>()) else {
+        return Answer::Unknown;
+    };
+    match bytes_of(digits, output) {
+        Some(bytes) => done(channels.on_message(Message::new(StreamId(id), PpId(ppid), bytes))),
+        None => Answer::Unknown,
+    }
 }

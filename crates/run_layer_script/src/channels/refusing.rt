@@ -1,7 +1,8 @@
 //! A socket that may refuse what channels send, and what their owner is told then.
 
+use crate::answer::Answer;
 use crate::output::Output;
-use crate::words::cut;
+use crate::words::{Line, cut};
 use sctp_channels::{CONTROL_PPID, DataChannels};
 use sctp_serial::{Message, SocketTime, StreamId};
 use sctp_state::{
@@ -32,47 +33,16 @@ struct Refusing {
 }
 
 impl Refusing {
-    fn refusal(&self) -> Option<SendError> {
-        if self.options.max_message_size == 0 {
-            return Some(SendError::MessageTooLarge { len: 1, limit: 0 });
-        }
-        if self.state == SocketState::ShuttingDown {
-            return Some(SendError::ShuttingDown);
-        }
-        if self.room == 0 {
-            return Some(SendError::ResourceExhaustion);
-        }
-        None
-    }
-
-    /// A packet goes out.
-    fn emit_packet(&mut self) -> Result<(), AllocError> {
-        let packet = SocketEvent::SendPacket(Vec::new(self.alloc));
-        self.events.push_back(packet)?;
+    fn emit(&mut self, event: SocketEvent) -> Result<(), AllocError> {
+        self.events.push_back(event)?;
         Ok(())
     }
 
-    fn emit_error(&mut self) -> Result<(), AllocError> {
-        let error = SocketEvent::OnError(ErrorKind::NoError, String::new(self.alloc));
-        self.events.push_back(error)?;
-        Ok(())
-    }
-
-    fn take_open(&mut self, id: StreamId) -> Result<(), AllocError> {
-        let mut bytes = Vec::new(self.alloc);
-        bytes.extend_from_slice(&OPEN)?;
-        self.messages
-            .push_back(Message::new(id, CONTROL_PPID, bytes))?;
-        Ok(())
-    }
-
-    /// The peer has reset its stream.
-    fn take_reset(&mut self, id: StreamId) -> Result<(), AllocError> {
-        let mut ids = Vec::new(self.alloc);
-        ids.push(id)?;
-        self.events
-            .push_back(SocketEvent::OnIncomingStreamReset(ids))?;
-        Ok(())
+    /// Emits an error for this refusal.
+    fn refuse(&mut self, refusal: SendError) -> Result<(), SendError> {
+        let text = String::new(self.alloc);
+        self.emit(SocketEvent::OnError(ErrorKind::NoError, text))?;
+        Err(refusal)
     }
 }
 
@@ -111,12 +81,17 @@ impl DcSctpSocket for Refusing {
 
     fn send(&mut self, _message: Message, _options: &SendOptions) -> Result<(), SendError> {
         self.offered = self.offered.saturating_add(1);
-        if let Some(refusal) = self.refusal() {
-            self.emit_error()?;
-            return Err(refusal);
+        if self.options.max_message_size == 0 {
+            return self.refuse(SendError::MessageTooLarge { len: 1, limit: 0 });
+        }
+        if self.state == SocketState::ShuttingDown {
+            return self.refuse(SendError::ShuttingDown);
+        }
+        if self.room == 0 {
+            return self.refuse(SendError::ResourceExhaustion);
         }
         self.room = self.room.saturating_sub(1);
-        self.emit_packet()?;
+        self.emit(SocketEvent::SendPacket(Vec::new(self.alloc)))?;
         Ok(())
     }
 
@@ -131,11 +106,7 @@ impl DcSctpSocket for Refusing {
     fn reset_streams(&mut self, streams: &[StreamId]) -> Result<(), ResetStreamsError> {
         let mut ids = Vec::new(self.alloc);
         ids.extend_from_slice(streams)?;
-        let performed = SocketEvent::OnStreamsResetPerformed(ids);
-        if let Err(refused) = self.events.push_back(performed) {
-            drop(refused);
-            return Err(ResetStreamsError::Memory);
-        }
+        self.emit(SocketEvent::OnStreamsResetPerformed(ids))?;
         Ok(())
     }
 
@@ -196,18 +167,8 @@ impl DcSctpSocket for Refusing {
     }
 }
 
-fn state_of(word: &str) -> Option<SocketState> {
-    match word {
-        "closed" => Some(SocketState::Closed),
-        "connecting" => Some(SocketState::Connecting),
-        "connected" => Some(SocketState::Connected),
-        "shutting-down" => Some(SocketState::ShuttingDown),
-        _ => None,
-    }
-}
-
 /// Prints what the owner is told, until nothing more is.
-fn tell(output: &mut Output, channels: &mut DataChannels, socket: &mut Refusing) {
+fn tell(channels: &mut DataChannels, socket: &mut Refusing, output: &mut Output) {
     for _ in 0..MANY {
         match channels.poll_event(socket) {
             Ok(Some(event)) => {
@@ -236,67 +197,60 @@ fn begin(alloc: Global, state: SocketState, room: u32, size: usize) -> Refusing 
 }
 
 /// The peer opens a channel.
-fn open(output: &mut Output, channels: &mut DataChannels, socket: &mut Refusing, id: u16) {
-    output.note(socket.take_open(StreamId(id)));
-    tell(output, channels, socket);
+fn open(channels: &mut DataChannels, socket: &mut Refusing, id: u16, output: &mut Output) {
+    let bytes = output.made(Vec::from_slice(output.alloc, &OPEN));
+    let message = Message::new(StreamId(id), CONTROL_PPID, bytes);
+    output.note(socket.messages.push_back(message));
+    tell(channels, socket, output);
 }
 
 /// A packet goes out, by which there is room for so many messages.
-fn make_room(output: &mut Output, channels: &mut DataChannels, socket: &mut Refusing, room: u32) {
+fn make_room(channels: &mut DataChannels, socket: &mut Refusing, room: u32, output: &mut Output) {
     output.push_str("room\n");
     socket.room = room;
-    output.note(socket.emit_packet());
-    tell(output, channels, socket);
+    output.note(socket.emit(SocketEvent::SendPacket(Vec::new(output.alloc))));
+    tell(channels, socket, output);
     output.fill("offered #\n", &[socket.offered as u128]);
 }
 
-fn meet(output: &mut Output, state: SocketState, room: u32, size: usize) {
+/// A socket in a state that has room for so many messages, of so many bytes at most.
+pub fn meet(line: &Line<'_>, output: &mut Output) -> Answer {
+    let state = match line.word {
+        "closed" => SocketState::Closed,
+        "connecting" => SocketState::Connecting,
+        "connected" => SocketState::Connected,
+        "shutting-down" => SocketState::ShuttingDown,
+        _ => return Answer::Unknown,
+    };
+    let (_, sizes) = cut(line.rest, ' ');
+    let (room, size) = cut(sizes, ' ');
+    let (Ok(room), Ok(size)) = (room.parse::<u32>(), size.parse::<usize>()) else {
+        return Answer::Unknown;
+    };
     let mut channels = DataChannels::new(output.alloc, true, 8, 100, 100, 100, 100);
     let mut socket = begin(output.alloc, state, room, size);
-    open(output, &mut channels, &mut socket, 1);
-    make_room(output, &mut channels, &mut socket, room.saturating_add(1));
+    open(&mut channels, &mut socket, 1, output);
+    make_room(&mut channels, &mut socket, room.saturating_add(1), output);
     drop(socket);
     drop(channels);
+    Answer::Done
 }
 
 /// Behind a channel whose answer isn't taken the peer opens others, one after the other on one stream, and resets as many as it is said.
-fn reopen(output: &mut Output, opened: u32, resets: u32) {
+pub fn reopen(line: &Line<'_>, output: &mut Output) -> Answer {
     let mut channels = DataChannels::new(output.alloc, true, 8, 100, 100, 100, 100);
     let mut socket = begin(output.alloc, SocketState::Connected, 0, 1);
-    open(output, &mut channels, &mut socket, 1);
-    for i in 0..opened {
-        open(output, &mut channels, &mut socket, 3);
-        if i < resets {
-            output.note(socket.take_reset(StreamId(3)));
-            tell(output, &mut channels, &mut socket);
+    open(&mut channels, &mut socket, 1, output);
+    for i in 0..line.first.word {
+        open(&mut channels, &mut socket, 3, output);
+        if i < line.second.word {
+            let ids = output.made(Vec::from_slice(output.alloc, &[StreamId(3)]));
+            output.note(socket.emit(SocketEvent::OnIncomingStreamReset(ids)));
+            tell(&mut channels, &mut socket, output);
         }
     }
-    make_room(output, &mut channels, &mut socket, MANY);
+    make_room(&mut channels, &mut socket, MANY, output);
     drop(socket);
     drop(channels);
-}
-
-/// Whether the words are how many channels the peer opens, and how many of them it resets.
-pub fn answer_reopened(output: &mut Output, words: &str) -> bool {
-    let (opened, resets) = cut(words, ' ');
-    match (super::calls::parsed(opened), super::calls::parsed(resets)) {
-        (Some(opened), Some(resets)) => reopen(output, opened, resets),
-        _ => return false,
-    }
-    true
-}
-
-/// Whether the words are a state, how many messages there is room for, and of how many bytes at most.
-pub fn answer(output: &mut Output, words: &str) -> bool {
-    let (word, sizes) = cut(words, ' ');
-    let (room, size) = cut(sizes, ' ');
-    match (
-        state_of(word),
-        super::calls::parsed(room),
-        super::calls::parsed(size),
-    ) {
-        (Some(state), Some(room), Some(size)) => meet(output, state, room, size as usize),
-        _ => return false,
-    }
-    true
+    Answer::Done
 }

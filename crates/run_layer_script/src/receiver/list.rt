@@ -1,9 +1,9 @@
 //! Intervals of fragments.
 
+use crate::answer::{Answer, Subject, run_commands};
 use crate::output::Output;
 use crate::receiver::pieces::piece;
-use crate::receiver::player::{Player, play_each};
-use crate::words::{Line, yes_or_no};
+use crate::words::Line;
 use sctp_packet::Data;
 use sctp_reassembly::is_message;
 use sctp_rx::{
@@ -11,102 +11,50 @@ use sctp_rx::{
     is_before,
 };
 
-/// A key that is made of its parts.
-pub trait Key: ReassemblyKey {
-    fn made(number: u64, index: u64) -> Self;
-
-    fn place(self) -> u64;
-}
-
-impl Key for TraditionalKey {
-    fn made(number: u64, index: u64) -> TraditionalKey {
-        TraditionalKey { number, index }
-    }
-
-    fn place(self) -> u64 {
-        self.index
-    }
-}
-
-impl Key for InterleavedKey {
-    fn made(number: u64, index: u64) -> InterleavedKey {
-        InterleavedKey { number, index }
-    }
-
-    fn place(self) -> u64 {
-        self.index
-    }
-}
-
-impl Key for UnorderedInterleavedKey {
-    fn made(number: u64, index: u64) -> UnorderedInterleavedKey {
-        UnorderedInterleavedKey { number, index }
-    }
-
-    fn place(self) -> u64 {
-        self.index
-    }
-}
-
 /// Takes the commands of a script on a list of intervals.
 pub fn run(line: &Line<'_>, script: &str, output: &mut Output) {
     match line.word {
-        "tsn" => play_each(
-            IntervalList::<TraditionalKey>::new(output.alloc),
-            script,
-            output,
-        ),
-        "fsn" => play_each(
-            IntervalList::<InterleavedKey>::new(output.alloc),
-            script,
-            output,
-        ),
-        "mid" => play_each(
-            IntervalList::<UnorderedInterleavedKey>::new(output.alloc),
-            script,
-            output,
-        ),
+        "tsn" => run_on::<TraditionalKey>(script, output),
+        "fsn" => run_on::<InterleavedKey>(script, output),
+        "mid" => run_on::<UnorderedInterleavedKey>(script, output),
         _ => output.push_str("?\n"),
     }
 }
 
-impl<K: Key> Player for IntervalList<K> {
+fn run_on<K: ReassemblyKey>(script: &str, output: &mut Output) {
+    run_commands(IntervalList::<K>::new(output.alloc), script, output);
+}
+
+impl<K: ReassemblyKey> Subject for IntervalList<K> {
     /// `add NUMBER INDEX ENDS HEX`; `turn PLACE NUMBER`; `take PLACE`; `next NUMBER`; `retain NUMBER INDEX`; `sums`.
-    fn play(&mut self, line: &Line<'_>, output: &mut Output) {
+    fn obey(&mut self, line: &Line<'_>, output: &mut Output) -> Answer {
+        let key = K::from_parts(line.first.long, line.second.long);
         match line.name {
-            "turn" => output.push_str(is_in_turn(self, line.first.size, line.second.long)),
-            "take" => take(self, line.first.size, output),
-            "next" => next(self, line.first.long, output),
-            "add" | "retain" | "sums" => {
-                change(self, line, output);
-                show_sums(self, output);
+            "turn" => {
+                return match self.key_at(line.first.size) {
+                    Some(key) => {
+                        let number = line.second.long as u128;
+                        Answer::Is(is_message(self.finished_at(key), number))
+                    }
+                    None => Answer::Refused,
+                };
             }
-            _ => output.push_str("?"),
+            "take" => return take(self, line.first.size, output),
+            "next" => return next(self, line.first.long, output),
+            "add" => add(self, key, piece(line, output), output),
+            "retain" => self.retain(key),
+            "sums" => {}
+            _ => return Answer::Unknown,
         }
+        let (count, bytes) = (self.len() as u128, self.total_bytes() as u128);
+        output.text(
+            "intervals #, bytes #, empty ?",
+            &[count, bytes, self.is_empty() as u128],
+        )
     }
 }
 
-fn change<K: Key>(list: &mut IntervalList<K>, line: &Line<'_>, output: &mut Output) {
-    let key = K::made(line.first.long, line.second.long);
-    match line.name {
-        "add" => add(list, key, piece(line, output), output),
-        "retain" => list.retain(key),
-        _ => {}
-    }
-}
-
-fn show_sums<K: Key>(list: &IntervalList<K>, output: &mut Output) {
-    output.fill(
-        "intervals #, bytes #, empty ?",
-        &[
-            list.len() as u128,
-            list.total_bytes() as u128,
-            list.is_empty() as u128,
-        ],
-    );
-}
-
-fn add<K: Key>(list: &mut IntervalList<K>, key: K, fragment: Data, output: &mut Output) {
+fn add<K: ReassemblyKey>(list: &mut IntervalList<K>, key: K, fragment: Data, output: &mut Output) {
     if list.total_bytes() >= 1 << 40
         || fragment.payload.len() >= 1 << 40
         || list.held_fragments() >= 1 << 40
@@ -123,7 +71,7 @@ fn add<K: Key>(list: &mut IntervalList<K>, key: K, fragment: Data, output: &mut 
 }
 
 /// How many intervals begin before the key, but the one that has it.
-fn place_of<K: Key>(list: &IntervalList<K>, key: K) -> usize {
+fn place_of<K: ReassemblyKey>(list: &IntervalList<K>, key: K) -> usize {
     for place in 0..list.len() {
         match list.key_at(place) {
             Some(first) if !is_before(key, first) => {}
@@ -133,75 +81,54 @@ fn place_of<K: Key>(list: &IntervalList<K>, key: K) -> usize {
     list.len().saturating_sub(1)
 }
 
-fn is_in_turn<K: Key>(list: &IntervalList<K>, place: usize, number: u64) -> &'static str {
-    match list.key_at(place) {
-        Some(key) => yes_or_no(is_message(list.finished_at(key), number as u128)),
-        None => "refused",
-    }
-}
-
-fn take<K: Key>(list: &mut IntervalList<K>, place: usize, output: &mut Output) {
+fn take<K: ReassemblyKey>(list: &mut IntervalList<K>, place: usize, output: &mut Output) -> Answer {
     if list.total_bytes() >= 1 << 40 {
-        output.push_str("refused");
-        return;
+        return Answer::Refused;
     }
     let Some(key) = list.key_at(place) else {
-        output.push_str("refused");
-        return;
+        return Answer::Refused;
     };
     match list.pop_if_complete(key) {
         Some(interval) => {
             let bytes = interval.total_bytes();
-            show(interval, bytes, output);
+            show(interval, bytes, output)
         }
-        None => output.push_str("none"),
+        None => Answer::Nothing,
     }
 }
 
-fn next<K: Key>(list: &mut IntervalList<K>, number: u64, output: &mut Output) {
+fn next<K: ReassemblyKey>(list: &mut IntervalList<K>, number: u64, output: &mut Output) -> Answer {
     if list.total_bytes() >= 1 << 40 {
-        output.push_str("refused");
-        return;
+        return Answer::Refused;
     }
     match list.pop_front_if_complete_and(number as u128) {
         Some(interval) => {
             let bytes = interval.total_bytes();
-            show(interval, bytes, output);
+            show(interval, bytes, output)
         }
-        None => output.push_str("none"),
+        None => Answer::Nothing,
     }
 }
 
 /// An interval that was taken.
-fn show<K: Key>(interval: Interval<K>, bytes: usize, output: &mut Output) {
-    let first = interval.first().key;
-    show_ends(first, interval.last().key, output);
-    show_turn(&interval, first.number(), output);
-    output.fill(", bytes #: ", &[bytes as u128]);
-    let payload = output.made(interval.collect_payload(output.alloc));
-    output.push_hex(&payload);
-    drop(interval);
-}
-
-fn show_ends<K: Key>(first: K, last: K, output: &mut Output) {
+fn show<K: ReassemblyKey>(interval: Interval<K>, bytes: usize, output: &mut Output) -> Answer {
+    let (first, last) = (interval.first(), interval.last());
+    let number = first.key.number() as u128;
     output.fill(
-        "#/# to #/#",
+        "#/# to #/#, complete ?, in turn ?, at the next number ?, bytes #: ",
         &[
-            first.number() as u128,
-            first.place() as u128,
-            last.number() as u128,
-            last.place() as u128,
-        ],
-    );
-}
-
-fn show_turn<K: Key>(interval: &Interval<K>, number: u64, output: &mut Output) {
-    output.fill(
-        ", complete ?, in turn ?, at the next number ?",
-        &[
+            number,
+            first.fragment.fsn.0 as u128,
+            last.key.number() as u128,
+            last.fragment.fsn.0 as u128,
             interval.is_complete() as u128,
-            interval.is_in_turn(number as u128) as u128,
-            interval.is_in_turn(number as u128 + 1) as u128,
+            interval.is_in_turn(number) as u128,
+            interval.is_in_turn(number + 1) as u128,
+            bytes as u128,
         ],
     );
+    let payload = output.made(interval.collect_payload(output.alloc));
+    drop(interval);
+    output.push_hex(&payload);
+    Answer::Text
 }

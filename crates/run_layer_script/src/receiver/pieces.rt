@@ -1,5 +1,6 @@
 //! Fragments and messages, as words say them.
 
+use crate::answer::Answer;
 use crate::output::Output;
 use crate::words::{Line, Number, bytes_of, rest_of, word_at};
 use sctp_packet::{Data, SkippedStream};
@@ -67,30 +68,31 @@ pub fn fragment(key: StreamKey, number: u16, fsn: u32, ends: &str, payload: Vec<
 pub fn fragment_of(line: &Line<'_>, output: &mut Output) -> Data {
     let key = stream_key(word_at(line.text, 2));
     let payload = payload_of(word_at(line.text, 6), output);
-    fragment(
-        key,
-        line.third.half,
-        line.fourth.word,
-        word_at(line.text, 5),
-        payload,
-    )
+    let ends = word_at(line.text, 5);
+    fragment(key, line.third.half, line.fourth.word, ends, payload)
 }
 
-/// The fragment of a command `NAME NUMBER INDEX ENDS HEX`.
+/// The fragment of a command `NAME NUMBER INDEX ENDS HEX`. Its FSN is the index.
 pub fn piece(line: &Line<'_>, output: &mut Output) -> Data {
     let key = StreamKey::Unordered(StreamId(1));
     let payload = payload_of(word_at(line.text, 4), output);
-    fragment(key, 0, 0, word_at(line.text, 3), payload)
+    fragment(key, 0, line.second.word, word_at(line.text, 3), payload)
 }
 
 /// A message as `STREAM/PROTOCOL:HEX`.
-pub fn show_message(message: Option<&Message>, output: &mut Output) {
-    match message {
-        Some(message) => {
-            let names = [message.stream_id.0 as u128, message.ppid.0 as u128];
-            output.fill("#/#:", &names);
-            output.push_hex(&message.payload);
-        }
-        None => output.push_str("none"),
-    }
+pub fn show_message(message: Option<&Message>, output: &mut Output) -> Answer {
+    let Some(message) = message else {
+        return Answer::Nothing;
+    };
+    let names = [message.stream_id.0 as u128, message.ppid.0 as u128];
+    output.fill("#/#:", &names);
+    output.push_hex(&message.payload);
+    Answer::Text
+}
+
+/// A message that was taken.
+pub fn show_next(message: Option<Message>, output: &mut Output) -> Answer {
+    let answer = show_message(message.as_ref(), output);
+    drop(message);
+    answer
 }

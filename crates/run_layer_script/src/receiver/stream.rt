@@ -3,18 +3,16 @@
 ghost use Rattle.std.specs.Prelude.{◌+◌, ◌<◌, ◌^◌, IsTrue};
 ghost use Rattle.sctp_rx.specs.Delivery.{ready_bytes};
 
+use crate::answer::{Answer, Subject, run_commands};
 use crate::output::Output;
-use crate::receiver::list::Key;
-use crate::receiver::pieces::piece;
-use crate::receiver::player::{Player, play_each};
-use crate::receiver::receiver::show_next;
+use crate::receiver::pieces::{piece, show_next};
 use crate::words::{Line, Number, word_at};
 use sctp_packet::Data;
 use sctp_rx::{
     InterleavedKey, OrderedStream, ReadyMessages, ReassemblyKey, ReassemblyStream, TraditionalKey,
     UnorderedInterleavedKey, UnorderedStream,
 };
-use std::alloc::AllocError;
+use std::alloc::{AllocError, Global};
 
 /// The first number.
 const FIRST: u64 = 1 << 32;
@@ -57,36 +55,27 @@ struct Alone<S> {
     ready: ReadyMessages,
 }
 
+/// An ordered stream whose next number is the one that is said, where it can be, else a new one.
+fn ordered<K: ReassemblyKey>(alloc: Global, begin: &str) -> OrderedStream<K> {
+    let next = Number::of(begin).long;
+    if next < FIRST {
+        OrderedStream::new(alloc)
+    } else {
+        OrderedStream::restored(alloc, next)
+    }
+}
+
 /// Takes the commands of a script on an ordered stream.
 pub fn run_ordered(line: &Line<'_>, script: &str, output: &mut Output) {
     let begin = word_at(line.text, 2);
-    let next = if begin.is_empty() {
-        FIRST
-    } else {
-        Number::of(begin).long
-    };
-    if next < FIRST {
-        output.push_str("refused\n");
-        return;
-    }
-    match (line.word, begin.is_empty()) {
-        ("tsn", true) => run_on(
-            OrderedStream::<TraditionalKey>::new(output.alloc),
-            script,
-            output,
-        ),
-        ("fsn", true) => run_on(
-            OrderedStream::<InterleavedKey>::new(output.alloc),
-            script,
-            output,
-        ),
-        ("tsn", _) => run_on(
-            OrderedStream::<TraditionalKey>::restored(output.alloc, next),
+    match line.word {
+        "tsn" => run_on(
+            ordered::<TraditionalKey>(output.alloc, begin),
             script,
             output,
         ),
         _ => run_on(
-            OrderedStream::<InterleavedKey>::restored(output.alloc, next),
+            ordered::<InterleavedKey>(output.alloc, begin),
             script,
             output,
         ),
@@ -95,50 +84,63 @@ pub fn run_ordered(line: &Line<'_>, script: &str, output: &mut Output) {
 
 /// Takes the commands of a script on an unordered stream.
 pub fn run_unordered(line: &Line<'_>, script: &str, output: &mut Output) {
+    let alloc = output.alloc;
     match line.word {
         "tsn" => run_on(
-            UnorderedStream::<TraditionalKey>::new(output.alloc),
+            UnorderedStream::<TraditionalKey>::new(alloc),
             script,
             output,
         ),
         _ => run_on(
-            UnorderedStream::<UnorderedInterleavedKey>::new(output.alloc),
+            UnorderedStream::<UnorderedInterleavedKey>::new(alloc),
             script,
             output,
         ),
     }
 }
 
-fn run_on<S: Stream>(stream: S, script: &str, output: &mut Output)
-where
-    S::Key: Key,
-{
+fn run_on<S: Stream>(stream: S, script: &str, output: &mut Output) {
     let alone = Alone {
         stream,
         ready: ReadyMessages::new(output.alloc),
     };
-    play_each(alone, script, output);
+    run_commands(alone, script, output);
 }
 
-impl<S: Stream> Player for Alone<S>
-where
-    S::Key: Key,
-{
+impl<S: Stream> Subject for Alone<S> {
     /// `next`; and changes, which are answered by the state, as is `state`.
-    fn play(&mut self, line: &Line<'_>, output: &mut Output) {
+    fn obey(&mut self, line: &Line<'_>, output: &mut Output) -> Answer {
         if line.name == "next" {
-            show_next(self.ready.pop(), output);
-        } else {
-            self.change(line, output);
-            self.show(output);
+            return show_next(self.ready.pop(), output);
         }
+        self.change(line, output);
+        output.text(
+            "number #, held ?, bytes #, ready #",
+            &[
+                self.stream.reading_point(),
+                (self.stream.held_fragments() > 0) as u128,
+                self.stream.queued_bytes() as u128,
+                self.ready.len() as u128,
+            ],
+        )
     }
 }
 
-impl<S: Stream> Alone<S>
-where
-    S::Key: Key,
-{
+impl<S: Stream> Alone<S> {
+    /// `add NUMBER INDEX ENDS HEX`, `forward NUMBER INDEX`, `drop NUMBER INDEX`.
+    fn change(&mut self, line: &Line<'_>, output: &mut Output) {
+        let key = S::Key::from_parts(line.first.long, line.second.long);
+        match line.name {
+            "add" => {
+                let fragment = piece(line, output);
+                output.note(self.add(key, fragment));
+            }
+            "forward" => output.note(self.forward(key)),
+            "drop" => self.stream.drop_below(key),
+            _ => {}
+        }
+    }
+
     /// Takes a fragment, where there is room.
     fn add(&mut self, key: S::Key, fragment: Data) -> Result<(), AllocError> {
         let held = self.stream.queued_bytes();
@@ -158,31 +160,5 @@ where
             return Ok(());
         }
         self.stream.forward(first, &mut self.ready)
-    }
-
-    /// `add NUMBER INDEX ENDS HEX`, `forward NUMBER INDEX`, `drop NUMBER INDEX`.
-    fn change(&mut self, line: &Line<'_>, output: &mut Output) {
-        let key = S::Key::made(line.first.long, line.second.long);
-        match line.name {
-            "add" => {
-                let fragment = piece(line, output);
-                output.note(self.add(key, fragment));
-            }
-            "forward" => output.note(self.forward(key)),
-            "drop" => self.stream.drop_below(key),
-            _ => {}
-        }
-    }
-
-    fn show(&self, output: &mut Output) {
-        output.fill(
-            "number #, held ?, bytes #, ready #",
-            &[
-                self.stream.reading_point(),
-                (self.stream.held_fragments() > 0) as u128,
-                self.stream.queued_bytes() as u128,
-                self.ready.len() as u128,
-            ],
-        );
     }
 }

@@ -1,9 +1,11 @@
 //! Streams in either form.
 
+use crate::answer::{Answer, Subject, done, run_commands};
 use crate::output::Output;
-use crate::receiver::pieces::{entry, fragment, payload_of, stream_key};
-use crate::receiver::player::{Player, play_each};
-use crate::receiver::receiver::{Receiver, show_next, show_sums, take};
+use crate::receiver::pieces::{
+    entries, entry, fragment, fragment_of, payload_of, show_message, show_next, stream_ids,
+    stream_key,
+};
 use crate::receiver::stream::have_room;
 use crate::words::{Line, Number, rest_of, word_at};
 use sctp_packet::{Data, SkippedStream};
@@ -36,16 +38,63 @@ pub fn run(line: &Line<'_>, script: &str, output: &mut Output) {
         ready: ReadyMessages::new(output.alloc),
         rows: Vec::new(output.alloc),
     };
-    play_each(streams, script, output);
+    run_commands(streams, script, output);
 }
 
-impl Receiver for Streams {
+impl Subject for Streams {
+    /// `next`; `ready PLACE`; `push STREAM HEX`: a message that is ready; `sizes`; `message STREAM NUMBER FIRST COUNT`: a message whose
+    /// fragments may come; `come TSN ..`; and changes, which are answered by how much there is then, as is `sums`.
+    fn obey(&mut self, line: &Line<'_>, output: &mut Output) -> Answer {
+        match line.name {
+            "next" => return show_next(self.ready.pop(), output),
+            "ready" => return show_message(self.ready.get(line.first.size), output),
+            "push" => return push(&mut self.ready, line, output),
+            "sizes" => return show_ready(&self.ready, output),
+            "message" => {
+                let row = Row {
+                    key: stream_key(line.word),
+                    number: line.second.half,
+                    first: line.third.long,
+                    count: line.fourth.long,
+                };
+                return done(self.rows.push(row));
+            }
+            "come" => return self.come(line, output),
+            _ => self.change(line, output),
+        }
+        let sums = [
+            self.ready.len() as u128,
+            self.streams.queued_bytes() as u128,
+        ];
+        output.text("ready #, bytes #", &sums)
+    }
+}
+
+impl Streams {
+    /// `add TSN STREAM NUMBER FSN ENDS HEX`, `forward TSN ENTRY ..`, `skip ENTRY`, `reset STREAM ..`.
+    fn change(&mut self, line: &Line<'_>, output: &mut Output) {
+        match line.name {
+            "add" => {
+                let fragment = fragment_of(line, output);
+                output.note(self.add(line.first.long, fragment));
+            }
+            "forward" => {
+                let entries = entries(line, output);
+                output.note(self.forward(output.alloc, line.first.long, &entries));
+            }
+            "skip" => output.note(self.skip(entry(line.word))),
+            "reset" => {
+                let ids = stream_ids(line, 1, output);
+                self.streams.reset_streams(&ids);
+            }
+            _ => {}
+        }
+    }
+
+    /// What there is no room for is not taken.
     fn add(&mut self, tsn: u64, fragment: Data) -> Result<(), AllocError> {
-        let has_room = have_room(
-            self.streams.queued_bytes(),
-            &self.ready,
-            fragment.payload.len(),
-        );
+        let held = self.streams.queued_bytes();
+        let has_room = have_room(held, &self.ready, fragment.payload.len());
         let is_most = self.streams.held_fragments() >= 1 << 40;
         if tsn >= 1 << 40 || !has_room || is_most {
             drop(fragment);
@@ -67,75 +116,24 @@ impl Receiver for Streams {
             .handle_forward_tsn(alloc, tsn, entries, &mut self.ready)
     }
 
-    fn reset(&mut self, ids: &[StreamId]) -> Result<(), AllocError> {
-        self.streams.reset_streams(ids);
-        Ok(())
-    }
-
-    fn next(&mut self) -> Option<Message> {
-        self.ready.pop()
-    }
-
-    fn ready(&self, place: usize) -> Option<&Message> {
-        self.ready.get(place)
-    }
-
-    fn sums(&self) -> (usize, usize) {
-        (self.ready.len(), self.streams.queued_bytes())
-    }
-}
-
-impl Player for Streams {
-    /// `skip ENTRY`; `push STREAM HEX`: a message that is ready; `sizes`; `message STREAM NUMBER FIRST COUNT`: a message whose fragments may
-    /// come; `come TSN ..`; and what a queue takes too.
-    fn play(&mut self, line: &Line<'_>, output: &mut Output) {
-        match line.name {
-            "skip" => self.skip(entry(line.word), output),
-            "push" => self.push(line, output),
-            "sizes" => show_ready(&self.ready, output),
-            "message" => output.note(self.rows.push(row_of(line))),
-            "come" => self.come(line, output),
-            _ => take(self, line, output),
-        }
-    }
-}
-
-impl Streams {
-    fn skip(&mut self, entry: SkippedStream, output: &mut Output) {
+    fn skip(&mut self, entry: SkippedStream) -> Result<(), AllocError> {
         if !have_room(self.streams.queued_bytes(), &self.ready, 0) {
-            output.push_str("refused");
-            return;
+            return Ok(());
         }
-        output.note(self.streams.skip(entry, &mut self.ready));
-        show_sums(self, output);
+        self.streams.skip(entry, &mut self.ready)
     }
 
-    fn push(&mut self, line: &Line<'_>, output: &mut Output) {
-        let payload = payload_of(word_at(line.text, 2), output);
-        if !have_room(self.streams.queued_bytes(), &self.ready, payload.len()) {
-            drop(payload);
-            output.push_str("refused");
-            return;
-        }
-        let id = StreamId(line.first.half);
-        output.note(self.ready.push(Message::new(id, PpId(53), payload)));
-        show_ready(&self.ready, output);
-    }
-
-    /// Fragments come: prints, for each, which messages become ready, and how many bytes are held then.
-    fn come(&mut self, line: &Line<'_>, output: &mut Output) {
+    /// Fragments come: prints, for each, which messages become ready, which are taken, and how many bytes are held then.
+    fn come(&mut self, line: &Line<'_>, output: &mut Output) -> Answer {
         for word in rest_of(line.text, 1) {
-            self.take_one(Number::of(word).long, output);
+            let tsn = Number::of(word).long;
+            if let Some(fragment) = fragment_with(&self.rows, tsn, output) {
+                output.note(self.add(tsn, fragment));
+            }
             show_each(&mut self.ready, output);
             output.fill(" #", &[self.streams.queued_bytes() as u128]);
         }
-    }
-
-    fn take_one(&mut self, tsn: u64, output: &mut Output) {
-        if let Some(row) = row_with(&self.rows, tsn) {
-            let fragment = row.fragment(tsn, output);
-            output.note(self.add(tsn, fragment));
-        }
+        Answer::Text
     }
 }
 
@@ -147,51 +145,40 @@ fn show_each(ready: &mut ReadyMessages, output: &mut Output) {
     }
 }
 
-fn show_ready(ready: &ReadyMessages, output: &mut Output) {
-    let sums = [ready.len() as u128, ready.total_bytes() as u128];
-    output.fill("ready #, their bytes #", &sums);
-}
-
-fn row_of(line: &Line<'_>) -> Row {
-    Row {
-        key: stream_key(line.word),
-        number: line.second.half,
-        first: line.third.long,
-        count: line.fourth.long,
+fn push(ready: &mut ReadyMessages, line: &Line<'_>, output: &mut Output) -> Answer {
+    let payload = payload_of(word_at(line.text, 2), output);
+    if !have_room(0, ready, payload.len()) {
+        drop(payload);
+        return Answer::Refused;
     }
+    let id = StreamId(line.first.half);
+    output.note(ready.push(Message::new(id, PpId(53), payload)));
+    show_ready(ready, output)
 }
 
-/// The last message that was named and has the TSN.
-fn row_with(rows: &[Row], tsn: u64) -> Option<Row> {
+fn show_ready(ready: &ReadyMessages, output: &mut Output) -> Answer {
+    let sums = [ready.len() as u128, ready.total_bytes() as u128];
+    output.text("ready #, their bytes #", &sums)
+}
+
+/// The fragment with the TSN, of the last message that was named and has it.
+fn fragment_with(rows: &[Row], tsn: u64, output: &mut Output) -> Option<Data> {
     let mut found = None;
     for row in rows {
-        if row.has(tsn) {
+        if row.first <= tsn && tsn.saturating_sub(row.first) < row.count {
             found = Some(*row);
         }
     }
-    found
-}
-
-impl Row {
-    fn has(&self, tsn: u64) -> bool {
-        self.first <= tsn && tsn.saturating_sub(self.first) < self.count
-    }
-
-    fn ends(&self, place: u64) -> &'static str {
-        let is_end = place == self.count.saturating_sub(1);
-        match (place == 0, is_end) {
-            (true, true) => "be",
-            (true, false) => "b",
-            (false, true) => "e",
-            (false, false) => "-",
-        }
-    }
-
-    fn fragment(&self, tsn: u64, output: &mut Output) -> Data {
-        let mut payload = Vec::new(output.alloc);
-        output.note(payload.push((tsn % 256) as u8));
-        let place = tsn.saturating_sub(self.first);
-        let fsn = u32::try_from(place).unwrap_or(u32::MAX);
-        fragment(self.key, self.number, fsn, self.ends(place), payload)
-    }
+    let row = found?;
+    let place = tsn.saturating_sub(row.first);
+    let ends = match (place == 0, place == row.count.saturating_sub(1)) {
+        (true, true) => "be",
+        (true, false) => "b",
+        (false, true) => "e",
+        (false, false) => "-",
+    };
+    let mut payload = Vec::new(output.alloc);
+    output.note(payload.push((tsn % 256) as u8));
+    let fsn = u32::try_from(place).unwrap_or(u32::MAX);
+    Some(fragment(row.key, row.number, fsn, ends, payload))
 }

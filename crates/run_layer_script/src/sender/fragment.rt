@@ -1,7 +1,7 @@
 //! Bytes and fragments: how they are made, and printed.
 
+use crate::answer::Answer;
 use crate::output::Output;
-use crate::sender::answer::Answer;
 use crate::words::Number;
 use sctp_packet::{Data, GapAckBlock, SackChunk, SkippedStream};
 use sctp_serial::{LifecycleId, SocketTime, StreamKey, Tsn};
@@ -19,38 +19,36 @@ pub fn bytes(alloc: Global, length: usize) -> Result<Vec<u8>, AllocError> {
     Ok(bytes)
 }
 
-/// The first byte, where each one behind it is greater by one, modulo 256.
-fn first_of_run(bytes: &[u8]) -> Option<u8> {
-    let first = *bytes.first()?;
+/// Whether each byte behind the first is greater by one, modulo 256.
+fn is_run(bytes: &[u8], first: u8) -> bool {
     let mut want = first;
     for byte in bytes {
         if *byte != want {
-            return None;
+            return false;
         }
         want = want.wrapping_add(1);
     }
-    Some(first)
+    true
 }
 
-fn push_payload(output: &mut Output, bytes: &[u8]) {
-    if bytes.is_empty() {
-        return output.push_str(" no bytes");
-    }
-    match first_of_run(bytes) {
-        Some(first) => output.fill(" # bytes from #", &[bytes.len() as u128, first as u128]),
-        None => {
+fn push_payload(bytes: &[u8], output: &mut Output) {
+    match bytes.first() {
+        None => output.push_str(" no bytes"),
+        Some(first) if is_run(bytes, *first) => {
+            output.fill(" # bytes from #", &[bytes.len() as u128, *first as u128])
+        }
+        Some(_) => {
             output.push_str(" ");
             output.push_hex(bytes);
         }
     }
 }
 
-pub fn push_data(output: &mut Output, data: &Data) -> Answer {
-    let order = match data.stream_key {
+pub fn push_data(data: &Data, output: &mut Output) -> Answer {
+    output.push_str(match data.stream_key {
         StreamKey::Ordered(_) => "ordered",
         StreamKey::Unordered(_) => "unordered",
-    };
-    output.push_str(order);
+    });
     output.fill(
         " # ssn # mid # fsn # ppid #",
         &[
@@ -61,9 +59,9 @@ pub fn push_data(output: &mut Output, data: &Data) -> Answer {
             data.ppid.0 as u128,
         ],
     );
-    output.push_str(if data.is_beginning { " beginning" } else { "" });
-    output.push_str(if data.is_end { " end" } else { "" });
-    push_payload(output, &data.payload);
+    output.push_if(data.is_beginning, " beginning");
+    output.push_if(data.is_end, " end");
+    push_payload(&data.payload, output);
     Answer::Text
 }
 
@@ -76,87 +74,68 @@ pub fn millis_of(moment: Option<SocketTime>) -> u128 {
 }
 
 /// The number of a lifecycle; 0 where there is none.
-pub fn number_of(lifecycle: Option<LifecycleId>) -> u64 {
+pub fn number_of(lifecycle: Option<LifecycleId>) -> u128 {
     match lifecycle {
-        Some(id) => id.value(),
+        Some(id) => id.value() as u128,
         None => 0,
     }
 }
 
-fn push_sent(output: &mut Output, sent: &DataToSend) -> Answer {
-    output.fill("message # ", &[sent.message_id.0 as u128]);
-    push_data(output, &sent.data);
-    output.text(
-        " limit # until # lifecycle #",
-        &[
-            sent.max_retransmissions as u128,
-            millis_of(sent.expires_at),
-            number_of(sent.lifecycle_id) as u128,
-        ],
-    )
-}
-
 /// The fragment, where there is one.
-pub fn show_sent(output: &mut Output, sent: Result<Option<DataToSend>, AllocError>) -> Answer {
-    match sent {
-        Ok(Some(sent)) => {
-            let answer = push_sent(output, &sent);
-            drop(sent);
-            answer
-        }
-        Ok(None) => Answer::Nothing,
-        Err(_) => Answer::NoMemory,
-    }
-}
-
-fn push_chunks(output: &mut Output, chunks: &[(Tsn, Data)]) {
-    if chunks.is_empty() {
-        output.push_str("nothing");
-    }
-    let mut text = "# with #";
-    for chunk in chunks {
-        output.fill(text, &[chunk.0.0 as u128, chunk.1.payload.len() as u128]);
-        text = " # with #";
-    }
+pub fn show_sent(sent: Result<Option<DataToSend>, AllocError>, output: &mut Output) -> Answer {
+    let sent = match sent {
+        Ok(Some(sent)) => sent,
+        Ok(None) => return Answer::Nothing,
+        Err(_) => return Answer::NoMemory,
+    };
+    output.fill("message # ", &[sent.message_id.0 as u128]);
+    push_data(&sent.data, output);
+    let numbers = [
+        sent.max_retransmissions as u128,
+        millis_of(sent.expires_at),
+        number_of(sent.lifecycle_id),
+    ];
+    drop(sent);
+    output.text(" limit # until # lifecycle #", &numbers)
 }
 
 /// The chunks of a packet, each with its TSN and its payload's length.
-pub fn show_chunks(output: &mut Output, chunks: Result<Vec<(Tsn, Data)>, AllocError>) -> Answer {
-    match chunks {
-        Ok(chunks) => {
-            push_chunks(output, &chunks);
-            drop(chunks);
-            Answer::Text
-        }
-        Err(_) => Answer::NoMemory,
+pub fn show_chunks(chunks: Result<Vec<(Tsn, Data)>, AllocError>, output: &mut Output) -> Answer {
+    let Ok(chunks) = chunks else {
+        return Answer::NoMemory;
+    };
+    if chunks.is_empty() {
+        return Answer::Nothing;
     }
-}
-
-fn push_skip(output: &mut Output, skip: &SkippedStream) {
-    match skip {
-        SkippedStream::ForwardTsn(id, ssn) => {
-            output.fill(" # to ssn #", &[id.0 as u128, ssn.0 as u128])
-        }
-        SkippedStream::IForwardTsn(StreamKey::Ordered(id), mid) => {
-            output.fill(" ordered # to mid #", &[id.0 as u128, mid.0 as u128])
-        }
-        SkippedStream::IForwardTsn(StreamKey::Unordered(id), mid) => {
-            output.fill(" unordered # to mid #", &[id.0 as u128, mid.0 as u128])
-        }
+    let mut text = "# with #";
+    for chunk in &chunks {
+        output.fill(text, &[chunk.0.0 as u128, chunk.1.payload.len() as u128]);
+        text = " # with #";
     }
+    drop(chunks);
+    Answer::Text
 }
 
 /// A number, and the streams that a forward point names, with the number that it goes to on each.
-pub fn show_skips(output: &mut Output, number: Tsn, skips: &[SkippedStream]) -> Answer {
+pub fn show_skips(number: Tsn, skips: &[SkippedStream], output: &mut Output) -> Answer {
     output.fill("#:", &[number.0 as u128]);
     for skip in skips {
-        push_skip(output, skip);
+        let (text, id, number) = match skip {
+            SkippedStream::ForwardTsn(id, ssn) => (" # to ssn #", id, ssn.0 as u128),
+            SkippedStream::IForwardTsn(StreamKey::Ordered(id), mid) => {
+                (" ordered # to mid #", id, mid.0 as u128)
+            }
+            SkippedStream::IForwardTsn(StreamKey::Unordered(id), mid) => {
+                (" unordered # to mid #", id, mid.0 as u128)
+            }
+        };
+        output.fill(text, &[id.0 as u128, number]);
     }
     Answer::Text
 }
 
 /// A SACK with a block from one offset to another, none where the first is 0.
-pub fn sack(output: &mut Output, tsn: &Number, first: &Number, last: &Number) -> SackChunk {
+pub fn sack(tsn: Number, first: Number, last: Number, output: &mut Output) -> SackChunk {
     let mut gap_ack_blocks = Vec::new(output.alloc);
     if first.half > 0 {
         output.note(gap_ack_blocks.push(GapAckBlock::new(first.half, last.half)));

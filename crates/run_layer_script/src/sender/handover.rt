@@ -1,27 +1,62 @@
-//! A send queue and a sender that others take up.
+//! What is handed over, and a send queue and a sender that others take up.
 
-use crate::sender::answer::{Answer, done};
-use crate::sender::bench::sender as fresh;
+use crate::answer::{Answer, done};
+use crate::output::Output;
+use crate::sender::{Bench, first_sender};
 use crate::words::Line;
 use sctp_serial::SocketTime;
 use sctp_state::api::handover::HandoverSocketState;
 use sctp_state::{Options, SocketHandoverState};
 use sctp_tx::RetransmissionQueue;
+use sctp_tx_outstanding::OutstandingData;
 use sctp_tx_queue::SendQueue;
-use std::alloc::{AllocError, Global};
+use std::alloc::Global;
 use std::mem;
+use std::time::Duration;
 
-fn write(
+/// `record MICROSECONDS`: what is handed over at this moment. Of both, `hand-over MOMENT`: another queue and another sender take these
+/// ones' record up, and the commands go on with them.
+pub fn answer(bench: &mut Bench, part: &str, line: &Line<'_>, output: &mut Output) -> Answer {
+    let mut state = SocketHandoverState::empty(output.alloc);
+    let now = SocketTime::zero() + Duration::from_micros(line.first.long);
+    let answer = match part {
+        "queue" => record_queue(&bench.queue, now, &mut state, output),
+        "data" => record_data(&bench.data, now, &mut state, output),
+        "both" => pass_on(bench, line.first.moment(), &mut state, output.alloc),
+        _ => Answer::Unknown,
+    };
+    drop(state);
+    answer
+}
+
+fn record_queue(
     queue: &SendQueue,
-    sender: &RetransmissionQueue,
     now: SocketTime,
     state: &mut SocketHandoverState,
-) -> Result<(), AllocError> {
-    state.socket_state = HandoverSocketState::Connected;
-    state.my_verification_tag = 1;
-    state.peer_verification_tag = 1;
-    queue.add_to_handover_state(now, state)?;
-    sender.add_to_handover_state(now, state)
+    output: &mut Output,
+) -> Answer {
+    if queue.add_to_handover_state(now, state).is_err() {
+        return Answer::NoMemory;
+    }
+    let tx = &state.tx;
+    output.fill("# ", &[tx.next_outgoing_message_id as u128]);
+    output.debug_text("", &tx.streams);
+    output.debug_text(" ", &tx.queued_messages)
+}
+
+fn record_data(
+    data: &OutstandingData,
+    now: SocketTime,
+    state: &mut SocketHandoverState,
+    output: &mut Output,
+) -> Answer {
+    if data.add_to_handover_state(now, state).is_err() {
+        return Answer::NoMemory;
+    }
+    let tx = &state.tx;
+    let tsns = [tx.next_tsn as u128, tx.last_cumulative_tsn_ack as u128];
+    output.fill("# # ", &tsns);
+    output.debug_text("", &tx.outstanding_data)
 }
 
 fn take_up(
@@ -43,32 +78,21 @@ fn take_up(
 }
 
 fn pass_on(
-    alloc: Global,
-    queue: &mut SendQueue,
-    sender: &mut RetransmissionQueue,
+    bench: &mut Bench,
     now: SocketTime,
     state: &mut SocketHandoverState,
+    alloc: Global,
 ) -> Answer {
-    if write(queue, sender, now, state).is_err() {
+    let (queue, sender) = (&mut bench.queue, &mut bench.sender);
+    state.socket_state = HandoverSocketState::Connected;
+    state.my_verification_tag = 1;
+    state.peer_verification_tag = 1;
+    if queue.add_to_handover_state(now, state).is_err()
+        || sender.add_to_handover_state(now, state).is_err()
+    {
         return Answer::NoMemory;
     }
     drop(mem::replace(queue, SendQueue::new(alloc, &Options::default())));
-    drop(mem::replace(sender, fresh(alloc)));
+    drop(mem::replace(sender, first_sender(alloc)));
     take_up(queue, sender, now, state)
-}
-
-/// `hand-over MOMENT`: another queue and another sender take these ones' record up, and the commands go on with them.
-pub fn answer(
-    alloc: Global,
-    queue: &mut SendQueue,
-    sender: &mut RetransmissionQueue,
-    line: &Line<'_>,
-) -> Answer {
-    if line.name != "hand-over" {
-        return Answer::Unknown;
-    }
-    let mut state = SocketHandoverState::empty(alloc);
-    let answer = pass_on(alloc, queue, sender, line.first.moment(), &mut state);
-    drop(state);
-    answer
 }

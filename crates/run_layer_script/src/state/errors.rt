@@ -1,12 +1,13 @@
 //! `errors`: why calls fail, in words and by number. A command is the name of a call and of an error.
 
+use crate::answer::{Answer, Subject};
 use crate::output::Output;
-use crate::state::answer::{Answer, Subject};
 use crate::words::Line;
 use sctp_state::{
     BatchFault, BatchSendError, CallError, HandoverError, HandoverReadiness, ResetStreamsError,
     RestoreError, SendError,
 };
+use std::fmt::Display;
 
 #[derive(Clone, Copy)]
 pub struct Errors;
@@ -26,13 +27,27 @@ impl Subject for Errors {
     }
 }
 
+/// Why a call fails, and the number of that.
+fn show<T: Display>(error: &T, number: u8, output: &mut Output) -> Answer {
+    write!(output, ": {error} ({number})");
+    Answer::Text
+}
+
 /// `too-large LENGTH LIMIT`
 fn too_large(line: &Line<'_>, output: &mut Output) -> Answer {
     let error = SendError::MessageTooLarge {
         len: line.first.size,
         limit: line.second.size,
     };
-    output.show_error(&error, error.number())
+    show(&error, error.number(), output)
+}
+
+fn call(name: &str, output: &mut Output) -> Answer {
+    match name {
+        "memory" => show(&CallError::Memory, CallError::Memory as u8, output),
+        "failed" => show(&CallError::Failed, CallError::Failed as u8, output),
+        _ => Answer::Unknown,
+    }
 }
 
 fn send(name: &str, output: &mut Output) -> Answer {
@@ -44,34 +59,22 @@ fn send(name: &str, output: &mut Output) -> Answer {
         "failed" => SendError::Failed,
         _ => return Answer::Unknown,
     };
-    output.show_error(&error, error.number())
+    show(&error, error.number(), output)
 }
 
+/// `refused`: the second message of a batch is empty.
 fn batch(name: &str, output: &mut Output) -> Answer {
+    let mut errors = Vec::new(output.alloc);
+    output.note(errors.push((1, SendError::EmptyPayload)));
     let fault = match name {
-        "refused" => refused_batch(output),
+        "refused" => BatchFault::Refused(BatchSendError(errors)),
         "memory" => BatchFault::Memory,
         "failed" => BatchFault::Failed,
         _ => return Answer::Unknown,
     };
-    let answer = output.show_error(&fault, fault.number());
+    let answer = show(&fault, fault.number(), output);
     drop(fault);
     answer
-}
-
-/// The second message of a batch is empty.
-fn refused_batch(output: &mut Output) -> BatchFault {
-    let mut errors = Vec::new(output.alloc);
-    output.note(errors.push((1, SendError::EmptyPayload)));
-    BatchFault::Refused(BatchSendError(errors))
-}
-
-fn call(name: &str, output: &mut Output) -> Answer {
-    match name {
-        "memory" => output.show_error(&CallError::Memory, CallError::Memory as u8),
-        "failed" => output.show_error(&CallError::Failed, CallError::Failed as u8),
-        _ => Answer::Unknown,
-    }
 }
 
 fn reset(name: &str, output: &mut Output) -> Answer {
@@ -82,9 +85,8 @@ fn reset(name: &str, output: &mut Output) -> Answer {
         "failed" => ResetStreamsError::Failed,
         _ => return Answer::Unknown,
     };
-    output.show(&error);
-    output.fill(" (#)", &[error as u8 as u128]);
-    Answer::Done
+    write!(output, ": {error}");
+    output.text(" (#)", &[error as u8 as u128])
 }
 
 fn hand_over(name: &str, output: &mut Output) -> Answer {
@@ -94,7 +96,7 @@ fn hand_over(name: &str, output: &mut Output) -> Answer {
         "failed" => HandoverError::Failed,
         _ => return Answer::Unknown,
     };
-    output.show_error(&error, error.number())
+    show(&error, error.number(), output)
 }
 
 fn restore(name: &str, output: &mut Output) -> Answer {
@@ -105,7 +107,6 @@ fn restore(name: &str, output: &mut Output) -> Answer {
         "failed" => RestoreError::Failed,
         _ => return Answer::Unknown,
     };
-    output.show(&error);
-    output.fill(" (#)", &[error as u8 as u128]);
-    Answer::Done
+    write!(output, ": {error}");
+    output.text(" (#)", &[error as u8 as u128])
 }

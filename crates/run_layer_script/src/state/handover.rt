@@ -1,8 +1,9 @@
 //! `handover closed`, `handover connected`: which records a socket can take up; at first that of a closed socket, or of a
 //! connected one that has sent nothing.
 
+use crate::answer::{Answer, Subject, done};
 use crate::output::Output;
-use crate::state::answer::{Answer, Subject, run_commands};
+use crate::state::{show, show_bytes};
 use crate::words::{Line, bytes_of};
 use sctp_handover::{RecordFault, from_bytes, to_bytes};
 use sctp_state::SocketHandoverState;
@@ -10,23 +11,19 @@ use sctp_state::api::handover::{
     HandoverOrderedStream, HandoverOutgoingStream, HandoverOutstandingData, HandoverSocketState,
     HandoverStreamMessage, HandoverTransmission,
 };
-use std::alloc::{AllocError, Global};
+use std::alloc::Global;
 
-pub fn run(line: &Line<'_>, commands: &str, output: &mut Output) {
-    let mut state = SocketHandoverState::empty(output.alloc);
-    connect(&mut state, line.last);
-    run_commands(commands, output, &mut state);
-    drop(state);
-}
-
-fn connect(state: &mut SocketHandoverState, made_of: &str) {
-    if made_of == "connected" {
+/// The first record.
+pub fn record(alloc: Global, line: &Line<'_>) -> SocketHandoverState {
+    let mut state = SocketHandoverState::empty(alloc);
+    if line.last == "connected" {
         state.socket_state = HandoverSocketState::Connected;
         state.my_verification_tag = 1;
         state.peer_verification_tag = 2;
         state.tx.cwnd = 1191;
         state.tx.last_cumulative_tsn_ack = 4_294_967_295;
     }
+    state
 }
 
 impl Subject for SocketHandoverState {
@@ -34,17 +31,21 @@ impl Subject for SocketHandoverState {
     /// `interleaving FLAG`; `ordered STREAM NEXT`: a stream on which messages came; `ordered-count`; and what this end sends.
     fn obey(&mut self, line: &Line<'_>, output: &mut Output) -> Answer {
         match line.name {
-            "valid" => return Answer::Flag(self.is_valid()),
-            "written" => return output.show_made(to_bytes(output.alloc, self)),
+            "valid" => return Answer::Is(self.is_valid()),
+            "written" => {
+                let bytes = output.made(to_bytes(output.alloc, self));
+                return show_bytes(&bytes, output);
+            }
             "read" => return read(self, line.last, output),
             "peer-tag" => self.peer_verification_tag = line.first.word,
             "interleaving" => self.capabilities.message_interleaving = line.first.long == 1,
-            "ordered" => output.note(
-                self.rx.ordered_streams.push(HandoverOrderedStream {
+            "ordered" => {
+                let stream = HandoverOrderedStream {
                     id: line.first.half,
                     next_ssn: line.second.word,
-                }),
-            ),
+                };
+                return done(self.rx.ordered_streams.push(stream));
+            }
             "ordered-count" => return Answer::Number(self.rx.ordered_streams.len() as u128),
             _ => return send(&mut self.tx, line, output),
         }
@@ -61,8 +62,8 @@ fn read(state: &mut SocketHandoverState, digits: &str, output: &mut Output) -> A
             drop(std::mem::replace(state, read));
             Answer::Done
         }
-        Err(RecordFault::Memory) => output.done(Err(AllocError)),
-        Err(fault) => output.show(&fault),
+        Err(RecordFault::Memory) => Answer::NoMemory,
+        Err(fault) => show(&fault, output),
     }
 }
 
@@ -73,38 +74,30 @@ fn send(tx: &mut HandoverTransmission, line: &Line<'_>, output: &mut Output) -> 
         "next-tsn" => tx.next_tsn = line.first.word,
         "next-message" => tx.next_outgoing_message_id = line.first.long,
         "stream-count" => return Answer::Number(tx.streams.len() as u128),
-        "stream" => output.note(tx.streams.push(outgoing(line))),
-        "message" => add_message(&mut tx.queued_messages, line, output),
-        "acked" => output.note(tx.outstanding_data.push(acked(output.alloc))),
+        "stream" => {
+            let mut stream = HandoverOutgoingStream::default();
+            stream.id = line.first.half;
+            return done(tx.streams.push(stream));
+        }
+        "message" => {
+            let mut message = HandoverStreamMessage::empty(output.alloc);
+            message.stream_id = line.first.half;
+            message.message_id = line.second.long;
+            message.remaining_offset = line.third.size;
+            output.note(message.payload.extend_from_slice(&[1, 2, 3]));
+            return done(tx.queued_messages.push(message));
+        }
+        "acked" => {
+            let mut item = HandoverOutstandingData::empty(output.alloc);
+            item.acked = true;
+            return done(tx.outstanding_data.push(item));
+        }
         _ => return change_last(tx, line),
     }
     Answer::Done
 }
 
-fn outgoing(line: &Line<'_>) -> HandoverOutgoingStream {
-    HandoverOutgoingStream {
-        id: line.first.half,
-        ..HandoverOutgoingStream::default()
-    }
-}
-
-fn add_message(messages: &mut Vec<HandoverStreamMessage>, line: &Line<'_>, output: &mut Output) {
-    let mut message = HandoverStreamMessage::empty(output.alloc);
-    message.stream_id = line.first.half;
-    message.message_id = line.second.long;
-    message.remaining_offset = line.third.size;
-    output.note(message.payload.extend_from_slice(&[1, 2, 3]));
-    output.note(messages.push(message));
-}
-
-fn acked(alloc: Global) -> HandoverOutstandingData {
-    let mut item = HandoverOutstandingData::empty(alloc);
-    item.acked = true;
-    item
-}
-
-/// `abandoned FLAG`, `sent-later FLAG`: whether the message of the last fragment was given up, and whether that fragment was
-/// first sent after the handover. Or of the last queued message.
+/// Of the last fragment or of the last queued message.
 fn change_last(tx: &mut HandoverTransmission, line: &Line<'_>) -> Answer {
     match line.name {
         "abandoned" | "sent-later" => match tx.outstanding_data.last_mut() {
@@ -118,11 +111,11 @@ fn change_last(tx: &mut HandoverTransmission, line: &Line<'_>) -> Answer {
     }
 }
 
+/// `abandoned FLAG`, `sent-later FLAG`: whether its message was given up, and whether it was first sent after the handover.
 fn change_item(item: &mut HandoverOutstandingData, line: &Line<'_>) -> Answer {
-    let flag = line.first.long == 1;
     match line.name {
-        "abandoned" => item.is_abandoned = flag,
-        _ => item.time_since_sent_ms = if flag { -1 } else { 0 },
+        "abandoned" => item.is_abandoned = line.first.flag,
+        _ => item.time_since_sent_ms = if line.first.flag { -1 } else { 0 },
     }
     Answer::Done
 }

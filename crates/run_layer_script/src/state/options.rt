@@ -1,7 +1,7 @@
 //! `options`: what a socket is made with, and which of it is valid.
 
+use crate::answer::{Answer, Subject};
 use crate::output::Output;
-use crate::state::answer::{Answer, Subject};
 use crate::words::Line;
 use sctp_serial::{LifecycleId, ZeroChecksumAlternateErrorDetectionMethod};
 use sctp_state::Options;
@@ -11,35 +11,47 @@ impl Subject for Options {
     /// `valid`; `copy`; `send ID`: the options of a message, with this lifecycle; what can be shown, and what can be set.
     fn obey(&mut self, line: &Line<'_>, output: &mut Output) -> Answer {
         match line.name {
-            "valid" => Answer::Flag(self.is_valid()),
-            "copy" => copy(self, output),
-            "send" => send_options(line.first.long, output),
-            "sizes" => sizes(self, output),
-            "limits" => limits(self, output),
-            "windows" => windows(self, output),
-            "switches" => switches(self, output),
-            "fragments" => output.show_debug(": ", &self.max_held_fragments),
-            "timeouts" => timeouts(self, output),
-            "intervals" => intervals(self, output),
-            "stalls" => stalls(self, output),
-            _ => set_option(self, line),
+            "valid" => Answer::Is(self.is_valid()),
+            "copy" => copy(self),
+            "send" => show_send_options(line.first.long, output),
+            "sizes" => show_sizes(self, output),
+            "limits" => show_limits(self, output),
+            "windows" => show_windows(self, output),
+            _ => show_or_set(self, line, output),
         }
     }
 }
 
-fn copy(options: &mut Options, output: &mut Output) -> Answer {
+fn show_or_set(options: &mut Options, line: &Line<'_>, output: &mut Output) -> Answer {
+    match line.name {
+        "switches" => show_switches(options, output),
+        "fragments" => output.debug_text(": ", &options.max_held_fragments),
+        "timeouts" => show_timeouts(options, output),
+        "intervals" => show_intervals(options, output),
+        "stalls" => show_stalls(options, output),
+        _ => set_option(options, line),
+    }
+}
+
+fn copy(options: &mut Options) -> Answer {
     match laws::copy_of_options(options) {
         Ok(copy) => {
             *options = copy;
             Answer::Done
         }
-        Err(fault) => output.done(Err(fault)),
+        Err(_) => Answer::NoMemory,
     }
 }
 
-fn sizes(o: &Options, output: &mut Output) -> Answer {
-    output.show_numbers(
-        "local-port # remote-port # incoming # outgoing # mtu # message # priority #",
+fn show_send_options(id: u64, output: &mut Output) -> Answer {
+    let mut options = laws::plain_send_options();
+    options.lifecycle_id = LifecycleId::new(id);
+    output.debug_text(": ", &options)
+}
+
+fn show_sizes(o: &Options, output: &mut Output) -> Answer {
+    output.text(
+        ": local-port # remote-port # incoming # outgoing # mtu # message # priority #",
         &[
             o.local_port as u128,
             o.remote_port as u128,
@@ -52,9 +64,9 @@ fn sizes(o: &Options, output: &mut Output) -> Answer {
     )
 }
 
-fn limits(o: &Options, output: &mut Output) -> Answer {
-    output.show_numbers(
-        "receiver-window # send-buffer # stream-queue # total-low # stream-low #",
+fn show_limits(o: &Options, output: &mut Output) -> Answer {
+    output.text(
+        ": receiver-window # send-buffer # stream-queue # total-low # stream-low #",
         &[
             o.max_receiver_window_buffer_size as u128,
             o.max_send_buffer_size as u128,
@@ -65,9 +77,9 @@ fn limits(o: &Options, output: &mut Output) -> Answer {
     )
 }
 
-fn windows(o: &Options, output: &mut Output) -> Answer {
-    output.show_numbers(
-        "initial # least # no-fragments # immediate-sack #",
+fn show_windows(o: &Options, output: &mut Output) -> Answer {
+    output.fill(
+        ": initial # least # no-fragments # immediate-sack #",
         &[
             o.cwnd_mtus_initial as u128,
             o.cwnd_mtus_min as u128,
@@ -75,14 +87,14 @@ fn windows(o: &Options, output: &mut Output) -> Answer {
             o.immediate_sack_under_cwnd_mtus as u128,
         ],
     );
-    output.show_debug(" burst ", &o.max_burst);
-    output.show_debug(" retransmissions ", &o.max_retransmissions);
-    output.show_debug(" ", &o.max_init_retransmits)
+    output.debug_text(" burst ", &o.max_burst);
+    output.debug_text(" retransmissions ", &o.max_retransmissions);
+    output.debug_text(" ", &o.max_init_retransmits)
 }
 
-fn switches(o: &Options, output: &mut Output) -> Answer {
-    output.show_numbers(
-        "partial-reliability # interleaving # heartbeat-with-rtt # any-checksum # handover-with-data # method #",
+fn show_switches(o: &Options, output: &mut Output) -> Answer {
+    output.text(
+        ": partial-reliability # interleaving # heartbeat-with-rtt # any-checksum # handover-with-data # method #",
         &[
             o.enable_partial_reliability as u128,
             o.enable_message_interleaving as u128,
@@ -95,9 +107,9 @@ fn switches(o: &Options, output: &mut Output) -> Answer {
 }
 
 /// In milliseconds.
-fn timeouts(o: &Options, output: &mut Output) -> Answer {
-    output.show_numbers(
-        "rtt-most # rto-initial # rto-least # rto-most # t1-init # t1-cookie # t2-shutdown #",
+fn show_timeouts(o: &Options, output: &mut Output) -> Answer {
+    output.text(
+        ": rtt-most # rto-initial # rto-least # rto-most # t1-init # t1-cookie # t2-shutdown #",
         &[
             o.rtt_max.as_millis(),
             o.rto_initial.as_millis(),
@@ -111,9 +123,9 @@ fn timeouts(o: &Options, output: &mut Output) -> Answer {
 }
 
 /// In milliseconds.
-fn intervals(o: &Options, output: &mut Output) -> Answer {
-    output.show_numbers(
-        "backoff-is-bounded # heartbeat # delayed-ack # variance #",
+fn show_intervals(o: &Options, output: &mut Output) -> Answer {
+    output.text(
+        ": backoff-is-bounded # heartbeat # delayed-ack # variance #",
         &[
             o.max_timer_backoff_duration.is_some() as u128,
             o.heartbeat_interval.as_millis(),
@@ -124,17 +136,10 @@ fn intervals(o: &Options, output: &mut Output) -> Answer {
 }
 
 /// Whether they are avoided, and how many milliseconds timers wait at most.
-fn stalls(o: &Options, output: &mut Output) -> Answer {
-    output.push_str(": avoided ");
-    output.put(&o.avoid_stalls);
-    output.show_debug(" backoff ", &o.t3_backoff().map(|span| span.as_millis()));
-    output.show_debug(" ", &o.reconfig_backoff().map(|span| span.as_millis()))
-}
-
-fn send_options(id: u64, output: &mut Output) -> Answer {
-    let mut options = laws::plain_send_options();
-    options.lifecycle_id = LifecycleId::new(id);
-    output.show_debug(": ", &options)
+fn show_stalls(o: &Options, output: &mut Output) -> Answer {
+    output.debug_text(": avoided ", &o.avoid_stalls);
+    output.debug_text(" backoff ", &o.t3_backoff().map(|span| span.as_millis()));
+    output.debug_text(" ", &o.reconfig_backoff().map(|span| span.as_millis()))
 }
 
 /// Sets the option of the line's name.

@@ -3,8 +3,8 @@
 //!
 //! `timeout`: the retransmission timeout, by the samples of a round trip time.
 
+use crate::answer::{Answer, Subject};
 use crate::output::Output;
-use crate::state::answer::{Answer, Subject, run_commands};
 use crate::state::options::set_option;
 use crate::words::Line;
 use sctp_serial::SocketTime;
@@ -26,15 +26,15 @@ pub fn timer(line: &Line<'_>) -> Timer {
 }
 
 impl Subject for Timer {
-    /// `start MS`, `expire MS`, `duration MS`, `stop`, `running`, `next`, `lasts`, `expiries`, `backed MS MS`.
+    /// `start MS`, `duration MS`, `stop`, `expire MS`, `backed MS MS`.
     fn obey(&mut self, line: &Line<'_>, _output: &mut Output) -> Answer {
         let time = line.first.millis();
         let now = SocketTime::zero() + time;
         match line.name {
             "start" => self.start(now),
-            "expire" => return Answer::Flag(self.expire(now)),
             "duration" => self.set_duration(time),
             "stop" => self.stop(),
+            "expire" => return Answer::Is(self.expire(now)),
             "backed" => {
                 let span = self.backed_off_with(time, line.second.millis());
                 return Answer::Number(span.as_nanos());
@@ -45,37 +45,34 @@ impl Subject for Timer {
     }
 }
 
+/// `running`, `lasts`, `expiries`; `next`: the next expiry, in nanoseconds, "no" for the infinite future.
 fn ask(timer: &Timer, name: &str) -> Answer {
+    let next = timer.next_expiry();
     match name {
-        "running" => Answer::Flag(timer.is_running()),
-        "next" => next(timer),
+        "running" => Answer::Is(timer.is_running()),
         "lasts" => Answer::Number(timer.duration().as_nanos()),
         "expiries" => Answer::Number(timer.expiry_count() as u128),
+        "next" if next == SocketTime::infinite_future() => Answer::Nothing,
+        "next" => Answer::Number(next.as_nanos()),
         _ => Answer::Unknown,
     }
 }
 
-/// The next expiry, in nanoseconds; "no" for the infinite future.
-fn next(timer: &Timer) -> Answer {
-    let next = timer.next_expiry();
-    if next == SocketTime::infinite_future() {
-        return Answer::Flag(false);
-    }
-    Answer::Number(next.as_nanos())
-}
-
 /// The options that a timeout is made with, and the timeout.
 #[derive(Drop)]
-struct Estimate {
+pub struct Estimate {
     options: Options,
     timeout: RetransmissionTimeout,
 }
 
-pub fn run_timeout(commands: &str, output: &mut Output) {
-    let options = Options::default();
-    let timeout = RetransmissionTimeout::new(&options);
-    let mut estimate = Estimate { options, timeout };
-    run_commands(commands, output, &mut estimate);
+impl Estimate {
+    pub fn new() -> Estimate {
+        let options = Options::default();
+        Estimate {
+            options,
+            timeout: RetransmissionTimeout::new(&options),
+        }
+    }
 }
 
 impl Subject for Estimate {

@@ -1,9 +1,13 @@
 //! Packets, read and built again.
 
+use crate::answer::Answer;
 use crate::output::Output;
 use sctp_crc32c::crc32c_of;
-use sctp_packet::{Chunk, PacketView, RawChunk, SctpPacket, SctpPacketBuilder, chunk_fits};
-use sctp_wire::Policy;
+use sctp_packet::{
+    Chunk, PacketParseError, PacketView, RawChunk, SctpPacket, SctpPacketBuilder, chunk_fits,
+};
+use sctp_wire::{ChunkParseError, Policy};
+use std::alloc::Global;
 
 /// The greatest packet.
 const LIMIT: usize = 65535;
@@ -19,55 +23,69 @@ pub fn unchecked() -> Policy {
     }
 }
 
-/// The CRC32c of the bytes, and its own bytes as they are written.
-pub fn crc32c(output: &mut Output, bytes: &[u8]) {
-    let word = crc32c_of(bytes);
-    output.push_hex(&word.to_be_bytes());
-    output.push_str(" ");
-    output.hex_line(&word.to_le_bytes());
+pub fn answer(name: &str, bytes: &[u8], output: &mut Output) -> Answer {
+    match name {
+        "packet" => read(bytes, 0, &unchecked(), false, output),
+        "sum-0" => read(bytes, 0, &Policy::default(), false, output),
+        "sum-376" => read(bytes, 376, &Policy::default(), false, output),
+        "in-place" => look(bytes, output),
+        "crc32c" => {
+            let word = crc32c_of(bytes);
+            output.push_hex(&word.to_be_bytes());
+            output.push_str(" ");
+            output.hex_line(&word.to_le_bytes())
+        }
+        _ => read(bytes, 0, &unchecked(), true, output),
+    }
 }
 
-/// A packet whose bytes have the checksum `word`.
-pub fn read(output: &mut Output, bytes: &[u8], word: u32, policy: &Policy) {
+/// A packet whose bytes have the checksum `word`. Where it is asked for what was copied is compared with what is in place, too.
+pub fn read(
+    bytes: &[u8],
+    word: u32,
+    policy: &Policy,
+    is_compared: bool,
+    output: &mut Output,
+) -> Answer {
     match SctpPacket::from_bytes(output.alloc, bytes, word, policy) {
         Ok(packet) => {
-            show(output, &packet, bytes);
+            show(&packet, bytes, output);
+            if is_compared {
+                match is_alike(output.alloc, &packet.chunks, bytes) {
+                    Ok(alike) => writeln!(output, "in place alike: {alike}"),
+                    Err(fault) => {
+                        output.refuse(fault);
+                    }
+                }
+            }
             drop(packet);
+            Answer::Done
         }
         Err(fault) => output.refuse(fault),
     }
 }
 
 /// The chunks of a packet where they lie.
-pub fn look(output: &mut Output, bytes: &[u8], word: u32, policy: &Policy) {
-    match PacketView::new(bytes, word, policy) {
-        Ok(view) => walk(output, view),
-        Err(fault) => output.refuse(fault),
-    }
-}
-
-fn walk(output: &mut Output, mut view: PacketView<'_>) {
+fn look(bytes: &[u8], output: &mut Output) -> Answer {
+    let mut view = match PacketView::new(bytes, 0, &unchecked()) {
+        Ok(view) => view,
+        Err(fault) => return output.refuse(fault),
+    };
     for _ in 0..MOST_CHUNKS {
-        match view.next_chunk() {
-            Some(chunk) => show_chunk(output, chunk),
-            None => return,
+        let Some(chunk) = view.next_chunk() else {
+            return Answer::Done;
+        };
+        match chunk.data_view() {
+            Some(fragment) => output.debug_line(&fragment),
+            None => output.debug_line(&chunk),
         }
     }
-}
-
-fn show_chunk(output: &mut Output, chunk: RawChunk<'_>) {
-    match chunk.data_view() {
-        Some(fragment) => output.debug_line(&fragment),
-        None => output.debug_line(&chunk),
-    }
+    Answer::Done
 }
 
 /// What the packet's chunks say, and whether it is written alike.
-pub fn show(output: &mut Output, packet: &SctpPacket, bytes: &[u8]) {
+fn show(packet: &SctpPacket, bytes: &[u8], output: &mut Output) {
     output.fill("# chunks\n", &[packet.chunks.len() as u128]);
-    for chunk in &packet.chunks {
-        output.put_line(chunk);
-    }
     let header = packet.common_header;
     let mut builder = SctpPacketBuilder::new(
         output.alloc,
@@ -76,28 +94,18 @@ pub fn show(output: &mut Output, packet: &SctpPacket, bytes: &[u8]) {
         header.destination_port,
         LIMIT,
     );
-    add_all(output, &mut builder, &packet.chunks);
-    show_built(output, &mut builder, header.checksum, bytes);
-    drop(builder);
-}
-
-/// Whether what was built is these bytes.
-fn show_built(output: &mut Output, builder: &mut SctpPacketBuilder, checksum: u32, bytes: &[u8]) {
-    let room = builder.bytes_remaining();
-    let is_alike = is_padded_as(bytes, &builder.build(checksum));
-    output.push_str("written alike: ");
-    output.put(&is_alike);
-    output.fill(", room #\n", &[room as u128]);
-}
-
-/// Those that fit.
-fn add_all(output: &mut Output, builder: &mut SctpPacketBuilder, chunks: &[Chunk]) {
-    for chunk in chunks {
+    for chunk in &packet.chunks {
+        output.put_line(chunk);
         if builder.fits(chunk) {
             chunk_fits(chunk);
             output.note(builder.add(chunk));
         }
     }
+    let room = builder.bytes_remaining();
+    let again = builder.build(header.checksum);
+    drop(builder);
+    write!(output, "written alike: {}", is_padded_as(bytes, &again));
+    output.fill(", room #\n", &[room as u128]);
 }
 
 /// Whether it is the bytes, but for the zeros that bring it to a multiple of four.
@@ -105,5 +113,42 @@ fn is_padded_as(bytes: &[u8], again: &[u8]) -> bool {
     match again.strip_prefix(bytes) {
         Some(padding) => again.len() % 4 == 0 && matches!(padding, [] | [0] | [0, 0] | [0, 0, 0]),
         None => false,
+    }
+}
+
+/// Whether the chunks in place are these.
+fn is_alike(alloc: Global, chunks: &[Chunk], bytes: &[u8]) -> Result<bool, PacketParseError> {
+    let mut view = PacketView::new(bytes, 0, &unchecked())?;
+    for chunk in chunks {
+        if !is_same(alloc, chunk, view.next_chunk())? {
+            return Ok(false);
+        }
+    }
+    Ok(view.next_chunk().is_none())
+}
+
+/// Whether there is a chunk in place, and it is this one, as it is shown, with this payload.
+fn is_same(
+    alloc: Global,
+    chunk: &Chunk,
+    raw: Option<RawChunk<'_>>,
+) -> Result<bool, ChunkParseError> {
+    let Some(raw) = raw else {
+        return Ok(false);
+    };
+    let again = Chunk::try_from(alloc, raw)?;
+    let text = format!(in alloc; "{again}");
+    drop(again);
+    let text = text?;
+    Ok(text == format!(in alloc; "{chunk}")? && has_payload(chunk, raw))
+}
+
+/// Whether the payload in place is the one that was copied, where the chunk has one.
+fn has_payload(chunk: &Chunk, raw: RawChunk<'_>) -> bool {
+    match (chunk, raw.data_view()) {
+        (Chunk::Data(c), Some(fragment)) => fragment.payload == c.data.payload.as_slice(),
+        (Chunk::IData(c), Some(fragment)) => fragment.payload == c.data.payload.as_slice(),
+        (_, Some(_)) => false,
+        (_, None) => true,
     }
 }

@@ -1,56 +1,33 @@
 //! A conversation as rows, drawn.
 
+use crate::answer::Answer;
 use crate::output::Output;
-use crate::words::{bytes_of, cut};
+use crate::words::{Line, bytes_of, cut};
 use sctp_trace::{CaptureError, End, Row, What, capture, chart, ladder, packet_label};
-use std::alloc::AllocError;
 
-/// Whether the line was a row, or said how to draw those so far.
-pub fn answer(output: &mut Output, rows: &mut Vec<Row>, line: &str) -> bool {
-    draw(output, rows, line) || add_row(output, rows, line)
-}
-
-fn draw(output: &mut Output, rows: &[Row], format: &str) -> bool {
-    match format {
-        "ladder" => show(output, ladder(output.alloc, rows)),
-        "chart" => show(output, chart(output.alloc, rows)),
-        "pcap" => return show_capture(output, capture(output.alloc, rows)),
-        _ => return false,
-    }
-    true
-}
-
-fn show(output: &mut Output, drawing: Result<Vec<u8>, AllocError>) {
+/// Draws the rows so far.
+pub fn draw(rows: &[Row], format: &str, output: &mut Output) -> Answer {
+    let drawing = match format {
+        "ladder" => ladder(output.alloc, rows),
+        "chart" => chart(output.alloc, rows),
+        _ => match capture(output.alloc, rows) {
+            Ok(bytes) => return output.hex_line(&bytes),
+            Err(CaptureError::Memory) => return Answer::NoMemory,
+            Err(CaptureError::TooLong) => return Answer::Unknown,
+        },
+    };
     let bytes = output.made(drawing);
     output.push_str(str::from_utf8(&bytes).unwrap_or("?\n"));
+    Answer::Done
 }
 
-fn show_capture(output: &mut Output, capture: Result<Vec<u8>, CaptureError>) -> bool {
-    match capture {
-        Ok(bytes) => output.hex_line(&bytes),
-        Err(CaptureError::Memory) => output.note(Err(AllocError)),
-        Err(CaptureError::TooLong) => return false,
-    }
-    true
-}
-
-fn add_row(output: &mut Output, rows: &mut Vec<Row>, line: &str) -> bool {
-    match row_of(output, line) {
-        Some(row) => {
-            output.note(rows.push(row));
-            true
-        }
-        None => false,
-    }
-}
-
-fn row_of(output: &mut Output, line: &str) -> Option<Row> {
-    let (kind, rest) = line.split_once(' ')?;
-    let (end, rest) = rest.split_once(' ')?;
+/// The row that the line is, `None` where it has no such form.
+pub fn row_of(line: &Line<'_>, output: &mut Output) -> Option<Row> {
+    let (end, rest) = line.rest.split_once(' ')?;
     let (nanoseconds, rest) = rest.split_once(' ')?;
     let end = end_of(end)?;
     let nanoseconds = nanoseconds.parse::<u64>().ok()?;
-    let what = what_of(output, kind, rest)?;
+    let what = what_of(line.name, rest, output)?;
     Some(Row {
         end,
         nanoseconds,
@@ -66,20 +43,17 @@ fn end_of(word: &str) -> Option<End> {
     }
 }
 
-/// What the row shows, `None` where it has no such form.
-fn what_of(output: &mut Output, kind: &str, rest: &str) -> Option<What> {
+/// What the row shows.
+fn what_of(kind: &str, rest: &str, output: &mut Output) -> Option<What> {
     match kind {
-        "sent" => sent_of(output, rest),
+        "sent" => {
+            let (number, digits) = cut(rest, ' ');
+            let number = number.parse::<usize>().ok()?;
+            let bytes = bytes_of(digits, output)?;
+            let label = output.made_text(packet_label(output.alloc, &bytes));
+            Some(What::Sent(number, bytes, label))
+        }
         "given" => Some(What::Given(rest.parse::<usize>().ok()?)),
-        "note" => Some(What::Note(output.made_text(String::from_str(output.alloc, rest)))),
-        _ => None,
+        _ => Some(What::Note(output.made_text(String::from_str(output.alloc, rest)))),
     }
-}
-
-fn sent_of(output: &mut Output, rest: &str) -> Option<What> {
-    let (number, digits) = cut(rest, ' ');
-    let number = number.parse::<usize>().ok()?;
-    let bytes = bytes_of(digits, output)?;
-    let label = output.made_text(packet_label(output.alloc, &bytes));
-    Some(What::Sent(number, bytes, label))
 }

@@ -111,14 +111,11 @@ pub struct Options {
     pub disable_checksum_verification: bool,
     /// Whether a socket may be handed over while messages are queued or unacknowledged.
     pub enable_handover_with_outstanding_data: bool,
-    /// Whether the socket does what the RFCs ask where the original stands still, or loses; our own, and off by default. The next TSN is taken above
-    /// nine tenths of the window too, with room for `max_message_size` more (RFC 9260 section 6.2); a drop, and a window that opens again, is
-    /// told at once, and T3-rtx begins anew where the peer's opens (section 6.1); what is to be sent again goes before new fragments (section 6.1);
-    /// forward points that are due, and what a restored socket took up, are timed (RFC 3758 section 3.5, RFC 9260 section 6.3.2); where a burst
-    /// has one packet, each asks for an acknowledgement at once (RFC 7053); an end that connects takes its own cookie alone, nothing behind a
-    /// cookie that isn't taken (RFC 9260 sections 5.1.5, 5.2.4), and an ABORT (section 9.1); `shutdown` waits for the queue (section 9.2); T3-rtx
-    /// and the timer of reset requests back off to `rto_max` at most (section 6.3.3); and as an association ends what waits is given up, each
-    /// message with its record, and errors begin to count from 0 (section 8.1).
+    /// Whether the socket does what the RFCs ask where the original stands still, or loses; our own, and off by default. docs/DECISIONS.md lists
+    /// the places, among them: what was lost goes before what is new, acknowledgements are asked for and sent in time (RFC 9260 sections 6.1 and
+    /// 6.2, RFC 7053), what is due is timed, and timers back off to `rto_max` at most (section 6.3, RFC 3758 section 3.5), a cookie that is known to
+    /// be late is discarded (sections 5.1.5, 5.2.4), `shutdown` waits for the queue (section 9.2), and as an association ends what waits is given
+    /// up, each message with its record (section 8.1).
     pub avoid_stalls: bool,
 }
 

@@ -110,6 +110,7 @@ impl Item {
             state,
             sendings: u32::from(from.retransmission_count) + 1,
             reports: reports_in(state),
+            counts_from: 0,
             sent_at: moment_before(now, from.time_since_sent_ms),
         })
     }

@@ -10,8 +10,8 @@ returns c = record {
   message = λ message lifecycle is_interleaved x q s k sh p n i cause emitted here number lives.
       abandoned message lifecycle is_interleaved x emitted q p n s.outstanding.items emitted cause i here number lives (led_none message lifecycle is_interleaved x emitted q s.outstanding.items k sh);
   discards = λ message lifecycle is_interleaved x q s k sh emitted. discard_row message lifecycle is_interleaved x s q sh emitted;
-  losses = λ message lifecycle is_interleaved x q s k sh at_once fast n emitted.
-      losses message lifecycle is_interleaved x emitted q at_once fast n (first_step s.outstanding.items emitted) (led_none message lifecycle is_interleaved x emitted q s.outstanding.items k sh);
+  losses = λ message lifecycle is_interleaved x q s k sh indication fast n emitted.
+      losses message lifecycle is_interleaved x emitted q indication fast n (first_step s.outstanding.items emitted) (led_none message lifecycle is_interleaved x emitted q s.outstanding.items k sh);
   timeout = λ message lifecycle is_interleaved x q s k sh now emitted. timeout_row message lifecycle is_interleaved x q s k sh emitted now;
   lifetimes = λ message lifecycle is_interleaved x q s k sh now n emitted.
       lifetimes message lifecycle is_interleaved x emitted q now n (first_step s.outstanding.items emitted) (led_none message lifecycle is_interleaved x emitted q s.outstanding.items k sh);

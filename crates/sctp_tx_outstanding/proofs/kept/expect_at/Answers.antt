@@ -1,4 +1,4 @@
-use Rattle.std.proofs.Common.{◌≡◌, ◌≤◌, false, ◌∙◌, sym, rules, arith}
+use Rattle.std.proofs.Common.{◌≡◌, ◌≤◌, false, rules}
 use Rattle.sctp_tx_outstanding.specs.Item.{has_nack, or_never}
 use Rattle.sctp_tx_outstanding.proofs.ExpiriesLemmas.{expects_past, expects_next, expects_passed}
 use Rattle.sctp_tx_outstanding.proofs.kept.expect_at.Goals as goal

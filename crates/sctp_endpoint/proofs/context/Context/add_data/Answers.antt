@@ -14,16 +14,16 @@ returns-then-is_idle-clause-ok g c =
 pub returns-then-not-is_sent-clause-ok : goal.returns-then-not-is_sent-clause-ok
 returns-then-not-is_sent-clause-ok g c =
     let said = c.in_ok-is_sent.ensures in
-    data_added g.C.Checksum.word_of c.args.packet.now c.args.tcb.now _ c.args.self.now c.bytes_remaining-room.result c.cwnd.result c.immediate_sack_cwnd.result
+    data_added g.C.Checksum.word_of c.args.packet.now c.args.tcb.now _ c.args.self.now c.bytes_remaining-room.result c.asks_at_once.result
     c.send_into.new.packet c.send_into.new.self _ c.send_into.new.queue c.send_into.new.events c.in_ok-is_sent.is_sent false c.self.view_is
-    c.bytes_remaining-room.ensures.room c.cwnd.ensures c.immediate_sack_cwnd.ensures said.packet said.sender said.queue said.emitted said.sent said.flight.cwnd c.if-not-is_sent.true refl
+    c.bytes_remaining-room.ensures.room c.asks_at_once.ensures said.packet said.sender said.queue said.emitted said.sent c.if-not-is_sent.true refl
 
 pub returns-clause-ok : goal.returns-clause-ok
 returns-clause-ok g c =
     let said = c.in_ok-is_sent.ensures in
-    data_added g.C.Checksum.word_of c.args.packet.now c.args.tcb.now _ c.args.self.now c.bytes_remaining-room.result c.cwnd.result c.immediate_sack_cwnd.result
+    data_added g.C.Checksum.word_of c.args.packet.now c.args.tcb.now _ c.args.self.now c.bytes_remaining-room.result c.asks_at_once.result
     c.send_into.new.packet c.send_into.new.self _ c.send_into.new.queue c.send_into.new.events c.in_ok-is_sent.is_sent true c.self.view_is
-    c.bytes_remaining-room.ensures.room c.cwnd.ensures c.immediate_sack_cwnd.ensures said.packet said.sender said.queue said.emitted said.sent said.flight.cwnd c.if-not-is_sent.false c.restart_heartbeat_interval.ensures.ok
+    c.bytes_remaining-room.ensures.room c.asks_at_once.ensures said.packet said.sender said.queue said.emitted said.sent c.if-not-is_sent.false c.restart_heartbeat_interval.ensures.ok
 
 pub returns-in_err-is_sent-clause-goes_on : goal.returns-in_err-is_sent-clause-goes_on
 returns-in_err-is_sent-clause-goes_on g c =

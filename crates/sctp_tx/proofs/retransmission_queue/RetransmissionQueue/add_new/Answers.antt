@@ -66,7 +66,7 @@ returns-then-not-can_send_data-clause-more g c = (full g c).more
 -- the queue gave no fragment
 none : (g : _) (c : goal.In_default g)
     → Gives (next_turn c.args.opportunity.now (filling c.args.self.now c.args.queue.now c.args.events.now [] c.args.opportunity.max_bytes))
-    (record { outstanding = c.self.inside.outstanding; windows = c.self.inside.windows; t3 = c.self.inside.t3_rtx; rtx_packets = c.self.inside.rtx_packets_count; rtx_bytes = c.self.inside.rtx_bytes_count })
+    (record { outstanding = c.self.inside.outstanding; windows = c.self.inside.windows; t3 = c.self.inside.t3_rtx; rtx_packets = c.self.inside.rtx_packets_count; rtx_bytes = c.self.inside.rtx_bytes_count; is_sampled = c.self.inside.is_sampled })
     c.produce_in.new.self c.produce_in.new.events [] c.args.opportunity.max_bytes false
 none g c =
     let some : 0 < c.offered-max_payload.result = omega (arith, c.if-max_payload-eq0.false) in
@@ -127,6 +127,7 @@ returns-in_err-fragment-clause-err g c =
       t3 = c.self.inside.t3_rtx;
       rtx_packets = c.self.inside.rtx_packets_count;
       rtx_bytes = c.self.inside.rtx_bytes_count;
+      is_sampled = c.self.inside.is_sampled;
     } in
     on_err _ (TurnStopped c.args.opportunity.now x after c.produce_in.new.self c.produce_in.new.events) (record { may_send = sym c.if-not-can_send_data.ensures; room = some; stopped = inl (record { sender = c.self.view_is; queue = rw c.offered-max_payload.ensures.size at c.in_err-fragment.ensures.err }) })
 

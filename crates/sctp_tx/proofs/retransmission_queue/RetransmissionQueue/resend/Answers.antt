@@ -42,7 +42,7 @@ returns-then-not-has_data_to_be_retransmitted-clause-bytes g c =
 
 pub returns-in_err-chunks-clause-err : goal.returns-in_err-chunks-clause-err
 returns-in_err-chunks-clause-err g c =
-    let v : Sender = record { outstanding = c.self.inside.outstanding; windows = c.self.inside.windows; t3 = c.self.inside.t3_rtx; rtx_packets = c.self.inside.rtx_packets_count; rtx_bytes = c.self.inside.rtx_bytes_count } in
+    let v : Sender = record { outstanding = c.self.inside.outstanding; windows = c.self.inside.windows; t3 = c.self.inside.t3_rtx; rtx_packets = c.self.inside.rtx_packets_count; rtx_bytes = c.self.inside.rtx_bytes_count; is_sampled = c.self.inside.is_sampled } in
     let room : c.min-room.result ≡ min c.args.max_bytes (v.windows.cwnd - flight v) = search rules in
     let some : SomeResent false (empty_packet c.min-room.result v.windows.rwnd v.outstanding) c.get_chunks_to_be_retransmitted.new.self =
     subst (λ (n : ℕ). SomeResent false (empty_packet c.min-room.result n v.outstanding) c.get_chunks_to_be_retransmitted.new.self) c.rwnd-rwnd.ensures c.in_err-chunks.ensures.err in
@@ -54,7 +54,7 @@ returns-in_err-chunks-clause-err g c =
 -- all of them were
 pub returns-in_err-take_each-clause-err : goal.returns-in_err-take_each-clause-err
 returns-in_err-take_each-clause-err g c =
-    let v : Sender = record { outstanding = c.self.inside.outstanding; windows = c.self.inside.windows; t3 = c.self.inside.t3_rtx; rtx_packets = c.self.inside.rtx_packets_count; rtx_bytes = c.self.inside.rtx_bytes_count } in
+    let v : Sender = record { outstanding = c.self.inside.outstanding; windows = c.self.inside.windows; t3 = c.self.inside.t3_rtx; rtx_packets = c.self.inside.rtx_packets_count; rtx_bytes = c.self.inside.rtx_bytes_count; is_sampled = c.self.inside.is_sampled } in
     let room : c.min-room.result ≡ min c.args.max_bytes (v.windows.cwnd - flight v) = search rules in
     let all : SomeResent false (empty_packet c.min-room.result v.windows.rwnd v.outstanding) c.get_chunks_to_be_retransmitted.new.self =
     subst (λ (n : ℕ). SomeResent false (empty_packet c.min-room.result n v.outstanding) c.get_chunks_to_be_retransmitted.new.self) c.rwnd-rwnd.ensures (length v.outstanding.items.kept, c.in_ok-chunks.ensures.items) in

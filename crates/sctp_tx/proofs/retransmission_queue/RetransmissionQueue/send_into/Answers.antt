@@ -15,15 +15,15 @@ use Rattle.sctp_tx.proofs.retransmission_queue.RetransmissionQueue.send_into.Goa
 
 -- ---- what several answers cite
 
-is : (g : Over) (c : goal.After-run_if g) → (let v : Sender = record { outstanding = c.self.inside.outstanding; windows = c.self.inside.windows; t3 = c.self.inside.t3_rtx; rtx_packets = c.self.inside.rtx_packets_count; rtx_bytes = c.self.inside.rtx_bytes_count } in record v { outstanding = c.discard_all.new.outstanding }) ≡ without_discards c.args.self.now
+is : (g : Over) (c : goal.After-run_if g) → (let v : Sender = record { outstanding = c.self.inside.outstanding; windows = c.self.inside.windows; t3 = c.self.inside.t3_rtx; rtx_packets = c.self.inside.rtx_packets_count; rtx_bytes = c.self.inside.rtx_bytes_count; is_sampled = c.self.inside.is_sampled } in record v { outstanding = c.discard_all.new.outstanding }) ≡ without_discards c.args.self.now
 is g c =
-    let v : Sender = record { outstanding = c.self.inside.outstanding; windows = c.self.inside.windows; t3 = c.self.inside.t3_rtx; rtx_packets = c.self.inside.rtx_packets_count; rtx_bytes = c.self.inside.rtx_bytes_count } in
+    let v : Sender = record { outstanding = c.self.inside.outstanding; windows = c.self.inside.windows; t3 = c.self.inside.t3_rtx; rtx_packets = c.self.inside.rtx_packets_count; rtx_bytes = c.self.inside.rtx_bytes_count; is_sampled = c.self.inside.is_sampled } in
     discarded_is c.args.opportunity.now c.args.opportunity.max_bytes c.args.self.now c.args.queue.now c.args.events.now v c.discard_all.new.outstanding c.self.view_is c.in_ok-discard_all.ensures.items
 
 start : (g : Over) (c : goal.After-run_if g) → filling c.resend.new.self c.discard_all.new.queue c.discard_all.new.events (begun c.args.opportunity.now c.args.opportunity.max_bytes c.args.self.now c.args.queue.now c.args.events.now).chunks c.saturating_sub-left.result
     ≡ begun c.args.opportunity.now c.args.opportunity.max_bytes c.args.self.now c.args.queue.now c.args.events.now
 start g c =
-    let v : Sender = record { outstanding = c.self.inside.outstanding; windows = c.self.inside.windows; t3 = c.self.inside.t3_rtx; rtx_packets = c.self.inside.rtx_packets_count; rtx_bytes = c.self.inside.rtx_bytes_count } in
+    let v : Sender = record { outstanding = c.self.inside.outstanding; windows = c.self.inside.windows; t3 = c.self.inside.t3_rtx; rtx_packets = c.self.inside.rtx_packets_count; rtx_bytes = c.self.inside.rtx_bytes_count; is_sampled = c.self.inside.is_sampled } in
     begun_is c.args.opportunity.now c.args.opportunity.max_bytes c.args.self.now c.args.queue.now c.args.events.now v c.discard_all.new.outstanding c.self.view_is c.in_ok-discard_all.ensures.items
     c.discard_all.new.queue c.discard_all.new.events c.in_ok-discard_all.ensures.queue c.in_ok-discard_all.ensures.emitted
     c.resend.new.self c.in_ok-is_again.bytes c.saturating_sub-left.result c.in_ok-is_again.ensures.sender c.in_ok-is_again.ensures.bytes c.saturating_sub-left.ensures
@@ -75,7 +75,7 @@ returns-clause-flight g c =
 
 pub returns-in_err-discard_all-clause-err : goal.returns-in_err-discard_all-clause-err
 returns-in_err-discard_all-clause-err g c =
-    let v : Sender = record { outstanding = c.self.inside.outstanding; windows = c.self.inside.windows; t3 = c.self.inside.t3_rtx; rtx_packets = c.self.inside.rtx_packets_count; rtx_bytes = c.self.inside.rtx_bytes_count } in
+    let v : Sender = record { outstanding = c.self.inside.outstanding; windows = c.self.inside.windows; t3 = c.self.inside.t3_rtx; rtx_packets = c.self.inside.rtx_packets_count; rtx_bytes = c.self.inside.rtx_bytes_count; is_sampled = c.self.inside.is_sampled } in
     let new = c.discard_all.new in
     let x : Sender = record v { outstanding = new.outstanding } in
     let of_v = stopped_discarding c.args.opportunity.now c.args.opportunity.max_bytes v c.args.queue.now c.args.events.now x new.queue new.events new.outstanding refl c.in_err-discard_all.ensures.err in
@@ -85,14 +85,14 @@ returns-in_err-discard_all-clause-err g c =
 
 pub returns-in_err-is_again-clause-err : goal.returns-in_err-is_again-clause-err
 returns-in_err-is_again-clause-err g c =
-    let v : Sender = record { outstanding = c.self.inside.outstanding; windows = c.self.inside.windows; t3 = c.self.inside.t3_rtx; rtx_packets = c.self.inside.rtx_packets_count; rtx_bytes = c.self.inside.rtx_bytes_count } in
+    let v : Sender = record { outstanding = c.self.inside.outstanding; windows = c.self.inside.windows; t3 = c.self.inside.t3_rtx; rtx_packets = c.self.inside.rtx_packets_count; rtx_bytes = c.self.inside.rtx_bytes_count; is_sampled = c.self.inside.is_sampled } in
     let old = discarded_is c.args.opportunity.now c.args.opportunity.max_bytes c.args.self.now c.args.queue.now c.args.events.now v c.discard_all.new.outstanding c.self.view_is c.in_ok-discard_all.ensures.items in
     let gone : Stands (discard_all c.args.self.now.outstanding.items.discards c.args.queue.now c.args.events.now) c.discard_all.new.queue c.discard_all.new.events = search rules in
     on_err _ _ (stopped_resending c.args.opportunity.now c.args.opportunity.max_bytes c.args.self.now c.args.queue.now c.args.events.now c.resend.new.self c.discard_all.new.queue c.discard_all.new.events _ old c.in_err-is_again.ensures.err gone)
 
 pub returns-in_err-is_new-clause-err : goal.returns-in_err-is_new-clause-err
 returns-in_err-is_new-clause-err g c =
-    let v : Sender = record { outstanding = c.self.inside.outstanding; windows = c.self.inside.windows; t3 = c.self.inside.t3_rtx; rtx_packets = c.self.inside.rtx_packets_count; rtx_bytes = c.self.inside.rtx_bytes_count } in
+    let v : Sender = record { outstanding = c.self.inside.outstanding; windows = c.self.inside.windows; t3 = c.self.inside.t3_rtx; rtx_packets = c.self.inside.rtx_packets_count; rtx_bytes = c.self.inside.rtx_bytes_count; is_sampled = c.self.inside.is_sampled } in
     let start = begun_is c.args.opportunity.now c.args.opportunity.max_bytes c.args.self.now c.args.queue.now c.args.events.now v c.discard_all.new.outstanding c.self.view_is c.in_ok-discard_all.ensures.items
     c.discard_all.new.queue c.discard_all.new.events c.in_ok-discard_all.ensures.queue c.in_ok-discard_all.ensures.emitted
     c.resend.new.self c.in_ok-is_again.bytes c.saturating_sub-left.result c.in_ok-is_again.ensures.sender c.in_ok-is_again.ensures.bytes c.saturating_sub-left.ensures in

@@ -1,4 +1,4 @@
-use Rattle.std.proofs.Common.{◌≡◌, ◌≤◌, ◌+◌, ◌-◌, false}
+use Rattle.std.proofs.Common.{◌≡◌, ◌≤◌, ◌+◌, ◌-◌}
 use Rattle.sctp_tx_outstanding.specs.Losses.{first_step, nack_below}
 use Rattle.sctp_tx_outstanding.specs.LastBlocks.{Rest}
 use Rattle.sctp_tx_outstanding.specs.Passes.{IsWalk}
@@ -8,10 +8,10 @@ abbrev pub invariant-loop-place : goal.invariant-loop-place
 invariant-loop-place l = record {
   within : l.place ≤ l.count;
   cursor : IsWalk l.are_in_order l.blocks (l.place + 1) l.from;
-  items : l.self ≡ record l.initial.self { items = (nack_below false l.fast l.place (first_step l.initial.self.items l.initial.events)).items };
-  emitted : l.events ≡ (nack_below false l.fast l.place (first_step l.initial.self.items l.initial.events)).emitted;
-  lossy : l.is_lossy ≡ (nack_below false l.fast l.place (first_step l.initial.self.items l.initial.events)).is_lossy;
-  rest : Rest l.blocks 1 (nack_below false l.fast l.place (first_step l.initial.self.items l.initial.events)).items.kept;
+  items : l.self ≡ record l.initial.self { items = (nack_below l.indication l.fast l.place (first_step l.initial.self.items l.initial.events)).items };
+  emitted : l.events ≡ (nack_below l.indication l.fast l.place (first_step l.initial.self.items l.initial.events)).emitted;
+  lossy : l.is_lossy ≡ (nack_below l.indication l.fast l.place (first_step l.initial.self.items l.initial.events)).is_lossy;
+  rest : Rest l.blocks 1 (nack_below l.indication l.fast l.place (first_step l.initial.self.items l.initial.events)).items.kept;
 }
 
 abbrev pub decreases-loop-place : goal.decreases-loop-place
