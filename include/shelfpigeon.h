@@ -85,7 +85,7 @@ enum {
     PIGEON_NO_ROOM = 17,       /* too little memory to begin with: but by pigeon_handover nothing changed, and the call may be made again */
     PIGEON_SOME_REFUSED = 18,  /* some messages of a batch weren't accepted; the others were */
     PIGEON_NOT_CLOSED = 19,    /* only a closed socket takes up a record */
-    PIGEON_INVALID_STATE = 20, /* the bytes are no record, or one that no socket could have written */
+    PIGEON_INVALID_STATE = 20, /* the bytes are no record, or not a valid one */
     PIGEON_INVALID_SIZE = 21,  /* the size of a struct is beyond what this library knows */
     PIGEON_NO_PACKET = 22,       /* the bytes are no packet */
     PIGEON_NO_CHANNELS = 23,     /* the socket has no data channels: pigeon_channels_start */
@@ -135,53 +135,55 @@ enum {
     PIGEON_AVOID_STALLS = 32                    /* what the RFCs ask, where the original stands still or loses; set by pigeon_options_for_webrtc */
 };
 
-/* What a socket is made with. Spans are in nanoseconds, sizes in bytes, windows in packets of the largest size. A field without bounds takes
- * each number of its type. */
+/* What a socket is made with. Spans are in nanoseconds, sizes in bytes, congestion windows in packets of mtu bytes. A field without bounds takes each
+ * number of its type. In brackets stands what pigeon_default_options writes. */
 typedef struct pigeon_options {
     size_t size; /* sizeof(pigeon_options) */
-    uint16_t local_port; /* ports are written into packets, and not compared in those that come */
-    uint16_t remote_port;
-    uint16_t announced_maximum_incoming_streams;
-    uint16_t announced_maximum_outgoing_streams;
-    uint16_t default_stream_priority;
-    /* PIGEON_CHECKSUM_ZERO: all packets carry the word 0, the INIT too, and one with a CRC32c is refused, so that both ends need it. RFC 9653 is
-     * PIGEON_CHECKSUM_CRC32C with a zero_checksum_method. */
+    uint16_t local_port;  /* [5000] ports are written into packets, and not compared in those that come */
+    uint16_t remote_port; /* [5000] */
+    uint16_t announced_maximum_incoming_streams; /* [65,535] how many streams the peer may send on */
+    uint16_t announced_maximum_outgoing_streams; /* [65,535] how many streams this end would send on */
+    uint16_t default_stream_priority;            /* [256] of a stream for which none is set */
+    /* [PIGEON_CHECKSUM_CRC32C] PIGEON_CHECKSUM_ZERO: all packets carry the word 0, the INIT too, and one with a CRC32c is refused, so that both
+     * ends need it. RFC 9653 is PIGEON_CHECKSUM_CRC32C with a zero_checksum_method. */
     uint16_t checksum;
-    uint32_t mtu;              /* 256 to 65,535: no packet that is emitted is larger */
-    uint32_t max_message_size; /* of messages that are sent; it bounds none that the peer sends */
-    /* How much of what is received is held. With nine tenths of it held each further fragment is dropped, so that a longer message may never be
-     * whole: take at least twice the longest that the peer may send. At 0 and 1 nothing is taken. With PIGEON_AVOID_STALLS the next fragment in
-     * order is taken all the same, while less than this and max_message_size together is held. */
+    uint32_t mtu;              /* [1,191] 256 to 65,535: no packet that is emitted is larger */
+    uint32_t max_message_size; /* [262,144] of messages that are sent; it bounds none that the peer sends */
+    /* [5,242,880] How much of what is received is held. With nine tenths of it held each further fragment is dropped, so that a longer message
+     * may never be whole: take at least twice the longest that the peer may send. At 0 and 1 nothing is taken. With PIGEON_AVOID_STALLS the next
+     * fragment in order is taken all the same, while less than this and max_message_size together is held. */
     uint32_t max_receiver_window_buffer_size;
-    uint32_t max_send_buffer_size;
-    uint32_t per_stream_send_queue_limit;
-    uint32_t total_buffered_amount_low_threshold;
-    uint32_t default_stream_buffered_amount_low_threshold;
-    uint32_t cwnd_mtus_initial;              /* 1 to 65,535 */
-    uint32_t cwnd_mtus_min;                  /* 1 to 65,535 */
-    uint32_t avoid_fragmentation_cwnd_mtus;  /* 1 to 65,535 */
-    uint32_t immediate_sack_under_cwnd_mtus; /* at most 65,535 */
-    int32_t max_burst; /* packets at once. 0 and less are valid: then no COOKIE ECHO, COOKIE ACK, SACK or message ever goes out */
-    uint32_t max_retransmissions;
-    uint32_t max_init_retransmits;
-    /* Announced to the peer (RFC 9653 section 4), any number. Where it isn't PIGEON_ZERO_CHECKSUM_NONE packets that come may carry the word 0, and
-     * own ones do once the peer has announced the same number. */
+    uint32_t max_send_buffer_size;        /* [2,000,000] with as much queued on all streams no further message is taken */
+    uint32_t per_stream_send_queue_limit; /* [2,000,000] the same of one stream */
+    uint32_t total_buffered_amount_low_threshold;          /* [1,800,000] of PIGEON_TOTAL_BUFFERED_AMOUNT_LOW */
+    uint32_t default_stream_buffered_amount_low_threshold; /* [0] of PIGEON_BUFFERED_AMOUNT_LOW, for a stream for which none is set */
+    uint32_t cwnd_mtus_initial;              /* [10] the congestion window at first. 1 to 65,535 */
+    uint32_t cwnd_mtus_min;                  /* [4] the least one behind a loss; behind a timeout it is 1. 1 to 65,535 */
+    uint32_t avoid_fragmentation_cwnd_mtus;  /* [6] from such a window on new data waits for room for a whole packet. 1 to 65,535 */
+    uint32_t immediate_sack_under_cwnd_mtus; /* [10] below it data asks for an acknowledgement at once (RFC 7053). At most 65,535 */
+    int32_t max_burst; /* [4] packets at once. 0 and less are valid: then no COOKIE ECHO, COOKIE ACK, SACK or message ever goes out */
+    uint32_t max_retransmissions;  /* [10] how many errors in a row an association outlives, and how often a SHUTDOWN is sent again */
+    uint32_t max_init_retransmits; /* [8] how often an INIT or a COOKIE ECHO is sent again */
+    /* [PIGEON_ZERO_CHECKSUM_NONE] Announced to the peer (RFC 9653 section 4), any number. With another one packets that come may carry the word 0,
+     * and own ones do once the peer has announced the same number. */
     uint32_t zero_checksum_method;
-    uint32_t flags; /* a sum of the flags above, of no others */
-    /* How many fragments are held of messages that aren't ready, by default PIGEON_UNLIMITED. With so many held each further one is dropped, so
+    uint32_t flags; /* [PIGEON_PARTIAL_RELIABILITY, and 16, which isn't read] a sum of the flags above, of no others */
+    /* [PIGEON_UNLIMITED] How many fragments are held of messages that aren't ready. With so many held each further one is dropped, so
      * that a message of more may never be whole: take at least twice as many as the longest that the peer may send has. At 0 nothing is taken. */
     uint32_t max_held_fragments;
-    uint64_t rtt_max;
-    uint64_t rto_initial;         /* at least a millisecond */
-    uint64_t rto_max;             /* at least rto_min; timers back off beyond it; with PIGEON_AVOID_STALLS those of data and of resets don't */
-    uint64_t rto_min;             /* at least a millisecond */
-    uint64_t t1_init_timeout;     /* at least a millisecond */
-    uint64_t t1_cookie_timeout;   /* at least a millisecond */
-    uint64_t t2_shutdown_timeout; /* NOT READ: a shutdown waits for the retransmission timeout */
-    uint64_t max_timer_backoff_duration; /* the longest wait of the retransmission timer; with PIGEON_UNSET it doubles up to a day, or as above */
-    uint64_t heartbeat_interval;         /* none are sent at 0 */
-    uint64_t delayed_ack_max_timeout;    /* at least a millisecond */
-    uint64_t min_rtt_variance;
+    uint64_t rtt_max;             /* [60 s] a longer round trip isn't counted */
+    uint64_t rto_initial;         /* [500 ms] the retransmission timeout until a round trip is measured. At least a millisecond */
+    uint64_t rto_max;             /* [60 s] the longest one, at least rto_min; timers back off beyond it; with PIGEON_AVOID_STALLS those of data and
+                                     of resets don't */
+    uint64_t rto_min;             /* [400 ms] the shortest one; it should exceed the peer's delay of acknowledgements. At least a millisecond */
+    uint64_t t1_init_timeout;     /* [1 s] how long an INIT ACK is waited for at first. At least a millisecond */
+    uint64_t t1_cookie_timeout;   /* [1 s] the same of a COOKIE ACK. At least a millisecond */
+    uint64_t t2_shutdown_timeout; /* [1 s] NOT READ: a shutdown waits for the retransmission timeout */
+    uint64_t max_timer_backoff_duration; /* [PIGEON_UNSET] the longest wait of the retransmission timer. With PIGEON_UNSET it doubles up to a day; with
+                                            PIGEON_AVOID_STALLS, set or not, it is never above rto_max */
+    uint64_t heartbeat_interval;         /* [30 s] how long no data is sent until the peer is asked whether it is there; never at 0 */
+    uint64_t delayed_ack_max_timeout;    /* [200 ms] how long an acknowledgement may wait, half the retransmission timeout at most. 1 ms or more */
+    uint64_t min_rtt_variance;           /* [220 ms] eight times the least variance that a round trip is taken to have */
 } pigeon_options;
 
 /* An initializer: with the size alone. All else is written by pigeon_default_options or pigeon_options_for_webrtc. */
@@ -195,10 +197,11 @@ typedef struct pigeon_options {
 uint32_t pigeon_default_options_sized(void *options, size_t size);
 static inline uint32_t pigeon_default_options(pigeon_options *options) { return pigeon_default_options_sized(options, options->size); }
 
-/* Writes the options of data channels (RFC 8831), which differ from the defaults in four: DTLS finds damage, where the peer says so too
- * (RFC 9653); the window is twice the largest message of 262,144 bytes; on each stream 16 MiB may wait, and as much as is offered in all; and
- * PIGEON_AVOID_STALLS is set. The mtu of 1,191 leaves room for DTLS and UDP, there are 65,535 streams each way. With another largest message set
- * max_message_size, and the window to twice what the peer may send. PIGEON_INVALID_SIZE. */
+/* Writes the options of data channels (RFC 8831), which differ from the defaults in five: DTLS finds damage, where the peer says so too
+ * (RFC 9653); the window is twice the largest message of 262,144 bytes; 65,536 fragments are held at most; on each stream 16 MiB may wait, and as
+ * much as is offered in all; and PIGEON_AVOID_STALLS is set. The mtu of 1,191 leaves room for DTLS and UDP, there are 65,535 streams each way. With
+ * another largest message set max_message_size, the window to twice what the peer may send, and max_held_fragments, where that has more than
+ * 32,768 fragments, to twice as many. PIGEON_INVALID_SIZE. */
 uint32_t pigeon_options_for_webrtc_sized(void *options, size_t size);
 static inline uint32_t pigeon_options_for_webrtc(pigeon_options *options) { return pigeon_options_for_webrtc_sized(options, options->size); }
 
@@ -235,9 +238,9 @@ uint32_t pigeon_connect(pigeon_socket *socket);
  * sent again, is waited for with PIGEON_AVOID_STALLS alone, and else may be lost: wait until pigeon_is_at_rest says 1. A closed socket stays as
  * it is. Call it behind PIGEON_ON_CONNECTED: before, the socket closes at once, or sends its COOKIE ECHO no more. Advance the time first. */
 uint32_t pigeon_shutdown(pigeon_socket *socket);
-/* Ends the association at once, with an ABORT to the peer (RFC 9260 section 9.1). Without PIGEON_AVOID_STALLS the send queue stays, here and
- * where the peer aborts: what it holds goes to the peer of the next association, a partly sent message from its start, but from its middle at an
- * end that answers the peer's COOKIE ECHO. With it each message is given up, as PIGEON_CAUSE_ENDED. */
+/* Ends the association at once, with an ABORT to the peer unless its INIT ACK is still waited for (RFC 9260 section 9.1). Without PIGEON_AVOID_STALLS
+ * the send queue stays, here and where the peer aborts: what it holds goes to the peer of the next association, a partly sent message from its
+ * start, but from its middle at an end that answers the peer's COOKIE ECHO. With it each message is given up, as PIGEON_CAUSE_ENDED. */
 uint32_t pigeon_close(pigeon_socket *socket);
 /* Takes the bytes of a packet that came. What is no packet, not one for this association, or one of more than 4 SACKs and COOKIE ECHOs, is emitted
  * as an error. Advance the time first: a round trip ends at the moment of the clock. */
@@ -245,8 +248,8 @@ uint32_t pigeon_handle_input(pigeon_socket *socket, const uint8_t *bytes, size_t
 /* Advances the time, in nanoseconds since the socket was made, and expires timers. It comes before the other calls of a turn: with a clock that
  * is late they measure wrong round trips, and what was sent goes out again at once. An earlier moment than the last one changes nothing. */
 uint32_t pigeon_advance_time(pigeon_socket *socket, uint64_t nanos);
-/* By which moment the time is to be advanced next: UINT64_MAX where no timer runs and nothing is owed. Ask last in a turn, and not a socket that
- * answered PIGEON_MEMORY: no call moves its timers any more. */
+/* By which moment the time is to be advanced next, in nanoseconds since the socket was made: the wait is this less now. UINT64_MAX: no timer runs
+ * and nothing is owed. Ask last in a turn, and not a socket that answered PIGEON_MEMORY: no call moves its timers any more. */
 uint32_t pigeon_poll_timeout(const pigeon_socket *socket, uint64_t *nanos);
 
 enum { PIGEON_CLOSED = 0, PIGEON_CONNECTING = 1, PIGEON_CONNECTED = 2, PIGEON_CLOSING = 3 };
@@ -286,7 +289,7 @@ typedef struct pigeon_metrics {
     size_t rtx_packets_count; /* packets of the association in which a fragment was sent again */
     uint64_t rtx_bytes_count; /* of chunks that were sent again, headers and padding included */
     size_t cwnd_bytes;
-    uint64_t srtt;            /* the smoothed round trip, in nanoseconds */
+    uint64_t srtt;            /* the smoothed round trip, in nanoseconds; rto_initial until one is measured */
     size_t unack_data_count;  /* fragments in flight, and packets that the queued bytes would fill */
     size_t rx_packets_count;  /* over the socket's life */
     size_t rx_messages_count; /* messages of the association that came whole */
@@ -341,7 +344,8 @@ uint32_t pigeon_restore(pigeon_socket *socket, const uint8_t *bytes, size_t leng
 
 /* ---- Streams. Above 65,535 each answers PIGEON_INVALID_STREAM. */
 
-/* Sets the priority of a stream, by which it is weighed where messages are interleaved (RFC 8260). */
+/* Sets the priority of a stream, by which it is weighed where messages are interleaved (RFC 8260): twice as much goes of one with twice the priority,
+ * where both have something to send. 0 counts as 1. */
 uint32_t pigeon_set_stream_priority(pigeon_socket *socket, uint32_t stream, uint16_t priority);
 uint32_t pigeon_stream_priority(const pigeon_socket *socket, uint32_t stream, uint16_t *priority);
 /* Sets the amount in bytes at which PIGEON_BUFFERED_AMOUNT_LOW is emitted. */
@@ -363,7 +367,7 @@ typedef struct pigeon_send_options {
     size_t size; /* sizeof(pigeon_send_options) */
     uint32_t flags;
     uint32_t max_retransmissions; /* with PIGEON_MAX_RETRANSMISSIONS, at most 65,535 (RFC 7496 section 3.1) */
-    uint64_t lifetime;            /* with PIGEON_LIFETIME, in nanoseconds (RFC 3758 section 4.1) */
+    uint64_t lifetime;            /* with PIGEON_LIFETIME, in nanoseconds (RFC 3758 section 4.1); it ends a millisecond behind that */
     uint64_t lifecycle;           /* by which lifecycle events name the message; none at 0 */
 } pigeon_send_options;
 
@@ -435,7 +439,7 @@ uint32_t pigeon_next_given_up(pigeon_socket *socket, pigeon_given_up *record);
 enum {
     PIGEON_SEND_PACKET = 0, /* the buffer has a packet to be sent to the peer */
     PIGEON_ON_CONNECTED = 1, /* what came with the peer's COOKIE ECHO is ready by then; on channels it is told before */
-    PIGEON_ON_CLOSED = 2,
+    PIGEON_ON_CLOSED = 2,    /* the association has ended, by a call of this end, a handover too, or by a shutdown of the peer */
     PIGEON_ON_CONNECTION_RESTARTED = 3, /* the peer began anew: messages may be lost, what waits stays, and PIGEON_ON_CONNECTED follows */
     PIGEON_ON_ABORTED = 4,              /* the socket was closed for `error`; the buffer has its text: `length` bytes of UTF-8, without a zero byte */
     PIGEON_ON_ERROR = 5,                /* `error` closes nothing; the buffer has its text, likewise */
@@ -466,7 +470,7 @@ enum {
     PIGEON_ERROR_PEER_REPORTED = 5,
     PIGEON_ERROR_PROTOCOL_VIOLATION = 6,
     PIGEON_ERROR_RESOURCE_EXHAUSTION = 7,
-    PIGEON_ERROR_UNSUPPORTED_OPERATION = 8
+    PIGEON_ERROR_UNSUPPORTED_OPERATION = 8 /* no event has it */
 };
 
 typedef struct pigeon_event {
@@ -601,7 +605,8 @@ static inline uint32_t pigeon_channel_negotiate(pigeon_socket *socket, uint32_t 
  * PIGEON_INVALID_ARGUMENT (another kind), PIGEON_NO_CHANNEL, PIGEON_CHANNEL_CLOSING, PIGEON_NOT_UTF8, PIGEON_MESSAGE_TOO_LARGE (for the peer),
  * PIGEON_QUEUE_FULL (max_buffered_amount, which a longer message always exceeds: go on at PIGEON_BUFFERED_AMOUNT_LOW, where more than the threshold
  * waits), PIGEON_NOT_TAKEN (the socket's queue of all streams, or of this one, is full: go on at PIGEON_TOTAL_BUFFERED_AMOUNT_LOW, or
- * PIGEON_BUFFERED_AMOUNT_LOW; or its own max_message_size is exceeded, or it shuts down: then it never is), PIGEON_NO_ROOM: it isn't sent. */
+ * PIGEON_BUFFERED_AMOUNT_LOW; or its own max_message_size is exceeded, or it shuts down: then it never is; PIGEON_ON_ERROR is emitted each time),
+ * PIGEON_NO_ROOM: it isn't sent. */
 uint32_t pigeon_channel_send(pigeon_socket *socket, uint32_t channel, uint32_t kind, const uint8_t *payload, size_t length);
 
 /* Closes a channel: what was accepted is sent, then its stream is reset. PIGEON_CHANNEL_CLOSED tells when that is done. Where the peer closes
@@ -612,7 +617,7 @@ uint32_t pigeon_channel_close(pigeon_socket *socket, uint32_t channel);
 
 /* Why something that came was not taken. */
 enum {
-    PIGEON_REFUSED_BAD_MESSAGE = 1,  /* no message of the opening; the stream is reset, where the association has it */
+    PIGEON_REFUSED_BAD_MESSAGE = 1,  /* no message of the opening; where the association has the stream it is reset, and a channel there closed */
     PIGEON_REFUSED_PARITY = 2,       /* an opening on a stream that is this end's to open; the stream is reset */
     PIGEON_REFUSED_STREAM = 3,       /* an opening on a stream that the association doesn't have */
     PIGEON_REFUSED_IN_USE = 4,       /* an opening on a stream that has a channel, which is closed */

@@ -55,10 +55,10 @@ static int take_all(pigeon_socket *end, int wire, const struct sockaddr_in *peer
     return goes_on;
 }
 
-/* How long nothing is to be done, in milliseconds rounded down, so that no timer expires late. */
+/* How long nothing is to be done, in milliseconds rounded up: a turn that comes too early finds nothing due. */
 static int milliseconds_until(uint64_t due, uint64_t now) {
     const uint64_t most = 3600000;
-    uint64_t wait = due <= now ? 0 : (due - now) / 1000000;
+    uint64_t wait = due <= now ? 0 : (due - now - 1) / 1000000 + 1;
     return (int)(wait < most ? wait : most);
 }
 

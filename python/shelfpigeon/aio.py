@@ -36,10 +36,12 @@ COUNTED_A_TURN = 8
 
 
 def options_for(max_message_size: int, /, **fields: int) -> Options:
-    """`Options.for_webrtc` where messages of so many bytes are taken: the window is twice that, and as many may be sent. Neither is less than without,
-    but as the fields say."""
+    """`Options.for_webrtc` where messages of so many bytes are taken: the window is twice that, a fragment for each eight bytes of it may be held, and
+    messages of that size may be sent. None is less than without, but as the fields say."""
     largest = max(max_message_size, LARGEST)
-    return Options.for_webrtc(**{"max_message_size": largest, "max_receiver_window_buffer_size": min(2 * largest, 2**32 - 1), **fields})
+    window = min(2 * largest, 2**32 - 1)
+    sizes = {"max_message_size": largest, "max_receiver_window_buffer_size": window, "max_held_fragments": window // 8}
+    return Options.for_webrtc(**{**sizes, **fields})
 
 
 def sent_at_most(options: OptionsStruct, peer_max_message_size: int) -> int:

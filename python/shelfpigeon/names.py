@@ -5,7 +5,19 @@ from __future__ import annotations
 import enum
 
 
-class Answer(enum.IntEnum):
+class Told(enum.IntEnum):
+    """What the library tells. A number that only a later 0.1 has is told by its value."""
+
+    @classmethod
+    def _missing_(cls, value: object) -> Told | None:
+        if not isinstance(value, int):
+            return None
+        told = int.__new__(cls, value)
+        told._name_, told._value_ = f"UNKNOWN_{value}", value
+        return told
+
+
+class Answer(Told):
     """What calls answer: all but OK, NOTHING and SOME_REFUSED are raised, as `PigeonError`."""
 
     OK = 0
@@ -78,7 +90,7 @@ class OptionFlags(enum.IntFlag):
     AVOID_STALLS = 32
 
 
-class State(enum.IntEnum):
+class State(Told):
     """How far the association is."""
 
     CLOSED = 0
@@ -87,7 +99,7 @@ class State(enum.IntEnum):
     CLOSING = 3
 
 
-class Peer(enum.IntEnum):
+class Peer(Told):
     """Whose implementation the peer is, as far as its cookie tells."""
 
     UNKNOWN = 0
@@ -121,7 +133,7 @@ class SendFlags(enum.IntFlag):
     MAX_RETRANSMISSIONS = 4
 
 
-class Cause(enum.IntEnum):
+class Cause(Told):
     """Why a message was given up."""
 
     LIFETIME = 0
@@ -156,7 +168,7 @@ class Kind(enum.IntEnum):
     CHANNEL_REFUSED = 20
 
 
-class ErrorKind(enum.IntEnum):
+class ErrorKind(Told):
     """Of what kind the error of an event is."""
 
     TOO_MANY_RETRIES = 1
@@ -176,7 +188,7 @@ class Role(enum.IntEnum):
     SERVER = 1
 
 
-class Refusal(enum.IntEnum):
+class Refusal(Told):
     """Why something that came on a channel was not taken."""
 
     BAD_MESSAGE = 1

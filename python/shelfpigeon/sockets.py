@@ -141,7 +141,7 @@ class End:
         self._call(self._library.pigeon_advance_time, nanos)
 
     def poll_timeout(self) -> Optional[int]:
-        """By which moment the time is to be advanced next, if a timer runs. It comes last."""
+        """By which moment the time is to be advanced next, in nanoseconds since the socket was made; None where nothing is due. It comes last."""
         nanos = self._read(self._library.pigeon_poll_timeout, c_uint64)
         return None if nanos == NEVER else nanos
 

@@ -165,6 +165,7 @@ def test_the_window_is_twice_the_largest_message():
     for size, window in ((0, 524288), (262144, 524288), (1 << 20, 1 << 21), (2**32 - 1, 2**32 - 1)):
         options = aio.options_for(size)
         assert (options.max_message_size, options.max_receiver_window_buffer_size) == (max(size, 262144), window)
+        assert options.max_held_fragments == window // 8
     assert aio.options_for(1 << 20, max_message_size=9, mtu=1200).max_message_size == 9
     assert [aio.sent_at_most(aio.options_for(0), it) for it in (0, 1000, 1 << 40)] == [262144, 1000, 262144]
 

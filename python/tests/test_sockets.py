@@ -91,6 +91,7 @@ def test_options():
     options = Options.for_webrtc(mtu=1200)
     assert (options.mtu, options.announced_maximum_incoming_streams, options.invalid_field()) == (1200, 65535, None)
     assert Options.default().max_message_size == 262144
+    assert (options.max_held_fragments, Options.default().max_held_fragments) == (65536, 2**32 - 1)
     assert OptionFlags(options.flags) & ~OptionFlags(Options.default().flags) == OptionFlags.AVOID_STALLS
     assert Options.for_webrtc(mtu=1).invalid_field() == "mtu"
     with pytest.raises(InvalidArgument, match="mtu"):

@@ -24,7 +24,7 @@ use Rattle.spec_endpoint.specs.ResetRequests.{Requests, Outcome, Unsettled, Done
 use Rattle.spec_endpoint.specs.Sending.{AfterSending, is_before_cookie_ack, add_request, send_cookie, send_in}
 use Rattle.spec_endpoint.specs.Shutdown.{send_shutdown, send_shutdown_ack, too_many}
 use Rattle.spec_endpoint.specs.StreamReset.{Handling, handling, process, is_ahead, resets_if, outgoing_by, incoming_if, on_outcome, is_outgoing, on_parameter, HandledParameters, handle_next, handle_all, send_responses, finish_reconfig_if, on_reconfig, prepare_reset_stream, prepare_all, reset_if, reset_refusal}
-use Rattle.spec_endpoint.specs.Timers.{Ticking, tick_ack, t3_if, tick_t3, tick_interval, tick_timeout, request_again, errs_if, requests_if, ticking, tick_timers, TimerOutcome, after_timers, abort_if, abort_or_send_if, after_ticks_if, after_ticks, t2_expired, t2_if, waits_if, t1_expired, t1_if, after_init_timer, init_expired, init_if, tick_open, tick_in, advance_if, advance, is_owed}
+use Rattle.spec_endpoint.specs.Timers.{Ticking, tick_ack, t3_if, tick_t3, tick_interval, tick_timeout, request_again, errs_if, requests_if, ticking, tick_timers, TimerOutcome, after_timers, abort_if, abort_or_send_if, after_ticks_if, after_ticks, t2_expired, t2_if, waits_if, t1_expired, t1_if, after_init_timer, init_expired, init_if, tick_open, tick_in, advance_unless, advance, is_owed}
 use Rattle.spec_endpoint.specs.Calls.{shown_state, send_refusal, send_refusal_of, offered, offer, offer_all, sent_if, send, send_many, take_message, told_if, opens_window, without_first_message}
 use Rattle.proof_awake.specs.Awake.{Runs}
 use Rattle.proof_awake.specs.Invariant.{BlockHolds, Beats, ContextHolds, is_established, waits, PhaseRuns, StateHolds}
@@ -319,7 +319,7 @@ module _ {P : Type 0} (avoids : Bool) where
   tick_holds (CookieWait tag first t1) c h = init_goes (is_due c.now t1) tag first t1 (expire c.now t1) c refl refl h.1 h.0
   tick_holds (Open phase t) c h = tick_open_holds phase t c h
 
-  advance_if_holds : (b : Bool) (now : ℕ) (s : EndpointState P) → EndHolds avoids s → EndHolds avoids (advance_if b now s)
+  advance_if_holds : (b : Bool) (now : ℕ) (s : EndpointState P) → EndHolds avoids s → EndHolds avoids (advance_unless b now s)
   advance_if_holds true now s h = h
   advance_if_holds false now s h = tick_holds s.state (record s.context { now = now }) h
 

@@ -25,7 +25,7 @@ use Rattle.proof_refines.proofs.FilledLemmas.{filled_by}
 use Rattle.spec_endpoint.specs.Association.{Tcb, Context}
 use Rattle.spec_endpoint.specs.Packets.{PacketDraft, room, fits, added_if, add, add_all, is_some_chunk, has_chunks, emit_if}
 use Rattle.spec_endpoint.specs.ResetRequests.{Request, request_chunk}
-use Rattle.spec_endpoint.specs.Sending.{Filling, ack_if, has_data_to_send, take_due_ack, with_ack, forward_added_if, forward_if, with_expired_abandoned, forward_if_time, with_forward, most_streams, add_request, request_of, request_if, with_request, data_chunks, asks_at_once, with_data, emit_packet, burst_step_if, continue_burst, burst, send_with, selective_ack}
+use Rattle.spec_endpoint.specs.Sending.{Filling, ack_if, has_data_to_send, take_due_ack, with_ack, forward_added_if, forward_if, with_expired_abandoned, forward_if_time, with_forward, most_streams, add_request, request_of, request_unless, with_request, data_chunks, asks_at_once, with_data, emit_packet, burst_step_if, continue_burst, burst, send_with, selective_ack}
 use Rattle.proof_awake.specs.Awake.{is_none}
 use Rattle.proof_awake.specs.Invariant.{WindowsHaveRoom}
 use Rattle.proof_awake.specs.Line.{IsNoneInLine}
@@ -215,7 +215,7 @@ module _ {P : Type 0} where
   keeps_of [] x = record { limit = refl; windows_are = λ w. w }
   keeps_of (id ∷ ids) x = record { limit = limit_request (request_of (id ∷ ids) x).tcb.requests.current x.packet; windows_are = λ w. w }
 
-  keeps_request : (b : Bool) (x : Filling P) → Keeps x (request_if b x)
+  keeps_request : (b : Bool) (x : Filling P) → Keeps x (request_unless b x)
   keeps_request true x = record { limit = refl; windows_are = λ w. w }
   keeps_request false x =
       let most : ℕ = most_streams x.packet in

@@ -22,7 +22,7 @@ use Rattle.proof_awake.specs.Line.{PhaseHasNoLine}
 use Rattle.sctp_tx_outstanding.specs.Item.{Item}
 use Rattle.sctp_tx_outstanding.specs.Losses.{nack_all}
 use Rattle.sctp_tx_queue.specs.SendQueue.{Queue}
-use Rattle.spec_endpoint.specs.Timers.{Ticking, tick_ack, t3_if, tick_t3, tick_interval, tick_timeout, request_again, errs_if, requests_if, ticking, tick_timers, after_timers, abort_if, abort_or_send_if, after_ticks_if, after_ticks, t2_expired, t2_if, waits_if, t1_expired, t1_if, after_init_timer, init_expired, init_if, tick_open, tick_in, advance_if, is_owed}
+use Rattle.spec_endpoint.specs.Timers.{Ticking, tick_ack, t3_if, tick_t3, tick_interval, tick_timeout, request_again, errs_if, requests_if, ticking, tick_timers, after_timers, abort_if, abort_or_send_if, after_ticks_if, after_ticks, t2_expired, t2_if, waits_if, t1_expired, t1_if, after_init_timer, init_expired, init_if, tick_open, tick_in, advance_unless, is_owed}
 use Rattle.spec_endpoint.specs.Opening.{cookie_ack, connect_in, on_init_open, on_init_in, queue_anew, agreed_by, maker, echo_or_abort, cookie_in, on_init_ack_in, enter_connected, on_cookie_ack, CookieResolution, EstablishNew, RestartDetected, SimultaneousInit, MaintainExisting, Discard, InvalidTag, resolve_cookie, tcb_by, queue_for, identity_of, anew, maintain_existing, maintain_existing_in, restarts_in, on_resolution, on_read_cookie, on_cookie_echo}
 use Rattle.proof_awake.specs.Invariant.{StateHolds, HasLimits, WindowsHaveRoom}
 use Rattle.proof_awake.proofs.ItemsLemmas.{none_lost}
@@ -177,7 +177,7 @@ module _ {P : Type 0} (avoids : Bool) where
   tick_lined (CookieWait tag first t1) c h l = init_lined (is_due c.now t1) tag first t1 (expire c.now t1) c l.0
   tick_lined (Open phase t) c h l = tick_open_lined phase t c h l
 
-  pub advance_lined : (b : Bool) (now : ℕ) (s : EndpointState P) → EndHolds avoids s → EndLined avoids s → EndLined avoids (advance_if b now s)
+  pub advance_lined : (b : Bool) (now : ℕ) (s : EndpointState P) → EndHolds avoids s → EndLined avoids s → EndLined avoids (advance_unless b now s)
   advance_lined true now s h l = l
   advance_lined false now s h l = tick_lined s.state (record s.context { now = now }) h l
 

@@ -18,7 +18,7 @@ use Rattle.sctp_tx.specs.Sending.{send}
 use Rattle.spec_endpoint.specs.Association.{Tcb, Heartbeats, Context}
 use Rattle.spec_endpoint.specs.Packets.{PacketDraft, room, fits, add, packet_to, new_packet, has_chunks, emit_if, emit, emit_chunk}
 use Rattle.spec_endpoint.specs.Heartbeats.{restart_interval_if}
-use Rattle.spec_endpoint.specs.Sending.{Filling, take_due_ack, ack_if, has_data_to_send, with_ack, forward_added_if, forward_if, with_expired_abandoned, forward_if_time, with_forward, most_streams, last_assigned, add_reset_breakpoint, request_started, request_of, request_if, with_request, with_data, filled_as, BurstStep, burst_step_if, next_packet, continue_burst, burst, AfterSending, send_with, send_buffered, cookie_if, send_cookie, fast_most, fast_packet, fast_if, send_lost}
+use Rattle.spec_endpoint.specs.Sending.{Filling, take_due_ack, ack_if, has_data_to_send, with_ack, forward_added_if, forward_if, with_expired_abandoned, forward_if_time, with_forward, most_streams, last_assigned, add_reset_breakpoint, request_started, request_of, request_unless, with_request, with_data, filled_as, BurstStep, burst_step_if, next_packet, continue_burst, burst, AfterSending, send_with, send_buffered, cookie_if, send_cookie, fast_most, fast_packet, fast_if, send_lost}
 use Rattle.proof_awake.specs.Invariant.{BlockHolds, Beats, ContextHolds, waits}
 use Rattle.proof_awake.proofs.TimerLemmas.{beats_on}
 use Rattle.proof_awake.proofs.SenderLemmas.{expired_holds, fast_holds, send_holds}
@@ -103,7 +103,7 @@ module _ {P : Type 0} (avoids : Bool) where
     requests_of [] x h = h
     requests_of (id ∷ ids) x h = (h.0, begins_request waits x.context.now id ids x.tcb h.1)
 
-    requests_if : (b : Bool) (x : Filling P) → Fine x → Fine (request_if b x)
+    requests_if : (b : Bool) (x : Filling P) → Fine x → Fine (request_unless b x)
     requests_if true x h = h
     requests_if false x h =
         let most : ℕ = most_streams x.packet in

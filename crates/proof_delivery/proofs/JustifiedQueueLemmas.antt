@@ -14,7 +14,7 @@ use Rattle.sctp_tx_queue.specs.declared.send_queue.message.MessageNumbers.{Messa
 use Rattle.sctp_tx_queue.specs.declared.send_queue.stream.ResetStep.{ResetStep}
 use Rattle.sctp_tx_queue.specs.declared.send_queue.stream.ResetStep.TheVariants.{Requested, Performed, Refused}
 use Rattle.sctp_tx_queue.specs.SendQueue.{Queued, Stream, Streams, Entries, Queue, stream, with_stream, put_stream, blank, push, add, next_number}
-use Rattle.sctp_tx_queue.specs.Produced.{Produced, Turn, is_expired, is_stale, fresh, emit_expired, without_stale, streams_without_stale, ends, move_past, moved_front, front_made, front_numbers, next_fragment, advance, emitted_made, turn, next_stream, idle, produce_within, produce, pause_if_pending}
+use Rattle.sctp_tx_queue.specs.Produced.{Produced, Turn, is_expired, is_stale, fresh, emit_expired, emit_stale, without_stale, streams_without_stale, ends, move_past, moved_front, front_made, front_numbers, next_fragment, advance, emitted_made, turn, next_stream, idle, produce_within, produce, pause_if_pending}
 use Rattle.sctp_tx_queue.specs.Settings.{Changed, with_threshold, with_priority, set_low_threshold, set_priority, set_mode, without_front, streams_discarded, front_discarded, discard_from, discard}
 use Rattle.sctp_tx_queue.specs.Restarted.{whole_front, restart, restarted_one, each_restarted, reset}
 use Rattle.sctp_tx_queue.specs.Resets.{is_partly, emit_unsent, prepare_stream, prepare_reset, after_step, apply_reset_step, each_stepped}
@@ -314,7 +314,7 @@ module _ {P : Type 0} where
           record {
             holds = record { stand = put_stands Known id (advance size r) ss (advanced_waits Known id size r rs) first; counts = h.counts };
             made = next_known Known id size r rs;
-            right = emitted_made_right id _ _ (next_fragment id size r) (emit_expired now s.messages t) (emit_expired_right id s.messages t ws k);
+            right = emitted_made_right id _ _ (next_fragment id size r) (emit_stale now id q.streams t) (emit_expired_right id s.messages t ws k);
           }
 
       turns_if : (b : Bool) (x y : Turn P) → Turns x → Turns y → Turns (cond b x y)

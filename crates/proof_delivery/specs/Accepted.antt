@@ -34,7 +34,7 @@ abbrev pub accepted_in : EndAction → Side → List AcceptedMessage
 accepted_in (Calls call) x = accepted_by call x
 accepted_in action x = []
 
--- true is end a: what end x accepts at an action of this end
+-- true is end a: what end x accepts at an action of the end that acts
 abbrev pub accepted_at : (x acts : Bool) → EndAction → Pair → List AcceptedMessage
 accepted_at true true action w = accepted_in action w.a
 accepted_at false false action w = accepted_in action w.b

@@ -34,7 +34,7 @@ emitted_by (Refuses p) x y = emitted_foreign (packet_refusal p.header.verificati
 abbrev pub given_up_by : EndAction → (x y : Side) → List ℕ
 given_up_by action x y = map (λ (g : GivenUp). g.number) (emitted_by action x y).given_up
 
--- true is end a: what end x gives up at an action of this end
+-- true is end a: what end x gives up at an action of the end that acts
 abbrev pub given_up_at : (x acts : Bool) → EndAction → Pair → List ℕ
 given_up_at true true action w = given_up_by action w.a w.b
 given_up_at false false action w = given_up_by action w.b w.a

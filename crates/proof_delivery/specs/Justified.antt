@@ -58,7 +58,7 @@ records_by (Calls call) x y = records_of (called call x.end)
 records_by (Gives which checksum) x y = records_given (slice_get (emitted_packets y) which) checksum x
 records_by (Refuses p) x y = records_foreign (packet_refusal p.header.verification_tag p.chunks (state_of x)) p x
 
--- true is end a: what end x gives up at an action of this end
+-- true is end a: what end x gives up at an action of the end that acts
 abbrev pub records_at : (x acts : Bool) → EndAction → Pair → List GivenUp
 records_at true true action w = records_by action w.a w.b
 records_at false false action w = records_by action w.b w.a
@@ -74,7 +74,7 @@ abbrev pub reset_by : EndAction → Side → List ℕ
 reset_by (Calls (ResetStreams streams)) x = reset_unless (reset_refusal (state_of x)) streams
 reset_by action x = []
 
--- true is end a: those of end x at an action of this end
+-- true is end a: those of end x at an action of the end that acts
 abbrev pub reset_at : (x acts : Bool) → EndAction → Pair → List ℕ
 reset_at true true action w = reset_by action w.a
 reset_at false false action w = reset_by action w.b

@@ -37,13 +37,13 @@ reopen streams f s = opened_if (are_named streams s) (f s)
 
 -- ---- one action
 
--- the streams that are emitted as reset by the other end
+-- the own streams whose reset is emitted as performed
 abbrev pub performed_of : {P : Type 0} → List (Event P) → List ℕ
 performed_of [] = []
 performed_of (OnStreamsResetPerformed streams ∷ es) = streams ++ performed_of es
 performed_of (e ∷ es) = performed_of es
 
--- true is end a: what is emitted at end x at an action of this end
+-- true is end a: what is emitted at end x at an action of the end that acts
 abbrev pub emitted_at : (x acts : Bool) → EndAction → Pair → List (Event Carried)
 emitted_at true true action w = (emitted_by action w.a w.b).events
 emitted_at false false action w = (emitted_by action w.b w.a).events

@@ -22,7 +22,7 @@ use Rattle.spec_endpoint.specs.Association.{Tcb, Context, Packing}
 use Rattle.spec_endpoint.specs.Heartbeats.{restart_interval_if}
 use Rattle.spec_endpoint.specs.ResetRequests.{Request, Requests, request_chunk, start_request}
 use Rattle.spec_endpoint.specs.Packets.{PacketDraft, clear_chunks, room, fits, add, add_all, has_chunks, new_packet, emit}
-use Rattle.spec_endpoint.specs.Sending.{Filling, window, selective_ack, take_due_ack, without_duplicates, ack_if, has_data_to_send, with_ack, forward_later, forward_added_if, forward_if, with_expired_abandoned, forward_if_time, with_forward, most_streams, last_assigned, add_reset_breakpoint, request_started, add_request, carrying, request_of, request_at_most, request_if, with_request, data_chunk_of, asks_at_once, with_fragments, with_data, filled_as, emit_packet, BurstStep, burst_step_if, next_packet, continue_burst, burst, AfterSending, after_sending, sent_by, send_with, send_buffered, fast_most, fast_packet, fast_if, send_lost}
+use Rattle.spec_endpoint.specs.Sending.{Filling, window, selective_ack, take_due_ack, without_duplicates, ack_if, has_data_to_send, with_ack, forward_later, forward_added_if, forward_if, with_expired_abandoned, forward_if_time, with_forward, most_streams, last_assigned, add_reset_breakpoint, request_started, add_request, carrying, request_of, request_at_most, request_unless, with_request, data_chunk_of, asks_at_once, with_fragments, with_data, filled_as, emit_packet, BurstStep, burst_step_if, next_packet, continue_burst, burst, AfterSending, after_sending, sent_by, send_with, send_buffered, fast_most, fast_packet, fast_if, send_lost}
 use Rattle.proof_draws.specs.NamedChunks.{Names, AreNames, move_by, moved_tsn, named_chunk, named_chunks}
 use Rattle.proof_draws.specs.Names.{named_packet, named_sender, named_request, named_requests, named_tcb, plain}
 use Rattle.proof_draws.proofs.MovedLemmas.{moved_wire, sum_moved}
@@ -151,7 +151,7 @@ module _ {P : Type 0} (n : Names) (are : AreNames n) (pack : Packing P) where
   request_at_named most x =
       request_of_named (streams_to_request most x.context.queue) (record x { context = record x.context { queue = request_resets most x.context.queue } })
 
-  request_if_named : (b : Bool) (x : Filling P) → request_if b (named_filling n pack x) ≡ named_filling n pack (request_if b x)
+  request_if_named : (b : Bool) (x : Filling P) → request_unless b (named_filling n pack x) ≡ named_filling n pack (request_unless b x)
   request_if_named true x = refl
   request_if_named false x =
       ap (λ (k : ℕ). request_at_most ((k / 4 * 4 - 20) / 2) (named_filling n pack x)) (most_named x.packet) ∙ request_at_named (most_streams x.packet) x
@@ -162,7 +162,7 @@ module _ {P : Type 0} (n : Names) (are : AreNames n) (pack : Packing P) where
 
   with_request_named : (x : Filling P) → with_request (named_filling n pack x) ≡ named_filling n pack (with_request x)
   with_request_named x =
-      ap (λ (b : Bool). request_if b (named_filling n pack x)) (some_request x.tcb.requests.current) ∙ request_if_named (is_some x.tcb.requests.current) x
+      ap (λ (b : Bool). request_unless b (named_filling n pack x)) (some_request x.tcb.requests.current) ∙ request_if_named (is_some x.tcb.requests.current) x
 
   filled_named : (f : fragments.Filling P) (x : Filling P) → with_fragments (named_fragments n f) (named_filling n pack x) ≡ named_filling n pack (with_fragments f x)
   filled_named f x =
@@ -212,7 +212,7 @@ module _ {P : Type 0} where
   request_of_stays [] x = refl
   request_of_stays (id ∷ ids) x = refl
 
-  request_stays : (b : Bool) (x : Filling P) → (request_if b x).context.pack ≡ x.context.pack
+  request_stays : (b : Bool) (x : Filling P) → (request_unless b x).context.pack ≡ x.context.pack
   request_stays true x = refl
   request_stays false x =
       let most : ℕ = most_streams x.packet in

@@ -23,7 +23,7 @@ use Rattle.sctp_tx.specs.ForwardPoints.{forward_chunk}
 use Rattle.spec_endpoint.specs.Association.{Tcb, Phase, CookieEchoed, Established, ShutdownPending, ShutdownSent, ShutdownReceived, ShutdownAckSent, State, Closed, CookieWait, Open, Context, EndpointState, Endpoint, where_open}
 use Rattle.spec_endpoint.specs.Packets.{PacketDraft, fits, add, has_chunks, packet_to, new_packet, emit_event_in}
 use Rattle.spec_endpoint.specs.ResetRequests.{Request, Requests, is_final, is_last_request, is_next_request, is_known_request, end_or_defer, response_if, handle_response_in}
-use Rattle.spec_endpoint.specs.Sending.{Filling, take_due_ack, ack_if, has_data_to_send, with_ack, forward_added_if, forward_if, with_expired_abandoned, forward_if_time, with_forward, most_streams, request_of, request_if, filled_as, BurstStep, burst_step_if, next_packet, continue_burst, burst, is_before_cookie_ack, send_with, fast_if, send_lost}
+use Rattle.spec_endpoint.specs.Sending.{Filling, take_due_ack, ack_if, has_data_to_send, with_ack, forward_added_if, forward_if, with_expired_abandoned, forward_if_time, with_forward, most_streams, request_of, request_unless, filled_as, BurstStep, burst_step_if, next_packet, continue_burst, burst, is_before_cookie_ack, send_with, fast_if, send_lost}
 use Rattle.spec_endpoint.specs.Shutdown.{on_shutdown, on_shutdown_ack_in, on_shutdown_complete, abort_for_violation, on_error, refused_if, aborted_in}
 use Rattle.spec_endpoint.specs.Shutdown as closing
 use Rattle.spec_endpoint.specs.Data.{on_data_in, on_data_if, on_data, accepts_fragment, fragment_if, accepts_point, handle_forward_tsn_if, handle_forward_tsn_in, has_room, told_of_drop}
@@ -63,7 +63,7 @@ module _ {P : Type 0} where
   request_of_fits [] x h = h
   request_of_fits (id ∷ ids) x h = record { next = next_fits x.tcb.requests.next; current = h.next; last = h.last }
 
-  request_fits : (b : Bool) (x : Filling P) → NumbersFit x.tcb.requests → NumbersFit (request_if b x).tcb.requests
+  request_fits : (b : Bool) (x : Filling P) → NumbersFit x.tcb.requests → NumbersFit (request_unless b x).tcb.requests
   request_fits true x h = h
   request_fits false x h =
       let most : ℕ = most_streams x.packet in

@@ -11,7 +11,7 @@ use Rattle.spec_endpoint.specs.ResetRequests.{Request, Requests, lasting, expire
 use Rattle.spec_endpoint.specs.Sending.{AfterSending, add_request, cookie_if, send_cookie}
 use Rattle.spec_endpoint.specs.Shutdown.{send_shutdown, send_shutdown_ack, too_many}
 use Rattle.spec_endpoint.specs.Heartbeats.{counted_on, heartbeat_chunk, send_heartbeat_if, heartbeat_timeout_if}
-use Rattle.spec_endpoint.specs.Timers.{Ticking, tick_ack, t3_if, tick_t3, tick_interval, tick_timeout, request_again, errs_if, requests_again, reconfig_timeout, requests_if, tick_requests, ticking, tick_timers, TimerOutcome, timer_outcome, closed_if, after_timers, abort_if, abort_if_exhausted, abort_or_send_if, abort_or_send, after_ticks_if, after_ticks, t2_expired, t2_if, tick_t2, waits_if, echoed_again, t1_expired, t1_if, tick_cookie, InitOutcome, init_outcome, waiting_if, after_init_timer, init_expired, init_if, tick_init, tick_open, tick_in, advance_if, advance, is_owed}
+use Rattle.spec_endpoint.specs.Timers.{Ticking, tick_ack, t3_if, tick_t3, tick_interval, tick_timeout, request_again, errs_if, requests_again, reconfig_timeout, requests_if, tick_requests, ticking, tick_timers, TimerOutcome, timer_outcome, closed_if, after_timers, abort_if, abort_if_exhausted, abort_or_send_if, abort_or_send, after_ticks_if, after_ticks, t2_expired, t2_if, tick_t2, waits_if, echoed_again, t1_expired, t1_if, tick_cookie, InitOutcome, init_outcome, waiting_if, after_init_timer, init_expired, init_if, tick_init, tick_open, tick_in, advance_unless, advance, is_owed}
 use Rattle.proof_draws.specs.NamedChunks.{Names, AreNames, move_by}
 use Rattle.proof_draws.specs.Names.{named_request, named_requests, named_phase, named_tcb, named_state, named_endpoint_state, plain}
 use Rattle.proof_draws.proofs.WritingLemmas.{Knows, named_emit, named_emit_chunk, emit_stays}
@@ -285,7 +285,7 @@ module _ {P : Type 0} (n : Names) (are : AreNames n) (pack : Packing P) where
       ∙ waiting_if_named x.has_ended tag first (expire c.now t1) x.context
   tick_named (Open phase t) c k = tick_open_named phase t c k
 
-  advance_if_named : (b : Bool) (now : ℕ) (s : EndpointState P) → Knows n pack s.context → advance_if b now (named_endpoint_state n pack s) ≡ named_endpoint_state n pack (advance_if b now s)
+  advance_if_named : (b : Bool) (now : ℕ) (s : EndpointState P) → Knows n pack s.context → advance_unless b now (named_endpoint_state n pack s) ≡ named_endpoint_state n pack (advance_unless b now s)
   advance_if_named true now s k = refl
   advance_if_named false now s k = tick_named s.state (record s.context { now = now }) k
 

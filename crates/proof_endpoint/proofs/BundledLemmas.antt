@@ -15,7 +15,7 @@ use Rattle.spec_endpoint.specs.Association.{Tcb}
 use Rattle.spec_endpoint.specs.Packets.{PacketDraft, room, fits, added_if, add, add_all, has_chunks}
 use Rattle.spec_endpoint.specs.ResetRequests.{Request, request_chunk}
 use Rattle.spec_endpoint.specs.Sending as sending
-use Rattle.spec_endpoint.specs.Sending.{Filling, selective_ack, with_expired_abandoned, most_streams, request_started, asks_at_once, ack_if, with_ack, forward_added_if, forward_if, forward_if_time, with_forward, add_request, request_of, request_if, with_request, data_chunk_of, data_chunks, with_data, filled_as, burst_step_if, next_packet}
+use Rattle.spec_endpoint.specs.Sending.{Filling, selective_ack, with_expired_abandoned, most_streams, request_started, asks_at_once, ack_if, with_ack, forward_added_if, forward_if, forward_if_time, with_forward, add_request, request_of, request_unless, with_request, data_chunk_of, data_chunks, with_data, filled_as, burst_step_if, next_packet}
 use Rattle.proof_endpoint.specs.Acts.{is_plain, goes_along, goes_first, takes_more, IsBundled, all_along}
 
 -- ---- chunks
@@ -119,7 +119,7 @@ module _ {P : Type 0} where
   request_of_more [] x h = h
   request_of_more (id ∷ ids) x h = request_more (request_started x.context.now (id ∷ ids) x.tcb).requests.current x.packet h
 
-  request_if_more : (b : Bool) (x : Filling P) → TakesMore x → TakesMore (request_if b x)
+  request_if_more : (b : Bool) (x : Filling P) → TakesMore x → TakesMore (request_unless b x)
   request_if_more true x h = h
   request_if_more false x h =
       let most : ℕ = most_streams x.packet in

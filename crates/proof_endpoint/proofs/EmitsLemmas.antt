@@ -20,7 +20,7 @@ use Rattle.sctp_tx_outstanding.specs.Sack.{report_by, leaving_events, all_leavin
 use Rattle.sctp_tx_outstanding.specs.Sack as sack
 use Rattle.sctp_state.specs.ThresholdWatcher.{crosses}
 use Rattle.sctp_tx_queue.specs.SendQueue.{Queued, Stream, Streams, Queue, stream, watched_amount, watched_total}
-use Rattle.sctp_tx_queue.specs.Produced.{Produced, Turn, is_stale, emit_expired, when, fully_sent, production, emitted_made, emitted_of, streams_after, streams_without_stale, advance, next_fragment, turn, next_stream, idle, produce_within, produce}
+use Rattle.sctp_tx_queue.specs.Produced.{Produced, Turn, is_stale, falls_low, total_falls_low, emit_expired, emit_fallen, emit_stale, when, fully_sent, production, emitted_made, emitted_of, streams_after, streams_without_stale, advance, next_fragment, turn, next_stream, idle, produce_within, produce}
 use Rattle.sctp_tx_queue.specs.Settings.{Changed, set_low_threshold, with_threshold, front_discarded, streams_discarded, discard_from, discard}
 use Rattle.sctp_tx.specs.RetransmissionQueue.{Sender, emitted_if}
 use Rattle.sctp_tx.specs.Windows.{is_open}
@@ -186,15 +186,26 @@ module _ {P : Type 0} (pack : Packing P) (most : ℕ) where
       (emits_then t recorded said (emits_given_up m.number Lifetime t) (emits_all (expired_events m.lifecycle) recorded (quiet_expiry P m.lifecycle)))
       (emits_each_expired now ms said)
 
+  emits_fallen : (id : ℕ) (before after : Streams) (t : Emitted P) → Emits pack most 0 t (emit_fallen id before after t)
+  emits_fallen id before after t =
+      let is_low : Bool = falls_low id before after in
+      let is_total_low : Bool = total_falls_low before after in
+      emits_all (production id is_low is_total_low None) t (quiet_production P id is_low is_total_low None)
+
+  emits_stale : (now id : ℕ) (ss : Streams) (t : Emitted P) → Emits pack most 0 t (emit_stale now id ss t)
+  emits_stale now id ss t =
+      let first : Emitted P = emit_expired now (stream id ss).messages t in
+      emits_then t first (emit_stale now id ss t) (emits_each_expired now (stream id ss).messages t) (emits_fallen id ss (streams_without_stale now id ss) first)
+
   makes : (id : ℕ) (is_low is_total_low : Bool) (o : Option Produced) (t : Emitted P) → Emits pack most 0 t (emitted_made id is_low is_total_low o t)
   makes id is_low is_total_low None t = emits_nothing t
   makes id is_low is_total_low (Some made) t = emits_all (production id is_low is_total_low made.lifecycle) t (quiet_production P id is_low is_total_low made.lifecycle)
 
   turns : (now id size : ℕ) (q : Queue) (t : Emitted P) → Emits pack most 0 t (turn now id size q t).emitted
   turns now id size q t =
-      let first : Emitted P = emit_expired now (stream id q.streams).messages t in
+      let first : Emitted P = emit_stale now id q.streams t in
       let ss : Streams = streams_without_stale now id q.streams in
-      emits_then t first (emitted_of id size ss first) (emits_each_expired now (stream id q.streams).messages t)
+      emits_then t first (emitted_of id size ss first) (emits_stale now id q.streams t)
       (makes id (crosses (watched_amount (stream id ss)) (watched_amount (advance size (stream id ss)))) (crosses (watched_total ss) (watched_total (streams_after id size ss))) (next_fragment id size (stream id ss)) first)
 
   produces_if : (b : Bool) (t : Emitted P) (x y : Turn P) → Emits pack most 0 t x.emitted → Emits pack most 0 x.emitted y.emitted → Emits pack most 0 t (cond b x y).emitted
@@ -219,7 +230,9 @@ module _ {P : Type 0} (pack : Packing P) (most : ℕ) where
 
   discards_from : (id : ℕ) (ss : Streams) (o : Option (Option ℕ)) (q : Queue) (t : Emitted P) → Emits pack most 0 t (discard_from id ss o q t).emitted
   discards_from id ss None q t = emits_nothing t
-  discards_from id ss (Some l) q t = emits_all (expired_events l) t (quiet_expiry P l)
+  discards_from id ss (Some l) q t =
+      let u : Emitted P = emit_events (expired_events l) t in
+      emits_then t u (emit_fallen id q.streams ss u) (emits_all (expired_events l) t (quiet_expiry P l)) (emits_fallen id q.streams ss u)
 
   discards : (ds : List Discard) (q : Queue) (t : Emitted P) → Emits pack most 0 t (discard_all ds q t).emitted
   discards [] q t = emits_nothing t

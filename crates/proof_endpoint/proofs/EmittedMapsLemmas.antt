@@ -15,7 +15,7 @@ use Rattle.sctp_tx_outstanding.specs.Sack.{report_by, leaving_events, all_leavin
 use Rattle.sctp_tx_outstanding.specs.Sack as sack
 use Rattle.sctp_state.specs.ThresholdWatcher.{crosses}
 use Rattle.sctp_tx_queue.specs.SendQueue.{Queued, Stream, Streams, Queue, stream, watched_amount, watched_total}
-use Rattle.sctp_tx_queue.specs.Produced.{Produced, Turn, is_stale, emit_expired, when, fully_sent, production, emitted_made, streams_after, streams_without_stale, advance, next_fragment, turn_from, turn, next_stream, idle, produce_within, produce}
+use Rattle.sctp_tx_queue.specs.Produced.{Produced, Turn, is_stale, falls_low, total_falls_low, emit_expired, emit_fallen, emit_stale, when, fully_sent, production, emitted_made, streams_after, streams_without_stale, advance, next_fragment, turn_from, turn, next_stream, idle, produce_within, produce}
 use Rattle.sctp_tx_queue.specs.Settings.{Changed, set_low_threshold, with_threshold, front_discarded, streams_discarded, discard_from, discard}
 use Rattle.sctp_tx.specs.RetransmissionQueue.{Sender, step_of, handle_sack_by, sender_if, emitted_if}
 use Rattle.sctp_tx.specs.Windows.{is_open}
@@ -177,6 +177,17 @@ module _ {P Q : Type 0} (f : Mapping P Q) where
       maps_cond (map_emitted f) (is_stale now m) (emit_expired now ms said) t _ (map_emitted f t)
       (ap (λ (u : Emitted Q). emit_expired now ms u) (maps_emit_event_all (expired_events m.lifecycle) (expired_events m.lifecycle) recorded (maps_expiry m.lifecycle)) ∙ maps_emit_expired now ms said) refl
 
+  maps_emit_fallen : (id : ℕ) (before after : Streams) (t : Emitted P) → emit_fallen id before after (map_emitted f t) ≡ map_emitted f (emit_fallen id before after t)
+  maps_emit_fallen id before after t =
+      let is_low : Bool = falls_low id before after in
+      let is_total_low : Bool = total_falls_low before after in
+      maps_emit_event_all (production id is_low is_total_low None) (production id is_low is_total_low None) t (maps_production id is_low is_total_low None)
+
+  maps_emit_stale : (now id : ℕ) (ss : Streams) (t : Emitted P) → emit_stale now id ss (map_emitted f t) ≡ map_emitted f (emit_stale now id ss t)
+  maps_emit_stale now id ss t =
+      let after : Streams = streams_without_stale now id ss in
+      ap (λ (u : Emitted Q). emit_fallen id ss after u) (maps_emit_expired now (stream id ss).messages t) ∙ maps_emit_fallen id ss after (emit_expired now (stream id ss).messages t)
+
   maps_made : (id : ℕ) (is_low is_total_low : Bool) (o : Option Produced) (t : Emitted P)
       → emitted_made id is_low is_total_low o (map_emitted f t) ≡ map_emitted f (emitted_made id is_low is_total_low o t)
   maps_made id is_low is_total_low None t = refl
@@ -192,9 +203,8 @@ module _ {P Q : Type 0} (f : Mapping P Q) where
 
   maps_turn : (now id size : ℕ) (q : Queue) (t : Emitted P) → turn now id size q (map_emitted f t) ≡ map_turn f (turn now id size q t)
   maps_turn now id size q t =
-      let ms : List Queued = (stream id q.streams).messages in
       let ss : Streams = streams_without_stale now id q.streams in
-      ap (λ (u : Emitted Q). turn_from id size ss q u) (maps_emit_expired now ms t) ∙ maps_turn_from id size ss q (emit_expired now ms t)
+      ap (λ (u : Emitted Q). turn_from id size ss q u) (maps_emit_stale now id q.streams t) ∙ maps_turn_from id size ss q (emit_stale now id q.streams t)
 
   maps_from : (o : Option ℕ) (next : ℕ → Turn P) (mapped : ℕ → Turn Q) (x : Turn P) → ((id : ℕ) → mapped id ≡ map_turn f (next id))
       → unwrap_or (option_map mapped o) (map_turn f x) ≡ map_turn f (unwrap_or (option_map next o) x)
@@ -218,7 +228,9 @@ module _ {P Q : Type 0} (f : Mapping P Q) where
   maps_discard_from id ss None q t = refl
   maps_discard_from id ss (Some l) q t =
       let x : Changed P = discard_from id ss (Some l) q t in
-      ap (λ (u : Emitted Q). changed_with x.queue u) (maps_emit_event_all (expired_events l) (expired_events l) t (maps_expiry l))
+      let said : Emitted P = emit_events (expired_events l) t in
+      ap (λ (u : Emitted Q). changed_with x.queue u)
+      (ap (λ (u : Emitted Q). emit_fallen id q.streams ss u) (maps_emit_event_all (expired_events l) (expired_events l) t (maps_expiry l)) ∙ maps_emit_fallen id q.streams ss said)
 
   maps_discard : (id number : ℕ) (q : Queue) (t : Emitted P) → discard id number q (map_emitted f t) ≡ map_changed f (discard id number q t)
   maps_discard id number q t = maps_discard_from id (streams_discarded id number q.streams) (front_discarded number (stream id q.streams).messages) q t

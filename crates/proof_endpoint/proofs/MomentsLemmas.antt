@@ -6,7 +6,7 @@ use Rattle.spec_endpoint.specs.Association.{Tcb, Phase, CookieEchoed, Establishe
 use Rattle.sctp_rx.specs.DataTracker.{is_ack_due}
 use Rattle.spec_endpoint.specs.Sending.{is_before_cookie_ack}
 use Rattle.spec_endpoint.specs.Shutdown.{send_shutdown, send_shutdown_ack}
-use Rattle.spec_endpoint.specs.Timers.{Ticking, ticking, tick_ack, t3_if, tick_t3, tick_interval, tick_timeout, requests_if, tick_requests, tick_timers, after_timers, sends_owed, moment_if, first_owed, owed_moment, is_owed, after_ticks_if, after_ticks, t2_if, tick_t2, after_init_timer, init_if, tick_init, tick_open, tick_in, advance_if, advance, running_expiry, phase_expiry, timeout_in, poll_timeout}
+use Rattle.spec_endpoint.specs.Timers.{Ticking, ticking, tick_ack, t3_if, tick_t3, tick_interval, tick_timeout, requests_if, tick_requests, tick_timers, after_timers, sends_owed, moment_if, first_owed, owed_moment, is_owed, after_ticks_if, after_ticks, t2_if, tick_t2, after_init_timer, init_if, tick_init, tick_open, tick_in, advance_unless, advance, running_expiry, phase_expiry, timeout_in, poll_timeout}
 use Rattle.spec_endpoint.specs.Moments.{at_moment, is_cookie_echoed}
 
 not_due_by : (now : ℕ) (o : Option ℕ) → now < moment_of o → due_by o now ≡ false
@@ -133,7 +133,7 @@ module _ {P : Type 0} where
 
   pub moves_the_clock : (now : ℕ) (s : EndpointState P) → is_cookie_echoed s.state ≡ false → s.context.now ≤ now → now < poll_timeout s → advance now s ≡ at_moment now s
   moves_the_clock now s e least h =
-      ap (λ (b : Bool). advance_if b now s) (le-ltb now s.context.now least) ∙ same_in s.state s.context.now (record s.context { now = now }) e least h
+      ap (λ (b : Bool). advance_unless b now s) (le-ltb now s.context.now least) ∙ same_in s.state s.context.now (record s.context { now = now }) e least h
 
   pub changes_nothing : (now : ℕ) (s : EndpointState P) → now < s.context.now → advance now s ≡ s
-  changes_nothing now s h = ap (λ (b : Bool). advance_if b now s) (lt-ltb now s.context.now h)
+  changes_nothing now s h = ap (λ (b : Bool). advance_unless b now s) (lt-ltb now s.context.now h)

@@ -11,7 +11,7 @@ use Rattle.spec_endpoint.specs.Association.{Identity, Tcb, tcb, Phase, CookieEch
 use Rattle.spec_endpoint.specs.Heartbeats.{restart_interval}
 use Rattle.spec_endpoint.specs.Packets.{PacketDraft, add, packet_to, new_packet, round_down_to_4, emit_event_in, emit_error, emit}
 use Rattle.spec_endpoint.specs.Sending.{AfterSending, open_with, send_buffered, send_cookie}
-use Rattle.spec_endpoint.specs.Shutdown.{errors_if, send_shutdown_ack}
+use Rattle.spec_endpoint.specs.Shutdown.{cleared_if, send_shutdown_ack}
 use Rattle.spec_endpoint.specs.Opening.{tsn_from, tag_from, word, drew_word, long_word, drew_long_word, with_endpoint_state, init_of, send_init, t1_init, waiting, connect_in, connect, agreed_by, init_ack_of, answer, answers, answers_new, next_first, answers_again, on_init_open, on_init_in, on_init, cookie_in, maker, without_cookie, queue_anew, t1_cookie, echo, identity_of_init_ack, echo_or_abort, on_init_ack_in, on_init_ack, enter_connected, establish, on_cookie_ack, CookieResolution, EstablishNew, RestartDetected, SimultaneousInit, MaintainExisting, Discard, InvalidTag, resolve_cookie, cookie_ack, queue_for, tcb_by, anew, establishes, maintain_existing, maintain_existing_in, too_late, restarts, restarts_in, restart, emit_parse_error, on_resolution, on_read_cookie, on_cookie_echo}
 use Rattle.proof_endpoint.specs.Mapped.{Mapping, map_context, map_endpoint_state, map_end}
 use Rattle.proof_endpoint.proofs.SendingMapsLemmas.{map_sent, maps_say, maps_emit_error, maps_emit, maps_send_with, maps_send_buffered, maps_send_cookie}
@@ -121,7 +121,7 @@ module _ {P Q : Type 0} (f : Mapping P Q) where
 
   maps_connected : (c : Context P) → enter_connected (map_context f c) ≡ map_context f (enter_connected c)
   maps_connected c =
-      ap (λ (d : Context Q). record (beating_as d (restart_interval c.now c.heartbeats)) { errors = errors_if c.options.avoid_stalls c.errors }) (maps_say f OnConnected c)
+      ap (λ (d : Context Q). record (beating_as d (restart_interval c.now c.heartbeats)) { errors = cleared_if c.options.avoid_stalls c.errors }) (maps_say f OnConnected c)
 
   maps_established : (t : Tcb) (c : Context P) → establish t (map_context f c) ≡ map_endpoint_state f (establish t c)
   maps_established t c =

@@ -14,7 +14,7 @@ use Rattle.sctp_tx_queue.specs.Resets.{streams_to_request, request_resets}
 use Rattle.spec_endpoint.specs.Association.{Tcb, Phase, CookieEchoed, State, Open, Context}
 use Rattle.spec_endpoint.specs.ResetRequests.{Request}
 use Rattle.spec_endpoint.specs.Packets.{PacketDraft, clear_chunks, fits, add, has_chunks, round_down_to_4, packet_to, new_packet, emit_error, emit_if, emit, emit_chunk}
-use Rattle.spec_endpoint.specs.Sending.{Filling, take_due_ack, ack_if, has_data_to_send, with_ack, forward_later, forward_added_if, forward_if, with_expired_abandoned, forward_if_time, with_forward, most_streams, add_request, request_started, request_of, request_if, with_request, with_data, filled_as, BurstStep, burst_step_if, next_packet, continue_burst, burst, send_with, send_buffered, cookie_if, send_cookie, fast_most, fast_packet, fast_if, send_lost}
+use Rattle.spec_endpoint.specs.Sending.{Filling, take_due_ack, ack_if, has_data_to_send, with_ack, forward_later, forward_added_if, forward_if, with_expired_abandoned, forward_if_time, with_forward, most_streams, add_request, request_started, request_of, request_unless, with_request, with_data, filled_as, BurstStep, burst_step_if, next_packet, continue_burst, burst, send_with, send_buffered, cookie_if, send_cookie, fast_most, fast_packet, fast_if, send_lost}
 use Rattle.spec_endpoint.specs.Laws.{Call}
 use Rattle.proof_endpoint.specs.Sound.{FitsState}
 use Rattle.proof_endpoint.specs.Fair.{IsFair}
@@ -130,7 +130,7 @@ module _ {P : Type 0} {call : Call} {R : EndWithPacket P → EndWithPacket P →
       let t : Tcb = request_started x.context.now (id ∷ ids) x.tcb in
       k.through (k.sending (asks_reset most id ids phase x.tcb (filling phase w x) some free)) (does_add_request t.requests.current t c x.packet refl)
 
-  does_request_by : (o : Option Request) (x : Filling P) → x.tcb.requests.current ≡ o → R (filling phase w x) (filling phase w (request_if (is_some o) x))
+  does_request_by : (o : Option Request) (x : Filling P) → x.tcb.requests.current ≡ o → R (filling phase w x) (filling phase w (request_unless (is_some o) x))
   does_request_by (Some r) x is = k.same (filling phase w x)
   does_request_by None x is = does_request_of (streams_to_request (most_streams x.packet) x.context.queue) (most_streams x.packet) x refl is
 

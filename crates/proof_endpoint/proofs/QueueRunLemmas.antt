@@ -1,6 +1,6 @@
 -- A first message in the send queue.
 use Rattle.std.proofs.Common.{◌≡◌, ℕ, ◌+◌, ◌-◌, ◌<◌, ◌≤◌, ◌==◌, nat_lt, nat_le, Bool, true, false, Option, Some, None, List, [], ◌∷◌, length, take, refl, arith}
-use Rattle.std.proofs.lemmas.List.{take_all}
+use Rattle.std.proofs.lemmas.List.{append-nil, take_all}
 use Rattle.std.specs.Prelude.{unwrap_or}
 use Rattle.std.proofs.lemmas.Bool.Decides.{nat_tests}
 use Rattle.sctp_serial.specs.Messages.{Message}
@@ -91,8 +91,8 @@ module _ (m : Message) (lifetime retransmissions lifecycle : Option ℕ) {P : Ty
 
   produces_as : (is_unordered : Bool) → produce 0 1160 (holding m (options is_unordered)) emitted
       ≡ record { queue = emptied m (options is_unordered); emitted = emit_events (OnBufferedAmountLow m.stream ∷ fully_sent lifecycle) emitted; made = Some (produced m (options is_unordered)) }
-  produces_as true = simp (not_below_itself, is_itself, not_due, ends_at_once (length m.payload) few, some_to_go (length m.payload) some, few_to_go (length m.payload) few, all_taken m.payload few) refl
-  produces_as false = simp (not_below_itself, is_itself, not_due, ends_at_once (length m.payload) few, some_to_go (length m.payload) some, few_to_go (length m.payload) few, all_taken m.payload few) refl
+  produces_as true = simp (append-nil emitted.events, not_below_itself, is_itself, not_due, ends_at_once (length m.payload) few, some_to_go (length m.payload) some, few_to_go (length m.payload) few, all_taken m.payload few) refl
+  produces_as false = simp (append-nil emitted.events, not_below_itself, is_itself, not_due, ends_at_once (length m.payload) few, some_to_go (length m.payload) some, few_to_go (length m.payload) few, all_taken m.payload few) refl
 
 pub produces : (m : Message) (o : SendOptions) {P : Type 0} (emitted : Emitted P) → 0 < length m.payload → length m.payload ≤ 1000
     → produce 0 1160 (holding m o) emitted ≡ record { queue = emptied m o; emitted = emit_events (OnBufferedAmountLow m.stream ∷ fully_sent o.lifecycle_id) emitted; made = Some (produced m o) }

@@ -12,7 +12,7 @@ use Rattle.sctp_tx_queue.specs.declared.send_queue.message.MessageNumbers.{Messa
 use Rattle.sctp_tx_queue.specs.declared.send_queue.stream.ResetStep.{ResetStep}
 use Rattle.sctp_tx_queue.specs.declared.send_queue.stream.ResetStep.TheVariants.{Requested, Performed, Refused}
 use Rattle.sctp_tx_queue.specs.SendQueue.{Queued, Stream, Streams, Entries, Queue, blank, stream, with_stream, put_stream, push, add, watched_amount, watched_total}
-use Rattle.sctp_tx_queue.specs.Produced.{Produced, Turn, is_stale, fresh, emit_expired, without_stale, ends as is_last, move_past, moved_front, front_numbers, front_made, next_fragment, advance, pause_if_pending, when, production, emitted_made, streams_without_stale, streams_after, turn, next_stream, idle, produce_within, produce}
+use Rattle.sctp_tx_queue.specs.Produced.{Produced, Turn, is_stale, falls_low, total_falls_low, fresh, emit_expired, emit_fallen, emit_stale, without_stale, ends as is_last, move_past, moved_front, front_numbers, front_made, next_fragment, advance, pause_if_pending, when, production, emitted_made, streams_without_stale, streams_after, turn, next_stream, idle, produce_within, produce}
 use Rattle.sctp_tx_queue.specs.Settings.{Changed, with_threshold, set_low_threshold, with_priority, set_priority, front_discarded, without_front, streams_discarded, discard_from, discard}
 use Rattle.sctp_tx_queue.specs.Resets.{is_partly, emit_unsent, prepare_stream, prepare_reset, after_step, apply_reset_step, each_stepped}
 use Rattle.sctp_tx_queue.specs.Restarted.{whole_front, restart, restarted_one, each_restarted, reset}
@@ -175,6 +175,17 @@ module _ (l : ℕ) where
             (spends_then l (spends_all l (expired_events m.lifecycle) given_up x (waiting l ms) (omega (arith, ends_expiry P l m.lifecycle))) ih)
         go false ih = spends_nothing l t (lifecycle_count l m.lifecycle + waiting l ms) (lifecycle_count l m.lifecycle + waiting l ms) (omega arith)
 
+    emit_fallen_spends : (id : ℕ) (before after : Streams) (t : Emitted P) (x : ℕ) → Spends l t (emit_fallen id before after t) x x
+    emit_fallen_spends id before after t x =
+        let is_low : Bool = falls_low id before after in
+        let is_total_low : Bool = total_falls_low before after in
+        spends_all l (production id is_low is_total_low None) t x x (omega (arith, ends_production P l id is_low is_total_low None))
+
+    emit_stale_spends : (now id : ℕ) (ss : Streams) (t : Emitted P) → Spends l t (emit_stale now id ss t) (waiting l (stream id ss).messages) (waiting l (fresh now (stream id ss).messages))
+    emit_stale_spends now id ss t =
+        let ms : List Queued = (stream id ss).messages in
+        spends_then l (emit_expired_spends now ms t) (emit_fallen_spends id ss (streams_without_stale now id ss) (emit_expired now ms t) (waiting l (fresh now ms)))
+
     drops_waiting : (ms : List Queued) (t : Emitted P) → Spends l t (emit_unsent ms t) (waiting l ms) (waiting l (filter is_partly ms))
     drops_waiting [] t = spends_nothing l t 0 0 (omega arith)
     drops_waiting (m ∷ ms) t = go (is_partly m) (drops_waiting ms)
@@ -210,7 +221,9 @@ module _ (l : ℕ) where
     discards_from : (id : ℕ) (ss : Streams) (o : Option (Option ℕ)) (q : Queue) (t : Emitted P) → waiting_in l ss.entries + lost o ≤ in_queue q
         → Spends l t (discard_from id ss o q t).emitted (in_queue q) (in_queue (discard_from id ss o q t).queue)
     discards_from id ss None q t h = spends_nothing l t (in_queue q) (waiting_in l ss.entries) (omega (arith, h))
-    discards_from id ss (Some o) q t h = spends_all l (expired_events o) t (in_queue q) (waiting_in l ss.entries) (omega (arith, h, ends_expiry P l o))
+    discards_from id ss (Some o) q t h =
+        spends_then l (spends_all l (expired_events o) t (in_queue q) (waiting_in l ss.entries) (omega (arith, h, ends_expiry P l o)))
+        (emit_fallen_spends id q.streams ss (emit_events (expired_events o) t) (waiting_in l ss.entries))
 
     spends_discard : (id number : ℕ) (q : Queue) (t : Emitted P) → Spends l t (discard id number q t).emitted (in_queue q) (in_queue (discard id number q t).queue)
     spends_discard id number q t =
@@ -238,11 +251,11 @@ module _ (l : ℕ) where
     turns : (now id size : ℕ) (q : Queue) (t : Emitted P) → Spends l t (turn now id size q t).emitted (in_queue q) (after_turn (turn now id size q t))
     turns now id size q t =
         let s : Stream = stream id q.streams in
-        let first : Emitted P = emit_expired now s.messages t in
+        let first : Emitted P = emit_stale now id q.streams t in
         let ss : Streams = streams_without_stale now id q.streams in
         let r : Stream = stream id ss in
         let x : Turn P = turn now id size q t in
-        spends_then l (spends_within l (in_queue q) (waiting_in l ss.entries) (emit_expired_spends now s.messages t) (omega (arith, waiting_put id (without_stale now s) q.streams)))
+        spends_then l (spends_within l (in_queue q) (waiting_in l ss.entries) (emit_stale_spends now id q.streams t) (omega (arith, waiting_put id (without_stale now s) q.streams)))
         (makes id (crosses (watched_amount r) (watched_amount (advance size r))) (crosses (watched_total ss) (watched_total (streams_after id size ss)))
         (next_fragment id size r) first (waiting_in l ss.entries) (after_turn x) (omega (arith, waiting_put id (advance size r) ss, waiting_advanced id size r)))
 

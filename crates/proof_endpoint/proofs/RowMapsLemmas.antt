@@ -15,7 +15,7 @@ use Rattle.spec_endpoint.specs.Association.{Tcb, Phase, CookieEchoed, Establishe
 use Rattle.spec_endpoint.specs.Heartbeats.{stop_heartbeats}
 use Rattle.spec_endpoint.specs.Packets.{add, packet_to, emit_error, emit_chunk}
 use Rattle.spec_endpoint.specs.Sending.{AfterSending, is_before_cookie_ack, open_with, send_buffered, send_lost}
-use Rattle.spec_endpoint.specs.Shutdown.{ended, errors_if, emptied_if, over, close_with, t2_shutdown, send_shutdown, send_shutdown_ack, PhaseStep, phase_step, pending_next, received_next, maybe_send_shutdown_or_ack, shutdown_in_phase, open_phase_step, shutdown_in, shutdown, shut_by_peer, on_shutdown, complete_shutdown, out_of_the_blue, on_shutdown_ack_open, on_shutdown_ack_in, on_shutdown_ack, on_shutdown_complete, abort, close_in, close, too_many, abort_for_violation, causes_text, on_abort, refused_if, aborted_in, aborted, on_error, is_quiet}
+use Rattle.spec_endpoint.specs.Shutdown.{ended, cleared_if, emptied_if, over, close_with, t2_shutdown, send_shutdown, send_shutdown_ack, PhaseStep, phase_step, pending_next, received_next, maybe_send_shutdown_or_ack, shutdown_in_phase, open_phase_step, shutdown_in, shutdown, shut_by_peer, on_shutdown, complete_shutdown, out_of_the_blue, on_shutdown_ack_open, on_shutdown_ack_in, on_shutdown_ack, on_shutdown_complete, abort, close_in, close, too_many, abort_for_violation, causes_text, on_abort, refused_if, aborted_in, aborted, on_error, is_quiet}
 use Rattle.spec_endpoint.specs.Data.{no_data, on_no_data, not_connected, on_data_in, on_data_if, on_data, on_forward}
 use Rattle.spec_endpoint.specs.Sack.{clean_blocks, sample_rtt, clear_errors_if, send_after, after_sack, on_clean_sack, no_block, on_sack_in, on_sack, is_late, sampled_unless}
 use Rattle.spec_endpoint.specs.Sack as acks
@@ -93,7 +93,7 @@ module _ {P Q : Type 0} (f : Mapping P Q) where
       let b : Bool = c.options.avoid_stalls in
       let d : Context P = ended e c in
       ap (λ (x : Context Q). emptied_if b x) (ap (λ (x : Context Q). beating_as x (stop_heartbeats c.heartbeats)) (maps_say f e c))
-      ∙ ap (λ (x : Changed Q). changed_to (record (map_context f d) { errors = errors_if b d.errors }) x) (maps_emptied f b d.queue d.emitted)
+      ∙ ap (λ (x : Changed Q). changed_to (record (map_context f d) { errors = cleared_if b d.errors }) x) (maps_emptied f b d.queue d.emitted)
 
   pub maps_closed : (e : Event P) (c : Context P) → close_with (map_event f e) (map_context f c) ≡ map_endpoint_state f (close_with e c)
   maps_closed e c = maps_in_state Closed (over e c) _ (maps_over e c)

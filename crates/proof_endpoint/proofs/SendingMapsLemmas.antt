@@ -13,7 +13,7 @@ use Rattle.sctp_tx.specs.ForwardPoints.{forward_chunk}
 use Rattle.sctp_tx.specs.Sending as fragments
 use Rattle.spec_endpoint.specs.Association.{Tcb, Phase, Context, Counts}
 use Rattle.spec_endpoint.specs.Packets.{PacketDraft, clear_chunks, room, fits, add, has_chunks, packet_to, new_packet, emit_event_in, emit_error, header_to, emit_if, emit, emit_chunk}
-use Rattle.spec_endpoint.specs.Sending.{Filling, take_due_ack, ack_if, has_data_to_send, with_ack, forward_added_if, forward_if, with_expired_abandoned, forward_where_due, forward_if_time, with_forward, most_streams, request_of, request_if, with_request, with_fragments, with_data, filled_as, emit_packet, BurstStep, burst_step_if, next_packet, continue_burst, burst, AfterSending, after_sending, sent_by, is_before_cookie_ack, open_with, send_with, send_buffered, send_unless, send_in, cookie_if, send_cookie, fast_packet, fast_if, send_lost}
+use Rattle.spec_endpoint.specs.Sending.{Filling, take_due_ack, ack_if, has_data_to_send, with_ack, forward_added_if, forward_if, with_expired_abandoned, forward_where_due, forward_if_time, with_forward, most_streams, request_of, request_unless, with_request, with_fragments, with_data, filled_as, emit_packet, BurstStep, burst_step_if, next_packet, continue_burst, burst, AfterSending, after_sending, sent_by, is_before_cookie_ack, open_with, send_with, send_buffered, send_unless, send_in, cookie_if, send_cookie, fast_packet, fast_if, send_lost}
 use Rattle.proof_endpoint.specs.Mapped.{Mapping, map_event, map_context, map_endpoint_state}
 use Rattle.proof_endpoint.proofs.EmittedMapsLemmas.{maps_emit_event, maps_expire, maps_fragments_sent}
 
@@ -101,7 +101,7 @@ module _ {P Q : Type 0} (f : Mapping P Q) where
   maps_request_of [] x = refl
   maps_request_of (id ∷ ids) x = refl
 
-  maps_request_if : (b : Bool) (x : Filling P) → request_if b (map_filling f x) ≡ map_filling f (request_if b x)
+  maps_request_if : (b : Bool) (x : Filling P) → request_unless b (map_filling f x) ≡ map_filling f (request_unless b x)
   maps_request_if true x = refl
   maps_request_if false x =
       let most : ℕ = most_streams x.packet in

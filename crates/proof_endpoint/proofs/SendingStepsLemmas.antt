@@ -12,7 +12,7 @@ use Rattle.sctp_tx_queue.specs.Resets.{streams_to_request, request_resets}
 use Rattle.spec_endpoint.specs.Association.{Tcb, Context}
 use Rattle.spec_endpoint.specs.ResetRequests.{Request, request_chunk}
 use Rattle.spec_endpoint.specs.Packets.{PacketDraft, room, fits, add, has_chunks, packet_to, new_packet, emit}
-use Rattle.spec_endpoint.specs.Sending.{Filling, selective_ack, take_due_ack, ack_if, has_data_to_send, with_ack, forward_added_if, forward_if, with_expired_abandoned, forward_if_time, with_forward, most_streams, add_request, request_of, request_at_most, request_if, with_request, data_chunks, asks_at_once, with_fragments, with_data, filled_as, emit_packet, BurstStep, burst_step_if, next_packet, continue_burst, burst, send_with, send_buffered, cookie_if, send_cookie, fast_most, fast_packet, fast_if, send_lost}
+use Rattle.spec_endpoint.specs.Sending.{Filling, selective_ack, take_due_ack, ack_if, has_data_to_send, with_ack, forward_added_if, forward_if, with_expired_abandoned, forward_if_time, with_forward, most_streams, add_request, request_of, request_at_most, request_unless, with_request, data_chunks, asks_at_once, with_fragments, with_data, filled_as, emit_packet, BurstStep, burst_step_if, next_packet, continue_burst, burst, send_with, send_buffered, cookie_if, send_cookie, fast_most, fast_packet, fast_if, send_lost}
 use Rattle.proof_endpoint.proofs.StepsLemmas.{most_bytes, Goes}
 use Rattle.proof_endpoint.proofs.EmitsLemmas.{emits_expired, emits_sent}
 use Rattle.proof_endpoint.proofs.GoesLemmas.{IsSmall, small_empty, small_add, small_add_all, small_new, small_whole, goes_by, goes_silent, goes_same, goes_then, goes_emit, small_after}
@@ -81,7 +81,7 @@ module _ {P : Type 0} (c : Context P) where
       fills_request_of (streams_to_request most x.context.queue) (record x { context = d })
       (fills_on x.context d x.packet (goes_silent x.context d refl refl refl) h)
 
-  fills_request_if : (b : Bool) (x : Filling P) → FillsBy c x → FillsBy c (request_if b x)
+  fills_request_if : (b : Bool) (x : Filling P) → FillsBy c x → FillsBy c (request_unless b x)
   fills_request_if true x h = h
   fills_request_if false x h = fills_request_at_most (most_streams x.packet) x h
 

@@ -12,7 +12,7 @@ use Rattle.spec_endpoint.specs.ResetRequests.{lasting, expire_reconfig_timer, cl
 use Rattle.spec_endpoint.specs.Sending.{AfterSending, add_request, send_cookie}
 use Rattle.spec_endpoint.specs.Shutdown.{send_shutdown, send_shutdown_ack}
 use Rattle.spec_endpoint.specs.Heartbeats.{counted_on, heartbeat_chunk, send_heartbeat_if, heartbeat_timeout_if}
-use Rattle.spec_endpoint.specs.Timers.{Ticking, tick_ack, t3_if, tick_t3, tick_interval, tick_timeout, request_again, errs_if, reconfig_timeout, requests_if, ticking, tick_timers, TimerOutcome, after_timers, abort_if, abort_if_exhausted, abort_or_send_if, abort_or_send, after_ticks_if, after_ticks, t2_expired, t2_if, tick_t2, waits_if, t1_expired, t1_if, after_init_timer, init_expired, init_if, tick_open, tick_in, advance_if, advance, is_owed}
+use Rattle.spec_endpoint.specs.Timers.{Ticking, tick_ack, t3_if, tick_t3, tick_interval, tick_timeout, request_again, errs_if, reconfig_timeout, requests_if, ticking, tick_timers, TimerOutcome, after_timers, abort_if, abort_if_exhausted, abort_or_send_if, abort_or_send, after_ticks_if, after_ticks, t2_expired, t2_if, tick_t2, waits_if, t1_expired, t1_if, after_init_timer, init_expired, init_if, tick_open, tick_in, advance_unless, advance, is_owed}
 use Rattle.spec_endpoint.specs.Laws.{Call, Advance}
 use Rattle.proof_endpoint.specs.Acts.{all_along, EndWithPacket, idle, advances, delay_ends, times_out, beats, times_init, times_cookie, times_request, wakes_request, counts_errors, Preserves}
 use Rattle.proof_endpoint.proofs.BundledLemmas.{request_more}
@@ -197,7 +197,7 @@ module _ {P : Type 0} {call : Call} {R : EndWithPacket P → EndWithPacket P →
   does_tick (Open phase t) c = does_tick_open phase t c
 
   does_advance_if : (b : Bool) (now : ℕ) (s : EndpointState P) → call ≡ Advance now → nat_lt now s.context.now ≡ b
-      → R (placed s w) (placed (advance_if b now s) w)
+      → R (placed s w) (placed (advance_unless b now s) w)
   does_advance_if true now s is back = k.same (placed s w)
   does_advance_if false now s is back = k.through (k.time (advances now (placed s w) is back)) (does_tick s.state (record s.context { now = now }))
 

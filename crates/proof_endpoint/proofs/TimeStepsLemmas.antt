@@ -11,7 +11,7 @@ use Rattle.spec_endpoint.specs.ResetRequests.{lasting, expire_reconfig_timer, cl
 use Rattle.spec_endpoint.specs.Sending.{AfterSending, add_request, send_cookie}
 use Rattle.spec_endpoint.specs.Shutdown.{send_shutdown, send_shutdown_ack}
 use Rattle.spec_endpoint.specs.Heartbeats.{counted_on, heartbeat_chunk, send_heartbeat_if, heartbeat_timeout_if}
-use Rattle.spec_endpoint.specs.Timers.{Ticking, tick_ack, t3_if, tick_t3, tick_interval, tick_timeout, request_again, errs_if, requests_again, reconfig_timeout, requests_if, ticking, tick_timers, TimerOutcome, closed_if, after_timers, abort_if, abort_if_exhausted, abort_or_send_if, abort_or_send, after_ticks_if, after_ticks, t2_expired, t2_if, tick_t2, waits_if, echoed_again, t1_expired, t1_if, tick_cookie, InitOutcome, waiting_if, init_expired, init_if, tick_init, tick_open, tick_in, advance_if, advance, is_owed}
+use Rattle.spec_endpoint.specs.Timers.{Ticking, tick_ack, t3_if, tick_t3, tick_interval, tick_timeout, request_again, errs_if, requests_again, reconfig_timeout, requests_if, ticking, tick_timers, TimerOutcome, closed_if, after_timers, abort_if, abort_if_exhausted, abort_or_send_if, abort_or_send, after_ticks_if, after_ticks, t2_expired, t2_if, tick_t2, waits_if, echoed_again, t1_expired, t1_if, tick_cookie, InitOutcome, waiting_if, init_expired, init_if, tick_init, tick_open, tick_in, advance_unless, advance, is_owed}
 use Rattle.spec_endpoint.specs.Laws.{ends}
 use Rattle.proof_endpoint.proofs.StepsLemmas.{most_bytes, Goes, Steps}
 use Rattle.proof_endpoint.proofs.EmitsLemmas.{emits_nack_all}
@@ -193,7 +193,7 @@ module _ {P : Type 0} where
       steps_waiting_if x.has_ended tag first t1 (expire c.now t1) c x.context (goes_init_if (is_due c.now t1) tag first t1 c)
   steps_tick (Open phase t) c = steps_tick_open phase t c
 
-  steps_advance_if : (is_back : Bool) (now : ℕ) (s : EndpointState P) → Steps s (advance_if is_back now s)
+  steps_advance_if : (is_back : Bool) (now : ℕ) (s : EndpointState P) → Steps s (advance_unless is_back now s)
   steps_advance_if true now s = steps_same s
   steps_advance_if false now s =
       let d : Context P = record s.context { now = now } in

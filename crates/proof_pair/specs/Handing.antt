@@ -20,7 +20,7 @@ abbrev pub handed_by : EndAction → Side → List Message
 handed_by (Calls TakeMessage) x = take 1 (ready_at x)
 handed_by action x = []
 
--- true is end a: what end x hands out at an action of this end
+-- true is end a: what end x hands out at an action of the end that acts
 abbrev pub handed_at : (x acts : Bool) → EndAction → Pair → List Message
 handed_at true true action w = handed_by action w.a
 handed_at false false action w = handed_by action w.b

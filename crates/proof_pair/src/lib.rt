@@ -20,7 +20,7 @@ pub fn ends_are_consistent()
     ensures consistent { EndsAreConsistent }
 {}
 
-/// A DATA or I-DATA chunk that is refused before its TSN is observed leaves tracker and reassembly as they were; of the others
+/// A DATA or I-DATA chunk that is refused before its TSN is observed leaves reassembly, and what the tracker has seen, as they were; of the others
 /// each whose TSN is new is added to reassembly. A forward point reaches reassembly exactly where it moves the cumulative TSN; one
 /// that is out of range, or for which there is no room behind a reset, changes nothing (RFC 9260 section 6.2, RFC 3758 section 3.6).
 pub fn data_is_taken()

@@ -7,7 +7,7 @@ use Rattle.sctp_serial.specs.Unwrapped.{origin}
 use Rattle.sctp_state.specs.Events.{Emitted}
 use Rattle.sctp_tx_queue.specs.declared.send_queue.message.MessageNumbers.{MessageNumbers}
 use Rattle.sctp_tx_queue.specs.SendQueue.{Queued, Queue, Stream, Streams, stream}
-use Rattle.sctp_tx_queue.specs.Produced.{Produced, Turn, fresh, emit_expired, without_stale, streams_without_stale, numbers_of, took, made_of, move_past, ends, next_fragment, advance, turn, next_stream, produce_within}
+use Rattle.sctp_tx_queue.specs.Produced.{Produced, Turn, fresh, emit_stale, without_stale, streams_without_stale, numbers_of, took, made_of, move_past, ends, next_fragment, advance, turn, next_stream, produce_within}
 use Rattle.sctp_tx_queue.specs.InOrder.{are_in_order, are_rising, has_rest}
 use Rattle.sctp_tx_queue.proofs.InOrderLemmas.{fresh_both, put_elsewhere, turn_in_order, line_mode}
 use Rattle.sctp_tx_queue.proofs.NumberLemmas.{turn_numbered, fresh_rising}
@@ -72,7 +72,7 @@ module _ {P : Type 0} (message : ℕ → Message) (lifecycle : ℕ → Option �
   ms1 = put (messages_of q) id L1
 
   emitted_is : recorded_places (turn now id size q emitted).emitted ≡ recorded_places emitted ++ f.places
-  emitted_is = emitted_same id _ _ (turn now id size q emitted).made (emit_expired now s0.messages emitted) ∙ f.recorded_are
+  emitted_is = emitted_same id _ _ (turn now id size q emitted).made (emit_stale now id q.streams emitted) ∙ f.recorded_are
 
   next_y : (j : ℕ) → IsNext y.sender j (stream j q.streams)
   next_y j =

@@ -28,7 +28,7 @@ use Rattle.proof_delivery.specs.GivenUp.{given_up_by, given_up_at}
 use Rattle.proof_refines.specs.Reachable.{delivered_ids}
 use Rattle.proof_delivery.specs.Ending as ending
 use Rattle.spec_world.specs.Observations as observations
-use Rattle.spec_world.specs.Observations.{End, A, B, same_end, all_unless, unrefused, Entry, Called, Given, Foreign, Answer, Sent, SentMany, accepted_in, accepted_by, Call, Connect, Shutdown, Close, Send, SendMany, TakeMessage, Reset, SetPriority, SetMaxMessageSize, SetLowThreshold, HandOver}
+use Rattle.spec_world.specs.Observations.{End, A, B, same_end, all_if, unrefused, Entry, Called, Given, Foreign, Answer, Sent, SentMany, accepted_in, accepted_by, Call, Connect, Shutdown, Close, Send, SendMany, TakeMessage, Reset, SetPriority, SetMaxMessageSize, SetLowThreshold, HandOver}
 use Rattle.spec_world.specs.World.{Side, World, Action, CallOf, Give, GiveForeign, AdvanceTime, MeetsForeignAt, given, withheld, Gives, Happens, Runs, side_of, take_emitted, news_of, clock, call_socket, call_entry, after_call, advance_time, time_entry, after_time, table_call}
 use Rattle.proof_endpoint.specs.Sound.{ArgumentFits}
 use Rattle.proof_world.specs.Reachable.{ActionFits, IsInBytes}
@@ -367,7 +367,7 @@ one_call call answer = refl
 one_entry : (x : End) (e : Entry) → accepted_by x e ≡ map (λ (z : AcceptedMessage). z.message) (accepted_messages_by x e)
 one_entry x (Called y clock call answer) = go (same_end x y)
   where
-    go : (b : Bool) → all_unless b (accepted_in call answer) ≡ map (λ (z : AcceptedMessage). z.message) (all_unless b (accepted_messages_in call answer))
+    go : (b : Bool) → all_if b (accepted_in call answer) ≡ map (λ (z : AcceptedMessage). z.message) (all_if b (accepted_messages_in call answer))
     go true = one_call call answer
     go false = refl
 one_entry x e = refl

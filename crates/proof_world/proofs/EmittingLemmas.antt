@@ -20,7 +20,7 @@ use Rattle.proof_delivery.specs.Accepted.{accepted_by, accepted_in}
 use Rattle.proof_delivery.specs.GivenUp.{given_up_by}
 use Rattle.proof_delivery.specs.Justified as turns
 use Rattle.proof_delivery.specs.Justified.{reset_unless}
-use Rattle.spec_world.specs.Observations.{End, A, B, same_end, same_association, same_numbers, all_unless, Call, Connect, Shutdown, Close, Send, SendMany, TakeMessage, Reset, SetPriority, SetMaxMessageSize, SetLowThreshold, HandOver, Entry, Given, Foreign, ready_by, handed_out_in, handed_out_by, given_up}
+use Rattle.spec_world.specs.Observations.{End, A, B, same_end, same_association, same_numbers, all_if, Call, Connect, Shutdown, Close, Send, SendMany, TakeMessage, Reset, SetPriority, SetMaxMessageSize, SetLowThreshold, HandOver, Entry, Given, Foreign, ready_by, handed_out_in, handed_out_by, given_up}
 use Rattle.spec_world.specs.Observations as observations
 use Rattle.spec_world.specs.World as worlds
 use Rattle.spec_world.specs.World.{Side, other, association, ready_before, news_of, take_emitted, handed_by as record_by, table_call, answer_to, call_entry, time_entry, clock}
@@ -276,15 +276,15 @@ module _ (f : Mapping Carried (List ℕ)) (x : End) (action : EndAction) (own be
 module _ (f : Mapping Carried (List ℕ)) (x : End) (own : traces.Side) where
   pub call_begins : (s : Endpoint (List ℕ)) → s ≡ map_end f own.end → (call : Call) → BeginsWith x (Calls (table_call call)) own (call_entry x call s)
   call_begins s is call = record {
-    offers = ap (λ (b : Bool). all_unless b (accepted_messages_in call (answer_to call s))) (same_itself x) ∙ call_offers f x own s is call;
-    no_offers = ap (λ (b : Bool). all_unless b (accepted_messages_in call (answer_to call s))) (not_other x);
+    offers = ap (λ (b : Bool). all_if b (accepted_messages_in call (answer_to call s))) (same_itself x) ∙ call_offers f x own s is call;
+    no_offers = ap (λ (b : Bool). all_if b (accepted_messages_in call (answer_to call s))) (not_other x);
     ready = λ y. refl;
-    handed = ap (λ (b : Bool). all_unless b (handed_out_in (answer_to call s))) (same_itself x) ∙ call_hands f x own s is call;
-    none_handed = ap (λ (b : Bool). all_unless b (handed_out_in (answer_to call s))) (not_other x);
+    handed = ap (λ (b : Bool). all_if b (handed_out_in (answer_to call s))) (same_itself x) ∙ call_hands f x own s is call;
+    none_handed = ap (λ (b : Bool). all_if b (handed_out_in (answer_to call s))) (not_other x);
     given_up = λ y. refl;
     reported = λ y. refl;
-    resets = ap (λ (b : Bool). all_unless b (reset_in call (answer_to call s))) (same_itself x) ∙ call_resets f x own s is call;
-    no_resets = ap (λ (b : Bool). all_unless b (reset_in call (answer_to call s))) (not_other x);
+    resets = ap (λ (b : Bool). all_if b (reset_in call (answer_to call s))) (same_itself x) ∙ call_resets f x own s is call;
+    no_resets = ap (λ (b : Bool). all_if b (reset_in call (answer_to call s))) (not_other x);
     happened = λ y. refl;
   }
 

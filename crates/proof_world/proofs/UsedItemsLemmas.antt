@@ -20,7 +20,7 @@ use Rattle.sctp_tx_outstanding.specs.Resending.{Resent, size_in, again_of, allow
 use Rattle.sctp_tx_outstanding.specs.Sack.{report_by, is_valid, bound, highest_end, leaving, staying, ack_or_uncover_all, reported_below, receive_sack_first}
 use Rattle.sctp_tx_queue.specs.SendQueue.{Queued, Queue}
 use Rattle.sctp_tx_queue.specs.Produced as queued
-use Rattle.sctp_tx_queue.specs.Produced.{is_stale, emit_expired, emitted_made, turn, next_stream, idle, produce_within, produce}
+use Rattle.sctp_tx_queue.specs.Produced.{is_stale, emit_expired, emit_stale, emitted_made, turn, next_stream, idle, produce_within, produce}
 use Rattle.sctp_tx_queue.specs.Emptied.{emptied_one, emit_ended, emit_each_ended, empty}
 use Rattle.sctp_tx_queue.specs.Resets.{is_partly, emit_unsent}
 use Rattle.sctp_tx_queue.specs.Settings.{Changed, discard_from, discard, front_discarded, streams_discarded}
@@ -91,7 +91,7 @@ module _ {P : Type 0} where
 
   turn_grow : (now id size : ℕ) (q : Queue) (t : Emitted P) → count t ≤ count (turn now id size q t).emitted
   turn_grow now id size q t =
-      let first : Emitted P = emit_expired now (queues.stream id q.streams).messages t in
+      let first : Emitted P = emit_stale now id q.streams t in
       let ss : queues.Streams = queued.streams_without_stale now id q.streams in
       let s : queues.Stream = queues.stream id ss in
       let made : Option queued.Produced = queued.next_fragment id size s in

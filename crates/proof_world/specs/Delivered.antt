@@ -12,7 +12,7 @@ use Rattle.proof_delivery.specs.Justified.{reset_unless}
 use Rattle.proof_delivery.specs.StreamEpochs.{StreamEpoch, all_open, shut_streams, reopen, performed_of, epochs_of, resets_emitted}
 use Rattle.proof_delivery.specs.Windows.{numbered_count, left_count, IsWithin, Stamp, Stamps, no_stamps, IsYoung}
 use Rattle.proof_delivery.specs.Delivery.{Fits, SkippedAreGivenUp, IsReady, AllAreDone}
-use Rattle.spec_world.specs.Observations.{End, A, B, same_end, none_unless, all_unless, Call, Send, SendMany, Reset, Answer, Sent, SentMany, AskedReset, unrefused, Entry, Called, Given, Foreign, Timed, EmittedEvent, BecameReady, accepted, ready, given_up}
+use Rattle.spec_world.specs.Observations.{End, A, B, same_end, none_unless, all_if, Call, Send, SendMany, Reset, Answer, Sent, SentMany, AskedReset, unrefused, Entry, Called, Given, Foreign, Timed, EmittedEvent, BecameReady, accepted, ready, given_up}
 use Rattle.spec_world.specs.World.{Side, World, Action, Give, Runs, other, is_at_rest}
 use Rattle.proof_world.specs.Consistent.{NoEndingIsLogged}
 
@@ -24,7 +24,7 @@ accepted_messages_in (SendMany ms options) (SentMany refused) = map (λ (m : Mes
 accepted_messages_in call answer = []
 
 abbrev pub accepted_messages_by : End → Entry → List AcceptedMessage
-accepted_messages_by x (Called y clock call answer) = all_unless (same_end x y) (accepted_messages_in call answer)
+accepted_messages_by x (Called y clock call answer) = all_if (same_end x y) (accepted_messages_in call answer)
 accepted_messages_by x entry = []
 
 abbrev pub accepted_messages : End → List Entry → List AcceptedMessage
@@ -47,7 +47,7 @@ reset_in (Reset streams) (AskedReset refused) = reset_unless refused streams
 reset_in call answer = []
 
 abbrev pub reset_by : End → Entry → List ℕ
-reset_by x (Called y clock call answer) = all_unless (same_end x y) (reset_in call answer)
+reset_by x (Called y clock call answer) = all_if (same_end x y) (reset_in call answer)
 reset_by x entry = []
 
 -- such a call shuts those that are open, and they are open again once the end emits that they were reset
@@ -185,7 +185,7 @@ pub record WorldIsInBounds (actions : List Action) (w v : World) (runs : Runs ac
   pub resets : WorldKeepsResets actions w v runs
   pub few : (x : End) (early late : List Entry) → v.log ≡ early ++ late → NoEndingIsLogged early → length (accepted_messages x early) < 2 ^ 32
 
--- the messages of the offers are those accepted
+-- without their options, they are the messages that `accepted` reads off the log
 abbrev pub AcceptedMessagesAgree : Type 0
 AcceptedMessagesAgree = (x : End) (log : List Entry) → accepted x log ≡ map (λ (o : AcceptedMessage). o.message) (accepted_messages x log)
 

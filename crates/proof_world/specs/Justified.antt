@@ -86,6 +86,6 @@ WorldsAreJustified =
     → Runs actions (fresh_world a b draws_a draws_b word_of_a word_of_b) w → IsInBytes w
     → (x : End) → length (accepted_messages x w.log) < 2 ^ 32 → AreJustified x (options_of x a b).avoid_stalls w.log
 
--- acceptances are those of the offers, one by one
+-- acceptances are those of the accepted messages, one by one
 abbrev pub AcceptancesAreOfAcceptedMessages : Type 0
 AcceptancesAreOfAcceptedMessages = (x : End) (log : List Entry) → map (λ (a : Acceptance). a.offer) (acceptances x log) ≡ accepted_messages x log

@@ -1,4 +1,4 @@
--- What a log shows, whatever was drawn: packets are by their numbers already, a record that was handed over is the word that it was, and
+-- What a log shows, whatever was drawn: packets are by their numbers already, of a handover only that it was done, and
 -- associations and the texts of errors are left out.
 use Rattle.std.specs.Prelude.{◌≡◌, ℕ, List, [], ◌∷◌}
 use Rattle.std.specs.List.{flat_map}

@@ -95,7 +95,7 @@ fn shut_if<C: Checksum>(
     }
 }
 
-/// The end of a packet: behind all that is sent then, since what a shutdown waited for may have expired.
+/// The end of a packet: what is due goes out, and behind it a shutdown that waited, with stalls avoided, since what it waited for may have expired.
 #[tactic(auto, using(sctp_endpoint::proofs::GoesOnLemmas::goes_on_same, sctp_endpoint::proofs::GoesOnLemmas::goes_on_through))]
 fn end_packet<C: Checksum>(
     context: &mut Context<C>,

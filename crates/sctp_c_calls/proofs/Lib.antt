@@ -1,4 +1,3 @@
 pub mod BatchLemmas
 pub mod OutcomeLemmas
-pub mod HandoverLemmas
 pub mod ReadyLemmas

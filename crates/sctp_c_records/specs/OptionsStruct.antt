@@ -155,8 +155,8 @@ abbrev pub flags_value : Options → ℕ
 flags_value o = flag_value o.enable_partial_reliability 1 + flag_value o.enable_message_interleaving 2 + flag_value o.disable_checksum_verification 4
     + flag_value o.enable_handover_with_outstanding_data 8 + flag_value o.heartbeat_interval_include_rtt 16 + flag_value o.avoid_stalls 32
 
--- ---- data channels (RFC 8831): DTLS finds damage (RFC 9653), the window is twice the largest message, 16 MiB wait on each stream, and
--- stalls are avoided
+-- ---- data channels (RFC 8831): DTLS finds damage (RFC 9653), the window is twice the largest message, 16 MiB wait on each stream,
+-- 65,536 fragments are held, and stalls are avoided
 
 abbrev pub webrtc_options : Options
 webrtc_options = record defaults {
@@ -164,6 +164,7 @@ webrtc_options = record defaults {
   max_send_buffer_size = 2 ^ 32 - 1;
   per_stream_send_queue_limit = 2 ^ 24;
   zero_checksum_method = 1;
+  max_held_fragments = Some (2 ^ 16);
   avoid_stalls = true;
 }
 
@@ -173,6 +174,7 @@ webrtc_record = record default_record {
   max_send_buffer_size = 2 ^ 32 - 1;
   per_stream_send_queue_limit = 2 ^ 24;
   zero_checksum_method = 1;
+  max_held_fragments = 2 ^ 16;
   flags = 49;
 }
 

@@ -21,7 +21,7 @@ pub const INVALID_OPTIONS: u32 = 5;
 pub const INVALID_STREAM: u32 = 6;
 /// An argument is beyond what it can be.
 pub const INVALID_ARGUMENT: u32 = 7;
-/// No event waits, or no message is ready.
+/// There is none: no event, message or record waits, or no association is counted.
 pub const NOTHING: u32 = 8;
 /// The buffer is too short; what didn't fit stays.
 pub const SHORT_BUFFER: u32 = 9;
@@ -45,7 +45,7 @@ pub const NO_ROOM: u32 = 17;
 pub const SOME_REFUSED: u32 = 18;
 /// A record can be taken up by a closed socket alone.
 pub const NOT_CLOSED: u32 = 19;
-/// The bytes are no record of a socket, or of none that there could be.
+/// The bytes are no record of a socket, or not a valid one.
 pub const INVALID_STATE: u32 = 20;
 /// The size of a struct is beyond those that there are.
 pub const INVALID_SIZE: u32 = 21;
@@ -61,7 +61,7 @@ pub const NO_CHANNEL: u32 = 25;
 pub const CHANNEL_CLOSING: u32 = 26;
 /// The stream has a channel, or isn't free yet.
 pub const STREAM_IN_USE: u32 = 27;
-/// All streams that this end may open channels on have one.
+/// All streams that this end may open channels on are in use.
 pub const NO_FREE_STREAM: u32 = 28;
 /// A label or a protocol has 65,536 bytes or more.
 pub const TEXT_TOO_LONG: u32 = 29;

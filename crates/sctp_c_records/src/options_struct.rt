@@ -158,7 +158,8 @@ impl OptionsRecord {
         put_u64(bytes, 168, self.min_rtt_variance);
     }
 
-    /// The options of data channels (RFC 8831), over DTLS (RFC 9653), with a queue that is bounded by stream and with stalls avoided.
+    /// The options of data channels (RFC 8831), over DTLS (RFC 9653), with a queue that is bounded by stream, held fragments that are
+    /// bounded by count, and with stalls avoided.
     pub fn for_webrtc() -> OptionsRecord
         ensures record { result ≡ webrtc_record }
         ensures options { given_options result ≡ webrtc_options }
@@ -169,6 +170,7 @@ impl OptionsRecord {
         record.max_send_buffer_size = u32::MAX;
         record.per_stream_send_queue_limit = 1 << 24;
         record.zero_checksum_method = 1;
+        record.max_held_fragments = 65_536;
         record.flags = 49;
         record
     }

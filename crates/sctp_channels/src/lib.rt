@@ -3,8 +3,8 @@
 //! (`data_channels`): opened, written, read and closed, whichever socket it is.
 //!
 //! The owner drives the socket as without channels, and calls `collect` behind each call that may have emitted something: behind `handle_input`
-//! for each packet, and behind `advance_time`. What the socket emitted is then taken by `next_event` alone; or by `poll_event`, which collects too,
-//! and behind `handle_input` alone is `collect` called then.
+//! for each packet, and behind `advance_time`. What the socket emitted is then taken by `next_event` alone; or by `poll_event`, which collects too:
+//! then `collect` is called behind `handle_input` alone, and not where `poll_event` is called there until it answers `None`.
 #![tactic(auto)]
 
 mod channel;

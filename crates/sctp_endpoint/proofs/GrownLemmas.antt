@@ -14,7 +14,7 @@ use Rattle.sctp_tx_outstanding.specs.Sack.{report_by, all_leaving_events, leavin
 use Rattle.sctp_tx_outstanding.specs.Interrupted.{Same, SackPartlyTaken}
 use Rattle.sctp_tx.specs.Windows.{is_open}
 use Rattle.sctp_tx_queue.specs.SendQueue.{Queue, Queued, Stream, Streams, stream, watched_amount, watched_total}
-use Rattle.sctp_tx_queue.specs.Produced.{Produced, emit_expired, is_stale, production, fully_sent, when, emitted_made, streams_without_stale, streams_after, advance, next_fragment, turn, Turn, next_stream, idle, produce_within, produce}
+use Rattle.sctp_tx_queue.specs.Produced.{Produced, emit_expired, emit_fallen, emit_stale, is_stale, falls_low, total_falls_low, production, fully_sent, when, emitted_made, streams_without_stale, streams_after, advance, next_fragment, turn, Turn, next_stream, idle, produce_within, produce}
 use Rattle.sctp_tx_queue.specs.Interrupted.{Passed, Stopped, Interrupted}
 use Rattle.sctp_tx_queue.specs.Settings.{discard, discard_from, streams_discarded, front_discarded}
 use Rattle.sctp_tx.specs.RetransmissionQueue.{Sender, emitted_if}
@@ -55,13 +55,26 @@ quiet_production id is_low is_total_low lifecycle =
     quiet_both (when is_low (OnBufferedAmountLow id)) (when is_total_low OnTotalBufferedAmountLow ++ fully_sent lifecycle) (quiet_when is_low (OnBufferedAmountLow id) refl)
     (quiet_both (when is_total_low OnTotalBufferedAmountLow) (fully_sent lifecycle) (quiet_when is_total_low OnTotalBufferedAmountLow refl) (quiet_sent lifecycle))
 
+fallen_grown : (id : ℕ) (before after : Streams) (t : E) → GrownQuietly t (emit_fallen id before after t)
+fallen_grown id before after t =
+    let is_low = falls_low id before after in
+    let is_total_low = total_falls_low before after in
+    quietly_emitted (production id is_low is_total_low None) t (quiet_production id is_low is_total_low None)
+
+stale_grown : (now id : ℕ) (ss : Streams) (t : E) → GrownQuietly t (emit_stale now id ss t)
+stale_grown now id ss t =
+    let u = emit_expired now (stream id ss).messages t in
+    quietly_through t u (emit_stale now id ss t) (expired_grown now (stream id ss).messages t) (fallen_grown id ss (streams_without_stale now id ss) u)
+
 made_grown : (id : ℕ) (is_low is_total_low : Bool) (made : Option Produced) (t : E) → GrownQuietly t (emitted_made id is_low is_total_low made t)
 made_grown id is_low is_total_low None t = quietly_same t
 made_grown id is_low is_total_low (Some p) t = quietly_emitted (production id is_low is_total_low p.lifecycle) t (quiet_production id is_low is_total_low p.lifecycle)
 
 discarded_grown : (id : ℕ) (ss : Streams) (found : Option (Option ℕ)) (q : Queue) (t : E) → GrownQuietly t (discard_from id ss found q t).emitted
 discarded_grown id ss None q t = quietly_same t
-discarded_grown id ss (Some lifecycle) q t = quietly_emitted (expired_events lifecycle) t (quiet_expired (List ℕ) lifecycle)
+discarded_grown id ss (Some lifecycle) q t =
+    let u = emit_events (expired_events lifecycle) t in
+    quietly_through t u (emit_fallen id q.streams ss u) (quietly_emitted (expired_events lifecycle) t (quiet_expired (List ℕ) lifecycle)) (fallen_grown id q.streams ss u)
 
 discards_grown : (ds : List Discard) (q : Queue) (t : E) → GrownQuietly t (discard_all ds q t).emitted
 discards_grown [] q t = quietly_same t
@@ -75,8 +88,8 @@ module _ (now size : ℕ) where
   turn_grown id q t =
       let ss = streams_without_stale now id q.streams in
       let s : Stream = stream id ss in
-      let u = emit_expired now (stream id q.streams).messages t in
-      quietly_through t u (turn now id size q t).emitted (expired_grown now (stream id q.streams).messages t)
+      let u = emit_stale now id q.streams t in
+      quietly_through t u (turn now id size q t).emitted (stale_grown now id q.streams t)
       (made_grown id (crosses (watched_amount s) (watched_amount (advance size s))) (crosses (watched_total ss) (watched_total (streams_after id size ss))) (next_fragment id size s) u)
 
   within_grown : (turns : ℕ) (q : Queue) (t : E) → GrownQuietly t (produce_within turns now size q t).emitted
@@ -104,7 +117,7 @@ module _ (now size : ℕ) where
 
   stopped_grown : (id : ℕ) (q : Queue) (t : E) (rest : Queue) (later : E) → Stopped now id q t rest later → GrownQuietly t later
   stopped_grown id q t rest later (inl same) = to t t later same.events (quietly_same t)
-  stopped_grown id q t rest later (inr freed) = to t (emit_expired now (stream id q.streams).messages t) later freed.events (expired_grown now (stream id q.streams).messages t)
+  stopped_grown id q t rest later (inr freed) = to t (emit_stale now id q.streams t) later freed.events (stale_grown now id q.streams t)
 
   interrupted_grown : (q : Queue) (t : E) (rest : Queue) (later : E) → Interrupted now size q t rest later → GrownQuietly t later
   interrupted_grown q t rest later i = quietly_through t i.emitted later (passed_grown i.turns q t i.queue i.emitted i.passed) (stopped_grown i.id i.queue i.emitted rest later i.stopped)

@@ -33,12 +33,12 @@ pub record GrownQuietly {P : Type 0} (old now : Emitted P) : Type 0 where
   pub stands : Grown old now
   pub announced : announcements now ≡ announcements old
 
--- such events; no message more counts as accepted
+-- the same of a context's events; no message more counts as accepted
 pub record GoesOn {C : Type 0} (old now : ContextValue C) : Type 0 where
   pub emitted : GrownQuietly old.emitted now.emitted
   pub accepted : now.counts.tx_messages ≡ old.counts.tx_messages
 
--- any events
+-- The same, but that more events of any kind may stand behind those that were emitted.
 pub record Continues {C : Type 0} (old now : ContextValue C) : Type 0 where
   pub emitted : Grown old.emitted now.emitted
   pub accepted : now.counts.tx_messages ≡ old.counts.tx_messages
@@ -47,7 +47,7 @@ pub record Continues {C : Type 0} (old now : ContextValue C) : Type 0 where
 abbrev pub HoldsAnnounced : {P : Type 0} → (old now : Emitted P) → State → Type 0
 HoldsAnnounced old now state = (announcements now ≡ announcements old) ⊎ (is_some (association_in state) ≡ true)
 
--- any events, of which an association that they announce is held
+-- The same as `Continues`, and an association that was announced since is held in this state.
 pub record GoesOnWith {C : Type 0} (old now : ContextValue C) (state : State) : Type 0 where
   pub emitted : Grown old.emitted now.emitted
   pub accepted : now.counts.tx_messages ≡ old.counts.tx_messages

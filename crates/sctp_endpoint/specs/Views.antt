@@ -134,7 +134,7 @@ opened_endpoint_of stream_of word_of phase t c rng = record { endpoint_state = o
 abbrev pub after_chunk_of : {R C : Type 0} → (R → Stream) → (C → List ℕ → ℕ) → given_state.State → ContextValue C → R → (goes_on : Bool) → AfterChunk (List ℕ)
 after_chunk_of stream_of word_of s c rng goes_on = record { end = endpoint_of stream_of word_of s c rng; allows_next = goes_on }
 
--- ---- what is emitted of packets and chunks that aren't taken
+-- ---- a SACK that came
 
 abbrev pub sack_of : SackChunk → SackTree
 sack_of c = record {

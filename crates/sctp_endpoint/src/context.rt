@@ -33,7 +33,7 @@ pub struct Context<C: Checksum> {
     pub options: Options,
     pub clock: SocketTime,
     pub send_queue: SendQueue,
-    /// No forward point is tested or sent before this moment.
+    /// No forward point is looked for or sent before this moment.
     pub limit_forward_tsn_until: SocketTime,
     pub tx_error_counter: TxErrorCounter,
     /// Until the next heartbeat, where no data is sent.
@@ -207,7 +207,7 @@ impl<C: Checksum> Context<C> {
     /// With stalls avoided the count of errors doesn't go to another association.
     #[tactic(auto, using(crate::proofs::GoesOnLemmas::goes_on_same, crate::proofs::GoesOnLemmas::goes_on_as))]
     pub fn forget_errors(&mut self)
-        ensures ok { let c = context_of C.word_of self.old in context_of C.word_of self.new ≡ record c { errors = closing.errors_if c.options.avoid_stalls c.errors } }
+        ensures ok { let c = context_of C.word_of self.old in context_of C.word_of self.new ≡ record c { errors = closing.cleared_if c.options.avoid_stalls c.errors } }
         ensures goes_on { GoesOn self.old self.new }
     {
         if self.options.avoid_stalls {

@@ -1,5 +1,5 @@
 -- An outline, chunk by chunk, and what it says of a packet.
-use Rattle.std.proofs.Common.{◌≡◌, ◌||◌, ℕ, zero, suc, codes, ◌==◌, Bool, true, false, Option, Some, None, List, [], ◌∷◌, refl, sym, ap, ◌∙◌, arith}
+use Rattle.std.proofs.Common.{◌≡◌, ◌||◌, ℕ, zero, suc, ◌==◌, Bool, true, false, Option, Some, None, List, [], ◌∷◌, refl, sym, ap, ◌∙◌, arith}
 use Rattle.std.proofs.lemmas.Bool.Decides.{nat_tests}
 use Rattle.std.specs.Option.{option_or}
 use Rattle.std.specs.Bool.{then_some}
@@ -124,10 +124,6 @@ few_refused o tag chunks s e few =
     ap (λ (p : Outline). outlined_refusal p tag s) e
     ∙ (refusal_as (abort_flag chunks) (complete_flag chunks) (has_shutdown_ack chunks) tag chunks s
     ∙ ap (λ (b : Bool). unless_many b (by_tag tag chunks s)) few)
-
-pub many_refused : (tag : ℕ) (chunks : List ChunkTree) (s : State) → true ≡ has_more_counted 4 chunks
-    → Some (codes "More than 4 SACK and COOKIE ECHO chunks present in packet") ≡ packet_refusal tag chunks s
-many_refused tag chunks s many = ap (λ (b : Bool). unless_many b (by_tag tag chunks s)) many
 
 -- ---- the walk that counts SACKs and COOKIE ECHOs
 

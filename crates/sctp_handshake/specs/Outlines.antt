@@ -25,7 +25,7 @@ followed_by o behind = record {
   is_single_init = false;
 }
 
--- the first rule that applies; it looks at the chunks themselves only where all others don't
+-- the first rule that applies; the last one alone asks whether the chunks begin with a cookie, or are a single INIT
 abbrev pub outlined_by : (abort complete : Option Bool) → (is_shutdown_ack begins_with_cookie is_single_init : Bool) → (tag : ℕ) → State → Option (List ℕ)
 outlined_by (Some reflected) complete is_shutdown_ack is_cookie is_init tag s = packet_refusal_by (Some reflected) complete is_shutdown_ack tag [] s
 outlined_by None (Some reflected) is_shutdown_ack is_cookie is_init tag s = packet_refusal_by None (Some reflected) is_shutdown_ack tag [] s

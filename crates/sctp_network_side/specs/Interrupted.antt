@@ -3,7 +3,7 @@ use Rattle.std.specs.Prelude.{◌≡◌, ℕ, List, ◌++◌}
 use Rattle.spec_world.specs.Observations.{End, Entry}
 use Rattle.spec_world.specs.World.{Side, TakesBytes, MeetsForeignAt}
 
--- a log that has grown from the old one, and stops short of the whole one, or nowhere short of it
+-- a log that has grown from the old one, and is a beginning of the whole one, or all of it
 pub record IsCut (old whole log : List Entry) : Type 0 where
   pub made : List Entry
   pub left : List Entry

@@ -1,6 +1,6 @@
 -- Complete intervals by the keys at which they begin.
 use Rattle.std.proofs.Common.{◌≡◌, ℕ, ◌<◌, ◌≤◌, ◌==◌, Bool, true, false, cond, not, Option, Some, None, List, [], ◌∷◌, ◌++◌, refl, ap, sym, subst, ◌∙◌, arith, Ordering, Less, Equal, Greater, append_assoc, append-nil}
-use Rattle.std.specs.Prelude.{◌&&◌, ◌||◌, nat_lt, IfSome, IfNone}
+use Rattle.std.specs.Prelude.{◌&&◌, ◌||◌, nat_lt, IfSome, IfNone, Result, Ok, Err, OnOk}
 use Rattle.std.specs.List.{All, list_any, slice_get}
 use Rattle.std.specs.Ordering.{nat_cmp, is_gt, is_eq, match_ordering}
 use Rattle.std.specs.BTreeSet.{BTreeSet, insert_key, IsKeyRangeOf}
@@ -133,6 +133,11 @@ module _ {K : Type 0} (number index : K → ℕ) where
 
   pub none_kept : (m : ℕ) (s t : BTreeSet K) (rs : List (List Held)) → ((n : ℕ) → m ≤ n → is_held rank n s.keys ≡ true → is_held rank n t.keys ≡ true) → NoneMissed number index m (Some s) rs → NoneMissed number index m (Some t) rs
   none_kept m s t rs kept h = pass_weaker (is_missed rank m (Some s)) (is_missed rank m (Some t)) (missed_kept m s t kept) rs h
+
+  -- where one run more is not missed, none is
+  pub none_with : {T E : Type 0} (result : Result T E) (m : ℕ) (s t : BTreeSet K) (r : List Held) (rs : List (List Held)) → OnOk result ((n : ℕ) → is_held rank n s.keys ≡ true → is_held rank n t.keys ≡ true) → OnOk result (is_missed rank m (Some t) r ≡ false) → NoneMissed number index m (Some s) rs → OnOk result (NoneMissed number index m (Some t) (r ∷ rs))
+  none_with (Ok v) m s t r rs kept added h = (added, none_kept m s t rs (λ n l. kept n) h)
+  none_with (Err e) m s t r rs kept added h = tt
 
   -- the first key from the number on is not above the beginning of a message with it
   pub none_earlier : (n k : ℕ) (s : BTreeSet K) (rs : List (List Held)) → ((j : ℕ) → pair_rank n 0 ≤ j → is_held rank j s.keys ≡ true → k ≤ j) → NoneMissed number index (pair_rank n 0) (Some s) rs → NoneEarlier n k rs

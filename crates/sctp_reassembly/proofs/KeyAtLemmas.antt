@@ -1,7 +1,10 @@
 -- The interval at a place.
-use Rattle.std.proofs.Common.{◌≡◌, ℕ, suc, ◌≤◌, ◌<◌, ◌+◌, Fits, w64, Option, Some, List, [], ◌∷◌, ◌++◌, length, refl, ap, sym, ◌∙◌, arith, append-nil, append_assoc}
-use Rattle.std.proofs.Common.{inl, inr}
-use Rattle.std.proofs.lemmas.Bool.{cases_lt}
+use Rattle.std.proofs.Common.{◌≡◌, ℕ, zero, suc, ◌≤◌, Bor, Option, Some, None, List, [], ◌∷◌, ◌++◌, length, refl, ap, sym, ◌∙◌, arith}
+use Rattle.std.specs.Prelude.{option_map, unwrap_or}
+use Rattle.std.specs.List.{slice_get}
+use Rattle.std.specs.Iterator.{SkipsThenYields}
+use Rattle.std.specs.Map.Iter.{TakesFirst, deref}
+use Rattle.std.proofs.lemmas.Iterator.Consumers.{nth_from_yields_List, YieldsList-from_rest}
 use Rattle.sctp_fragments.specs.declared.interval.Entry.{Entry}
 use Rattle.sctp_fragments.specs.declared.interval.Interval.{Interval}
 use Rattle.sctp_fragments.specs.Held.{Held, rank_of}
@@ -12,26 +15,23 @@ use Rattle.std.specs.Map.{values_of}
 use Rattle.sctp_reassembly.specs.KeyAt.{IsKeyAt}
 use Rattle.sctp_reassembly.proofs.InsertLemmas.{length_lists_of}
 
-pub less_than : (a b : ℕ) → a ≤ b → (a ≡ b → ⊥) → a < b
-less_than a b upto apart =
-    elim (cases_lt a b) [
-      | inl less ↦ less
-      | inr more ↦ absurd (apart (omega (arith, upto, more)))
-    ]
+-- what stands at a place of a list, and what stands in front of it
+placed : {T : Type 0} (xs : List T) (n : ℕ) (x : T) → slice_get xs n ≡ Some x → (front back : List T) × ((xs ≡ front ++ x ∷ back) × (length front ≡ n))
+placed [] n x is = cc
+placed {T} (y ∷ ys) zero x is = ([], ys, (ap (λ (o : Option T). unwrap_or o y ∷ ys) is, refl))
+placed (y ∷ ys) (suc n) x is = let p = placed ys n x is in (y ∷ p.0, p.1, (ap (λ l. y ∷ l) p.2.0, ap suc p.2.1))
 
-pub fits_more : (a b : ℕ) → a < b → Fits w64 b → Fits w64 (a + 1)
-fits_more a b less fits = omega (arith, less, fits)
+beyond : {T : Type 0} (xs : List T) (n : ℕ) → slice_get xs n ≡ None → length xs ≤ n
+beyond [] n is = omega arith
+beyond (y ∷ ys) zero is = cc
+beyond (y ∷ ys) (suc n) is = omega (arith, beyond ys n is)
 
-length_more : {T : Type 0} (xs : List T) (x : T) → length (xs ++ x ∷ []) ≡ length xs + 1
-length_more [] x = refl
-length_more (y ∷ xs) x = omega (arith, length_more xs x)
-
-pub one_more : {T : Type 0} (all front rest back : List T) (x : T) (n : ℕ) → all ≡ front ++ rest → rest ≡ x ∷ back → length front ≡ n → (front' : List T) × ((all ≡ front' ++ back) × (length front' ≡ n + 1))
-one_more all front rest back x n split steps at =
-    (front ++ x ∷ [], (split ∙ (ap (λ t. front ++ t) steps ∙ sym (append_assoc front (x ∷ []) back)), length_more front x ∙ ap (λ (m : ℕ). m + 1) at))
+-- what `nth` of a map's values gives
+pub read_at : {X : Type 0} (xs s t : List X) (r : Option (Bor X)) (n : ℕ) → s ≡ xs → SkipsThenYields (TakesFirst (deref {X = X})) s n r t → option_map (deref {X = X}) r ≡ slice_get xs n
+read_at {X} xs s t r n is h = nth_from_yields_List {steps = TakesFirst (deref {X = X})} {v = deref {X = X}} r t n h (YieldsList-from_rest {shows = deref {X = X}} xs is)
 
 module _ {K : Type 0} (f : Entry K → Held) where
-  pub key_here : (d : Held) (place : ℕ) (is front back : List (Interval K)) (i : Interval K) → is ≡ front ++ i ∷ back → length front ≡ place → ((h : Held) (hs : List Held) → run_of f i ≡ h ∷ hs → d ≡ h) → IsKeyAt (rank_of d) place (lists_of f is)
+  key_here : (d : Held) (place : ℕ) (is front back : List (Interval K)) (i : Interval K) → is ≡ front ++ i ∷ back → length front ≡ place → ((h : Held) (hs : List Held) → run_of f i ≡ h ∷ hs → d ≡ h) → IsKeyAt (rank_of d) place (lists_of f is)
   key_here d place is front back i split at first =
       let c = cons (run_of f i) (some_run f i) in
       record {
@@ -44,10 +44,11 @@ module _ {K : Type 0} (f : Entry K → Held) where
         begins = ap rank_of (first c.head c.tail c.is);
       }
 
-  pub none_so_far : (place passed : ℕ) (is front : List (Interval K)) → is ≡ front ++ [] → length front ≡ passed → passed ≤ place → length (lists_of f is) ≤ place
-  none_so_far place passed is front split at upto =
-      let all : length (lists_of f is) ≡ length front = length_lists_of f is ∙ (ap length split ∙ ap length (append-nil front)) in
-      omega (arith, all, at, upto)
+  pub key_there : (d : Held) (place : ℕ) (is : List (Interval K)) (i : Interval K) → Some i ≡ slice_get is place → ((h : Held) (hs : List Held) → run_of f i ≡ h ∷ hs → d ≡ h) → IsKeyAt (rank_of d) place (lists_of f is)
+  key_there d place is i got first = let p = placed is place i (sym got) in key_here d place is p.0 p.1 i p.2.0 p.2.1 first
+
+  pub none_there : (place : ℕ) (is : List (Interval K)) → None ≡ slice_get is place → length (lists_of f is) ≤ place
+  none_there place is got = omega (arith, length_lists_of f is, beyond is place (sym got))
 
   module _ (place : ℕ) (first : Option (Interval K)) (later : List (K × Interval K)) (i : Interval K) (is : first ≡ Some i) where
     lists_are : lists_of f (all_of first later) ≡ run_of f i ∷ lists_of f (values_of later)

@@ -34,12 +34,8 @@ fn later_key_at<K: ReassemblyKey>(later: &BTreeMap<K, Interval<K>>, place: usize
     ensures some { IfSome result (λ k. IsKeyAt (rank_at K.number K.index k) place (runs_at K.number K.index later.now.entries)) }
     ensures none { IfNone result (length (runs_at K.number K.index later.now.entries) ≤ place) }
 {
-    let mut passed = 0;
-    for interval in later.values() {
-        if passed == place {
-            return Some(interval.first().key);
-        }
-        passed += 1;
+    match later.values().nth(place) {
+        Some(interval) => Some(interval.first().key),
+        None => None,
     }
-    None
 }

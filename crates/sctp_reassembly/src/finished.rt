@@ -76,39 +76,39 @@ fn add_complete<K: ReassemblyKey>(
     }
 }
 
-/// The keys at which the complete ones among the intervals of the map begin.
-fn later_keys<K: ReassemblyKey>(
-    alloc: Global,
+/// Adds the keys at which the complete ones among the intervals of the map begin.
+fn add_later<K: ReassemblyKey>(
+    keys: &mut BTreeSet<K>,
     later: &BTreeMap<K, Interval<K>>,
-) -> Result<BTreeSet<K>, AllocError>
-    ensures keys { IfOk result (λ s. All K.is_key s.keys) }
-    ensures none { IfOk result (λ s. NoneMissed K.number K.index 0 (Some s) (runs_at K.number K.index later.now.entries)) }
+) -> Result<(), AllocError>
+    requires keys { All K.is_key keys.old.keys }
+    ensures keys { OnOk result (All K.is_key keys.new.keys) }
+    ensures none { OnOk result (NoneMissed K.number K.index 0 (Some keys.new) (runs_at K.number K.index later.now.entries)) }
 {
-    let mut keys = BTreeSet::new(alloc);
     for interval in later.values() {
-        add_complete(&mut keys, interval)?;
+        add_complete(keys, interval)?;
     }
-    Ok(keys)
+    Ok(())
 }
 
 /// The same, with the first one.
-fn all_keys<K: ReassemblyKey>(
-    alloc: Global,
+fn add_all<K: ReassemblyKey>(
+    keys: &mut BTreeSet<K>,
     first: &Option<Interval<K>>,
     later: &BTreeMap<K, Interval<K>>,
-) -> Result<BTreeSet<K>, AllocError>
-    ensures keys { IfOk result (λ s. All K.is_key s.keys) }
-    ensures none { IfOk result (λ s. NoneMissed K.number K.index 0 (Some s) (lists_of (held_of K.number K.index) (all_of first.now later.now.entries))) }
+) -> Result<(), AllocError>
+    requires keys { All K.is_key keys.old.keys }
+    ensures keys { OnOk result (All K.is_key keys.new.keys) }
+    ensures none { OnOk result (NoneMissed K.number K.index 0 (Some keys.new) (lists_of (held_of K.number K.index) (all_of first.now later.now.entries))) }
 {
-    let mut keys = later_keys(alloc, later)?;
-    let Some(interval) = first else {
-        return Ok(keys);
-    };
-    add_complete(&mut keys, interval)?;
-    Ok(keys)
+    add_later(keys, later)?;
+    match first {
+        Some(interval) => add_complete(keys, interval),
+        None => Ok(()),
+    }
 }
 
-/// The same, in a box.
+/// The keys at which the complete intervals begin, in a box.
 fn kept_keys<K: ReassemblyKey>(
     alloc: Global,
     first: &Option<Interval<K>>,
@@ -117,8 +117,9 @@ fn kept_keys<K: ReassemblyKey>(
     ensures keys { IfOk result (λ b. All K.is_key b.value.keys) }
     ensures none { IfOk result (λ b. NoneMissed K.number K.index 0 (Some b.value) (lists_of (held_of K.number K.index) (all_of first.now later.now.entries))) }
 {
-    let keys = all_keys(alloc, first, later)?;
-    Ok(Box::new(alloc, keys)?)
+    let mut keys = Box::new(alloc, BTreeSet::new(alloc))?;
+    add_all(&mut keys, first, later)?;
+    Ok(keys)
 }
 
 /// Whether the first of the keys is before this one.

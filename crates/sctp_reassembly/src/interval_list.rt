@@ -73,6 +73,40 @@ fn is_below<K: ReassemblyKey>(interval: &Interval<K>, key: K) -> bool
     is_before(interval.first().key, key)
 }
 
+/// Has the fragments of the map, one at most, without it.
+fn put_few<K: ReassemblyKey>(state: &mut ListState<K>, mut map: IntervalMap<K>)
+    requires { length map ≤ 1 }
+    ensures value { held_in (held_of K.number K.index) state.new ≡ map }
+    ensures state { IsListState K.number K.index state.new }
+{
+    let few = map.take_few();
+    drop(map);
+    drop(std::mem::replace(state, few));
+}
+
+/// Adds a fragment where none is. Without memory nothing changes.
+fn add_only<K: ReassemblyKey>(
+    alloc: Global,
+    state: &mut ListState<K>,
+    key: K,
+    fragment: Data,
+) -> Result<bool, AllocError>
+    requires state { held_in (held_of K.number K.index) state.old ≡ [] }
+    requires room { length fragment.payload.items < 2 ^ 64 }
+    ensures value { OnOk result (held_in (held_of K.number K.index) state.new ≡ with_item rank_of (as_held (K.number key) (K.index key) fragment) []) }
+    ensures answer { IfOk result (λ is_new. is_new ≡ true) }
+    ensures place { IfOk result (λ is_new. IsPlaced [] (held_in (held_of K.number K.index) state.new) (as_held (K.number key) (K.index key) fragment)) }
+    ensures bytes { bytes_of (held_in (held_of K.number K.index) state.new) ≤ length fragment.payload.items }
+    ensures fragments { length (held_in (held_of K.number K.index) state.new) ≤ 1 }
+    ensures err { OnErr result (held_in (held_of K.number K.index) state.new ≡ []) }
+    ensures state { IsListState K.number K.index state.new }
+{
+    let mut map = IntervalMap::new(alloc);
+    let added = map.add(key, fragment);
+    put_few(state, map);
+    added
+}
+
 /// Adds a fragment to a single one with another key: a map takes both. Without memory nothing changes.
 fn add_second<K: ReassemblyKey>(
     alloc: Global,
@@ -204,12 +238,7 @@ impl<K: ReassemblyKey> IntervalList<K> {
     {
         match &mut self.state {
             ListState::Many(map) => map.add(key, fragment),
-            ListState::Empty => {
-                let mut map = IntervalMap::new(self.alloc);
-                let is_new = map.add(key, fragment)?;
-                self.state = map.take_few();
-                Ok(is_new)
-            }
+            ListState::Empty => add_only(self.alloc, &mut self.state, key, fragment),
             ListState::Lone(interval) => {
                 if has_key(interval, key) {
                     return Ok(false);
@@ -261,7 +290,7 @@ impl<K: ReassemblyKey> IntervalList<K> {
             std::mem::replace(&mut self.state, ListState::Empty),
         );
         let popped = map.pop_if_complete(key);
-        self.state = map.take_few();
+        put_few(&mut self.state, map);
         popped
     }
 
@@ -297,7 +326,7 @@ impl<K: ReassemblyKey> IntervalList<K> {
             std::mem::replace(&mut self.state, ListState::Empty),
         );
         let popped = map.pop_front_from(key, number);
-        self.state = map.take_few();
+        put_few(&mut self.state, map);
         popped
     }
 

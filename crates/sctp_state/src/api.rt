@@ -36,7 +36,7 @@ pub enum SctpImplementation {
 pub enum ErrorKind {
     /// No error. No event has it.
     NoError,
-    /// The peer did not answer, often enough.
+    /// The peer left more unanswered than the options allow.
     TooManyRetries,
     /// Something came that is taken on a connection alone.
     NotConnected,
@@ -50,7 +50,7 @@ pub enum ErrorKind {
     ProtocolViolation,
     /// The send queue is full.
     ResourceExhaustion,
-    /// The operation isn't supported.
+    /// The operation isn't supported. No event has it.
     UnsupportedOperation,
 }
 
@@ -69,9 +69,9 @@ pub enum SocketEvent {
     OnAborted(ErrorKind, String),
     /// An error that closes nothing, with its text.
     OnError(ErrorKind, String),
-    /// The queued amount of a stream fell to its threshold, by a fragment that went out or by a raised threshold.
+    /// The queued amount of a stream fell to its threshold, by a fragment that went out, a raised threshold, or with `avoid_stalls` what was given up.
     OnBufferedAmountLow(StreamId),
-    /// The queued amount of all streams fell to the threshold, by a fragment that went out.
+    /// The queued amount of all streams fell to the threshold, by a fragment that went out, or with `avoid_stalls` by what was given up.
     OnTotalBufferedAmountLow(),
     /// The peer refused to see these outgoing streams reset (RFC 6525).
     OnStreamsResetFailed(Vec<StreamId>),
@@ -138,7 +138,7 @@ pub struct Metrics {
     pub rtx_bytes_count: u64,
     /// The congestion window, in bytes.
     pub cwnd_bytes: usize,
-    /// The smoothed round trip time.
+    /// The smoothed round trip time; `rto_initial` until one is measured.
     pub srtt: Duration,
     /// Fragments in flight, and packets that the queued bytes would fill.
     pub unack_data_count: usize,

@@ -67,7 +67,7 @@ fn forward_misused(is_of_mode: bool, mode: Misuse, is_partial: bool) -> Option<M
     }
 }
 
-/// How a fragment, in I-DATA where it is interleaved, breaks whether messages are to be.
+/// How a fragment, in I-DATA where `is_interleaved` says so and else in DATA, breaks what was negotiated, if it does.
 pub fn data_misused(is_negotiated: bool, is_interleaved: bool) -> Option<Misuse>
     ensures { option_map misuse_text result ≡ data_misused is_negotiated is_interleaved }
 {

@@ -94,7 +94,7 @@ fn tick_requests<C: Checksum>(
     Ok(true)
 }
 
-/// The timers of a control block, and those of heartbeats, one after the other. The answer is whether any expired.
+/// The timers of a control block and those of heartbeats, in turn; at a heartbeat spare buffers are let go. The answer is whether any expired.
 #[tactic(auto, using(sctp_endpoint::proofs::GoesOnLemmas::goes_on_same, sctp_endpoint::proofs::GoesOnLemmas::goes_on_through), unfolding(spec_endpoint::specs::Timers::tick_timers))]
 fn tick_tcb<C: Checksum>(
     context: &mut Context<C>,

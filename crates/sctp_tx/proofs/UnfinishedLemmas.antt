@@ -1,19 +1,18 @@
 -- What a packet keeps that was being filled when memory ran out.
 use Rattle.std.proofs.Common.{◌≡◌, ℕ, zero, suc, ◌+◌, ◌-◌, ◌<◌, min, Bool, true, false, Option, Some, None, List, [], ◌∷◌, take, length, refl, sym, subst, inl, inr}
 use Rattle.std.specs.Prelude.{◌⊎◌, ◌&&◌, nat_lt, is_some, if◌then◌else◌, unwrap_or, option_map}
-use Rattle.sctp_state.specs.declared.api.GivenUpCause.TheVariants.{Lifetime}
-use Rattle.sctp_state.specs.Events.{Emitted, Grown, emit_events, emit_given_up, expired_events}
+use Rattle.sctp_state.specs.Events.{Emitted, Grown, emit_events, expired_events}
 use Rattle.sctp_state.specs.ThresholdWatcher.{crosses}
 use Rattle.sctp_state.proofs.EventLemmas.{grown_same, grown_through, grown_emitted}
 use Rattle.sctp_tx_outstanding.specs.OutstandingData.{Discard, Outstanding}
 use Rattle.sctp_tx_outstanding.specs.Resending.{resent_below, empty_packet}
 use Rattle.sctp_tx_outstanding.specs.Keeps.{Keeps}
 use Rattle.sctp_tx_outstanding.proofs.ItemsStayLemmas.{keeps_all, keeps_on, resending_keeps, new_items_keep}
-use Rattle.sctp_tx_queue.specs.SendQueue.{Queue, Queued, Stream, Streams, stream, watched_amount, watched_total}
-use Rattle.sctp_tx_queue.specs.Produced.{Produced, Turn, emit_expired, is_stale, production, emitted_made, streams_without_stale, streams_after, advance, next_fragment, turn, next_stream, idle, produce_within, produce}
+use Rattle.sctp_tx_queue.specs.SendQueue.{Queue, Stream, Streams, stream, watched_amount, watched_total}
+use Rattle.sctp_tx_queue.specs.Produced.{Produced, Turn, emit_fallen, emit_stale, production, emitted_made, streams_without_stale, streams_after, advance, next_fragment, turn, next_stream, idle, produce_within, produce}
 use Rattle.sctp_tx_queue.specs.Settings.{discard, discard_from, streams_discarded, front_discarded}
 use Rattle.sctp_tx_queue.specs.Interrupted.{Passed, Stopped, Interrupted}
-use Rattle.sctp_tx_queue.proofs.EmittingLemmas.{grown_dropped}
+use Rattle.sctp_tx_queue.proofs.EmittingLemmas.{grown_fallen, grown_stale}
 use Rattle.sctp_tx_queue.proofs.InOrderLemmas.{produced_in_order, discarded_in_order}
 use Rattle.sctp_tx_queue.proofs.NumberLemmas.{calls_number}
 use Rattle.sctp_tx_queue.proofs.RestLemmas.{calls_leave_rests}
@@ -27,31 +26,23 @@ use Rattle.sctp_tx.proofs.FlightLemmas.{some_offered}
 
 -- ---- what was emitted stands
 
-expired_grown : (now : ℕ) (ms : List Queued) (t : Emitted (List ℕ)) → Grown t (emit_expired now ms t)
-expired_grown now [] t = grown_same t
-expired_grown now (m ∷ rest) t = by (is_stale now m) (expired_grown now rest (emit_events (expired_events m.lifecycle) (emit_given_up m.number Lifetime t))) where
-  dropped : Emitted (List ℕ)
-  dropped = emit_events (expired_events m.lifecycle) (emit_given_up m.number Lifetime t)
-
-  by : (b : Bool) → Grown dropped (emit_expired now rest dropped) → Grown t (if b then emit_expired now rest dropped else t)
-  by true g = grown_through t dropped (emit_expired now rest dropped) (grown_dropped m.number Lifetime m.lifecycle t) g
-  by false g = grown_same t
-
 made_grown : (id : ℕ) (is_low is_total_low : Bool) (made : Option Produced) (t : Emitted (List ℕ)) → Grown t (emitted_made id is_low is_total_low made t)
 made_grown id is_low is_total_low None t = grown_same t
 made_grown id is_low is_total_low (Some p) t = grown_emitted (production id is_low is_total_low p.lifecycle) t
 
 discarded_grown : (id : ℕ) (ss : Streams) (found : Option (Option ℕ)) (q : Queue) (t : Emitted (List ℕ)) → Grown t (discard_from id ss found q t).emitted
 discarded_grown id ss None q t = grown_same t
-discarded_grown id ss (Some lifecycle) q t = grown_emitted (expired_events lifecycle) t
+discarded_grown id ss (Some lifecycle) q t =
+    let u = emit_events (expired_events lifecycle) t in
+    grown_through t u (emit_fallen id q.streams ss u) (grown_emitted (expired_events lifecycle) t) (grown_fallen id q.streams ss u)
 
 module _ (now size : ℕ) where
   turn_grown : (id : ℕ) (q : Queue) (t : Emitted (List ℕ)) → Grown t (turn now id size q t).emitted
   turn_grown id q t =
       let ss = streams_without_stale now id q.streams in
       let s : Stream = stream id ss in
-      let u = emit_expired now (stream id q.streams).messages t in
-      grown_through t u (turn now id size q t).emitted (expired_grown now (stream id q.streams).messages t)
+      let u = emit_stale now id q.streams t in
+      grown_through t u (turn now id size q t).emitted (grown_stale now id q.streams t)
       (made_grown id (crosses (watched_amount s) (watched_amount (advance size s))) (crosses (watched_total ss) (watched_total (streams_after id size ss))) (next_fragment id size s) u)
 
   within_grown : (turns : ℕ) (q : Queue) (t : Emitted (List ℕ)) → Grown t (produce_within turns now size q t).emitted
@@ -76,7 +67,7 @@ module _ (now size : ℕ) where
 
   stopped_grown : (id : ℕ) (q : Queue) (t : Emitted (List ℕ)) (rest : Queue) (later : Emitted (List ℕ)) → Stopped now id q t rest later → Grown t later
   stopped_grown id q t rest later (inl same) = subst (λ (u : Emitted (List ℕ)). Grown t u) (sym same.events) (grown_same t)
-  stopped_grown id q t rest later (inr freed) = subst (λ (u : Emitted (List ℕ)). Grown t u) (sym freed.events) (expired_grown now (stream id q.streams).messages t)
+  stopped_grown id q t rest later (inr freed) = subst (λ (u : Emitted (List ℕ)). Grown t u) (sym freed.events) (grown_stale now id q.streams t)
 
 -- ---- the queue
 

@@ -2,7 +2,7 @@
 use Rattle.std.specs.Prelude.{◌≡◌, ◌<◌, ◌^◌, ℕ, suc, ◌+◌, ◌-◌, ◌*◌, ◌/◌, ◌==◌, ◌&&◌, ◌||◌, nat_lt, nat_le, min, Bool, true, false, if◌then◌else◌, Option, Some, None, List, [], ◌∷◌, length}
 use Rattle.sctp_chunk.specs.Chunk.{FragmentTree}
 use Rattle.sctp_tx_outstanding.specs.declared.item.MissIndication.{MissIndication}
-use Rattle.sctp_tx_outstanding.specs.declared.item.MissIndication.TheVariants.{Timeout, Report, ReportOnce}
+use Rattle.sctp_tx_outstanding.specs.declared.item.MissIndication.TheVariants.{Timeout, Report}
 use Rattle.sctp_tx_outstanding.specs.declared.item.ItemState.{ItemState}
 use Rattle.sctp_tx_outstanding.specs.declared.item.ItemState.TheVariants.{InFlight, Missing, Queued, QueuedFast, Acked, GivenUp}
 
@@ -169,17 +169,15 @@ abbrev pub uncover : Item → Item
 uncover i = record i { state = uncovered i.state }
 
 -- Whether an indication counts. With stalls avoided an item is lost once a flight: a report counts anew where it is made by the acknowledgement of
--- a fragment that was first sent behind the loss (RFC 9260 section 7.2.4 step 5).
+-- a fragment that was first sent behind the loss (RFC 9260 section 7.2.4 step 5). Else `counts_from` stays 0, and each counts.
 abbrev pub counts : MissIndication → Item → Bool
 counts Timeout i = true
-counts Report i = true
-counts (ReportOnce newest next) i = nat_le i.counts_from newest
+counts (Report newest next) i = nat_le i.counts_from newest
 
--- the third missing report says that it is lost, a timeout at once
+-- the third missing report that counts says that it is lost, a timeout at once
 abbrev pub is_lost : MissIndication → Item → Bool
 is_lost Timeout i = true
-is_lost Report i = nat_le 2 i.reports
-is_lost (ReportOnce newest next) i = nat_le i.counts_from newest && nat_le 2 i.reports
+is_lost (Report newest next) i = counts (Report newest next) i && nat_le 2 i.reports
 
 -- the reports of one that isn't lost
 abbrev pub reported : MissIndication → Item → ℕ
@@ -188,8 +186,7 @@ reported indication i = if counts indication i then suc i.reports else i.reports
 -- from which number on reports count of one that is lost now
 abbrev pub counts_again : MissIndication → Item → ℕ
 counts_again Timeout i = i.counts_from
-counts_again Report i = i.counts_from
-counts_again (ReportOnce newest next) i = next
+counts_again (Report newest next) i = next
 
 abbrev pub nack_state : (is_lost fast : Bool) → ItemState
 nack_state true true = QueuedFast

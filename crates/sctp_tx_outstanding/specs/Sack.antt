@@ -5,7 +5,7 @@ use Rattle.sctp_state.specs.Events.{Event, OnLifecycleMessageMaybeExpired, OnLif
 use Rattle.sctp_chunk.specs.declared.sack.GapAckBlock.{GapAckBlock}
 use Rattle.sctp_chunk.specs.Covered.{is_covered}
 use Rattle.sctp_tx_outstanding.specs.declared.item.MissIndication.{MissIndication}
-use Rattle.sctp_tx_outstanding.specs.declared.item.MissIndication.TheVariants.{Report, ReportOnce}
+use Rattle.sctp_tx_outstanding.specs.declared.item.MissIndication.TheVariants.{Report}
 use Rattle.sctp_tx_outstanding.specs.Item.{Item, is_acked, is_open, is_abandoned, chunk_size, ack, uncover, rtt_from}
 use Rattle.sctp_tx_outstanding.specs.OutstandingData.{Items, when, next_number}
 use Rattle.sctp_tx_outstanding.specs.Losses.{Step, first_step, nack_below}
@@ -120,9 +120,9 @@ open_size m (Some i) = if is_open i then Some (chunk_size m i) else None
 abbrev pub receive_sack_first : {P : Type 0} → (cumulative : ℕ) → List GapAckBlock → Items → Emitted P → Step P
 receive_sack_first cumulative blocks s emitted = first_step (acked_by blocks (staying cumulative s)) (emit_events (all_leaving_events (take (leaving cumulative s) s.kept)) emitted)
 
--- a report by the highest number newly acknowledged, where an item may be lost once a flight
+-- a report by the highest number newly acknowledged. Of an item that may be lost more than once a flight reports count from 0 on: each
 abbrev pub report : (once_a_flight : Bool) → (newest next : ℕ) → MissIndication
-report once_a_flight newest next = if once_a_flight then ReportOnce newest next else Report
+report once_a_flight newest next = Report newest (if once_a_flight then next else 0)
 
 abbrev pub report_by : (once_a_flight : Bool) → (cumulative : ℕ) → List GapAckBlock → Items → MissIndication
 report_by once_a_flight cumulative blocks s = report once_a_flight (cumulative + 1 + reported_below blocks (staying cumulative s)) (next_number s)

@@ -137,13 +137,12 @@ impl Indexes {
         // (read for its bound)
         let _count = items.len();
         let (old, new) = parts;
-        let totals = self.totals;
         self.last_blocks.see(how);
         self.expiries.renew(place, old.earliest, new.earliest);
-        if stays_listed(how, totals, old, new) {
+        if stays_listed(how, self.totals, old, new) {
             return;
         }
-        self.totals = totals.exchanged(old, new);
+        self.totals = self.totals.exchanged(old, new);
         if stays_in_runs(&self.runs, place, how, old, new) {
             return;
         }

@@ -39,11 +39,9 @@ pub enum ItemState {
 pub enum MissIndication {
     /// The expiry of T3-rtx (RFC 9260 section 6.3.3).
     Timeout,
-    /// A SACK (section 7.2.4).
-    Report,
-    /// A SACK whose highest number newly acknowledged is `newest`, where an item is lost once a flight: of one that was lost
-    /// a report counts if `newest` was first sent behind that. `next` is the number that the next fragment takes.
-    ReportOnce { newest: u128, next: u128 },
+    /// A SACK whose highest number newly acknowledged is `newest` (section 7.2.4). Of an item that it loses reports count from
+    /// `next` on: from the number that the next fragment takes, or, if an item may be lost more than once a flight, from 0.
+    Report { newest: u128, next: u128 },
 }
 
 impl ItemState {
@@ -109,7 +107,7 @@ impl Model for Item {
 
 impl Item {
     ghost use Rattle.std.specs.Prelude.{Option, true};
-    ghost use Rattle.sctp_tx_outstanding.specs.Item.{is_outstanding, is_open, should_be_retransmitted, is_fast, is_nacked, is_acked, is_abandoned, has_been_retransmitted, has_expired, expiry, or_never, is_used_up, ack, uncover, is_lost, reported, counts_again, nack, mark_as_retransmitted, miss_fast, abandon, rtt_from};
+    ghost use Rattle.sctp_tx_outstanding.specs.Item.{is_outstanding, is_open, should_be_retransmitted, is_fast, is_nacked, is_acked, is_abandoned, has_been_retransmitted, has_expired, expiry, or_never, is_used_up, ack, uncover, counts, is_lost, nack, mark_as_retransmitted, miss_fast, abandon, rtt_from};
 
     /// A fragment that is sent now for the first time.
     pub fn new(
@@ -346,40 +344,23 @@ impl Item {
         }
     }
 
+    /// Whether this counts.
+    fn counts(&self, indication: MissIndication) -> bool
+        ensures { result ≡ counts indication self.now }
+    {
+        match indication {
+            MissIndication::Timeout => true,
+            MissIndication::Report { newest, .. } => self.counts_from <= newest,
+        }
+    }
+
     /// Whether it is lost by this.
     pub fn is_lost(&self, indication: MissIndication) -> bool
         ensures { result ≡ is_lost indication self.now }
     {
         match indication {
             MissIndication::Timeout => true,
-            MissIndication::Report => self.reports >= 2,
-            MissIndication::ReportOnce { newest, .. } => {
-                self.counts_from <= newest && self.reports >= 2
-            }
-        }
-    }
-
-    /// The reports of one that isn't lost by this.
-    fn reported(&self, indication: MissIndication) -> u32
-        requires { is_lost indication self.now ≡ false }
-        ensures reports { result ≡ reported indication self.now }
-        ensures few { result ≤ 2 }
-    {
-        if let MissIndication::ReportOnce { newest, .. } = indication
-            && newest < self.counts_from
-        {
-            return self.reports;
-        }
-        self.reports + 1
-    }
-
-    /// From which number on reports count, where it is lost by this.
-    fn counts_again(&self, indication: MissIndication) -> u128
-        ensures { result ≡ counts_again indication self.now }
-    {
-        match indication {
-            MissIndication::ReportOnce { next, .. } => next,
-            _ => self.counts_from,
+            MissIndication::Report { .. } => self.counts(indication) && self.reports >= 2,
         }
     }
 
@@ -395,9 +376,11 @@ impl Item {
         self.state = ItemState::nacked(is_lost, fast);
         if is_lost {
             self.reports = 0;
-            self.counts_from = self.counts_again(indication);
-        } else {
-            self.reports = self.reported(indication);
+            if let MissIndication::Report { next, .. } = indication {
+                self.counts_from = next;
+            }
+        } else if self.counts(indication) {
+            self.reports += 1;
         }
     }
 

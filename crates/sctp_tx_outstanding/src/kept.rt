@@ -370,11 +370,17 @@ impl Kept {
         self.items.get(place)
     }
 
-    /// A place from this one on up to which no item is in flight or missing, and at which one may be, or where a run ends.
+    /// A place from this one on up to which no item is in flight or missing, and at which one may be, or where a run ends. It takes no
+    /// search where the one at this place is.
     pub(crate) fn next_flight(&self, place: usize) -> usize
         ensures onward { place ≤ result }
         ensures none { NoneFlies place result self.now.items }
     {
+        if let Some(item) = self.items.get(place) {
+            if item.is_outstanding() {
+                return place;
+            }
+        }
         self.indexes.runs.next_flight(place)
     }
 

@@ -325,10 +325,10 @@ impl OutstandingData {
             return None;
         }
         let is_lost = item.is_lost(indication);
-        let may_give_up = self.is_partial && item.is_used_up();
+        let gives_up = is_lost && self.is_partial && item.is_used_up();
         Some(Loss {
             is_lost,
-            gives_up: is_lost && may_give_up,
+            gives_up,
             message_id: item.message_id(),
             resendings: item.sendings().saturating_sub(1),
         })
@@ -583,9 +583,9 @@ impl OutstandingData {
     /// Takes a SACK, with blocks of any kind: items up to its cumulative TSN leave, in order, and an event says of each message
     /// with a lifecycle whose end leaves whether it was delivered; those in blocks are acknowledged, and those that no block covers any more
     /// are in flight again; each that is in flight or missing below the highest one newly acknowledged by a block is
-    /// reported missing, and is lost by the third report. `once_a_flight` one that was lost gets reports anew by what was first
-    /// sent behind that. Without memory nothing changes, or only some of the first of these
-    /// reports are done.
+    /// reported missing, and is lost by the third report. `once_a_flight`, the same for each SACK, one that was lost gets reports
+    /// anew by what was first sent behind that. Without memory nothing changes, or only some of the first of these reports are
+    /// done.
     ///
     /// Items of which the blocks say what the last SACK's said are passed over as they are settled. Blocks that stand in order, as in a
     /// SACK that was cleaned, are walked along with the items. Others are searched whole for each stretch of items of which they say

@@ -24,14 +24,13 @@ pub struct AckInfo {
     pub has_packet_loss: bool,
 }
 
-/// The reports of a SACK by its highest number newly acknowledged, where an item may be lost once a flight.
+/// The reports of a SACK by its highest number newly acknowledged. Of an item that may be lost more than once a flight they count from 0 on.
 pub(crate) fn report(once_a_flight: bool, newest: u128, next: u128) -> MissIndication
     ensures { result ≡ report once_a_flight newest next }
 {
-    if once_a_flight {
-        MissIndication::ReportOnce { newest, next }
-    } else {
-        MissIndication::Report
+    MissIndication::Report {
+        newest,
+        next: if once_a_flight { next } else { 0 },
     }
 }
 

@@ -8,7 +8,7 @@ use Rattle.std.specs.BTreeMap.{is_at}
 use Rattle.std.proofs.lemmas.Bool.{and_parts, eqb-true}
 use Rattle.sctp_state.specs.Events.{Emitted}
 use Rattle.sctp_stream_scheduler.specs.StreamScheduler.{Times, Scheduler, set_bytes_remaining}
-use Rattle.sctp_tx_queue.specs.SendQueue.{Queued, Queue, Stream, Streams, Entries, blank, stream, put_stream, sendable, set_sendable, has_nothing, is_empty}
+use Rattle.sctp_tx_queue.specs.SendQueue.{Queue, Stream, Streams, Entries, blank, stream, put_stream, sendable, set_sendable, has_nothing, is_empty}
 use Rattle.sctp_tx_queue.specs.Restarted.{unbegun}
 use Rattle.sctp_tx_queue.specs.Emptied.{emptied, emptied_one, each_emptied, emit_ended, emit_each_ended, empty, is_idle}
 use Rattle.sctp_tx_queue.proofs.EmptiedLemmas.{nothing_sendable, empty_is}

@@ -18,6 +18,7 @@ pub mod StaysBegunLemmas
 pub mod StreamLemmas
 pub mod StreamsLemmas
 pub mod EmittingLemmas
+pub mod FallenLemmas
 pub mod EmptiedLemmas
 pub mod InTurnLemmas
 pub mod TakenUpLemmas

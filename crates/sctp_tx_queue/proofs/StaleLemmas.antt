@@ -1,17 +1,20 @@
 -- A stream whose messages all expired before they were begun.
-use Rattle.std.proofs.Common.{◌≡◌, ℕ, ◌==◌, Bool, true, false, cond, List, [], ◌∷◌, length, Option, Some, None, refl, ap, sym, ◌∙◌, arith}
-use Rattle.std.specs.Prelude.{is_some}
+use Rattle.std.proofs.Common.{◌≡◌, ◌≤◌, ℕ, ◌-◌, ◌==◌, Bool, true, false, cond, List, [], ◌∷◌, length, Option, Some, None, refl, ap, sym, ◌∙◌, arith}
+use Rattle.std.specs.Prelude.{is_some, ◌&&◌}
 use Rattle.std.specs.Map.{lookup}
 use Rattle.std.specs.Ordering.{nat_cmp}
 use Rattle.std.specs.BTreeMap.{is_at}
 use Rattle.std.proofs.lemmas.Bool.{eqb-true}
-use Rattle.sctp_state.specs.Events.{Emitted}
-use Rattle.sctp_state.specs.ThresholdWatcher.{crosses}
+use Rattle.sctp_state.specs.Events.{Emitted, emit_events, emit_given_up, expired_events}
+use Rattle.sctp_state.specs.declared.api.GivenUpCause.TheVariants.{Lifetime}
+use Rattle.sctp_state.specs.ThresholdWatcher.{Watched, crosses, lower}
 use Rattle.sctp_stream_scheduler.specs.StreamScheduler.{leave}
-use Rattle.sctp_tx_queue.specs.SendQueue.{Queued, Stream, Streams, Queue, watched_amount, watched_total, stream, sendable}
-use Rattle.sctp_tx_queue.specs.Produced.{Produced, is_front_stale, fresh, left_empty, without_stale, streams_without_stale, emit_expired, next_fragment, advance, streams_after, emitted_made, in_line, begun_by, turn}
+use Rattle.sctp_tx_queue.specs.SendQueue.{Queued, Stream, Streams, Queue, amount_of, total_of, watched_amount, watched_total, stream, sendable}
+use Rattle.sctp_tx_queue.specs.Produced.{Produced, is_front_stale, fresh, left_empty, without_stale, streams_without_stale, emit_expired, emit_fallen, emit_stale, production, falls_low, next_fragment, advance, streams_after, emitted_made, in_line, begun_by, turn}
 use Rattle.sctp_tx_queue.specs.Interrupted.{TurnOver}
+use Rattle.sctp_tx_queue.proofs.FallenLemmas.{nothing_falls, low_there, total_there}
 use Rattle.sctp_tx_queue.proofs.StreamsLemmas.{put_same, stream_there, stream_nowhere, lookup_written}
+use Rattle.sctp_tx_queue.proofs.WholeLemmas.{streams_fresh}
 
 -- no message expired where none was dropped
 pub none_stale : (now : ℕ) (ms : List Queued) → None ≡ left_empty now ms → is_front_stale now ms ≡ false
@@ -58,7 +61,7 @@ nothing_sent size s none =
 -- its turn is over
 pub turn_over : {P : Type 0} (now id size : ℕ) (q r : Queue) (emitted later : Emitted P) → Some true ≡ left_empty now (stream id q.streams).messages
     → r ≡ (let x : Queue = record q { streams = streams_without_stale now id q.streams; scheduler = leave id q.scheduler; begun = None } in x)
-    → later ≡ emit_expired now (stream id q.streams).messages emitted → TurnOver now id size q emitted r later
+    → later ≡ emit_stale now id q.streams emitted → TurnOver now id size q emitted r later
 turn_over {P} now id size q r emitted later h is_r is_later = record {
   queue = is_r ∙ sym queue;
   events = is_later ∙ sym events;
@@ -69,7 +72,7 @@ turn_over {P} now id size q r emitted later h is_r is_later = record {
     ss = streams_without_stale now id q.streams
 
     freed : Emitted P
-    freed = emit_expired now (stream id q.streams).messages emitted
+    freed = emit_stale now id q.streams emitted
 
     at : Some (without_stale now (stream id q.streams)) ≡ lookup (is_at (nat_cmp id)) ss.entries
     at = sym (lookup_written (is_at (nat_cmp id)) (without_stale now (stream id q.streams)) q.streams.entries (ap is_some (sym (there now id q.streams h))))
@@ -96,3 +99,36 @@ turn_over {P} now id size q r emitted later h is_r is_later = record {
     events =
         let s = stream id ss in
         ap (λ o. emitted_made id (crosses (watched_amount s) (watched_amount (advance size s))) (crosses (watched_total ss) (watched_total (streams_after id size ss))) o freed) none
+
+-- ---- what is emitted of them
+
+none_expired : {P : Type 0} (now : ℕ) (ms : List Queued) (t : Emitted P) → is_front_stale now ms ≡ false → emit_expired now ms t ≡ t
+none_expired now [] t h = refl
+none_expired {P} now (m ∷ rest) t h = ap (λ (b : Bool). cond b (emit_expired now rest said) t) h
+  where
+    said : Emitted P
+    said = emit_events (expired_events m.lifecycle) (emit_given_up m.number Lifetime t)
+
+-- no stream, no message
+pub nowhere_dropped : {P : Type 0} (now id : ℕ) (ss : Streams) (t : Emitted P) → None ≡ lookup (is_at (nat_cmp id)) ss.entries → t ≡ emit_stale now id ss t
+nowhere_dropped now id ss t none =
+    sym (
+    ap (λ u. emit_fallen id ss (streams_without_stale now id ss) u) (none_expired now (stream id ss).messages t fresh_front)
+    ∙ ap (λ x. emit_fallen id ss x t) (sym (streams_fresh now id ss fresh_front))
+    ∙ nothing_falls id ss t
+    )
+  where
+    fresh_front : is_front_stale now (stream id ss).messages ≡ false
+    fresh_front = ap (λ (s : Stream). is_front_stale now s.messages) (stream_nowhere id ss none)
+
+-- what a stream emits, among the others
+pub stale_emitted : {P : Type 0} (now id : ℕ) (avoids : Bool) (s : Stream) (total : Watched) (ss : Streams) (t : Emitted P) → Some s ≡ lookup (is_at (nat_cmp id)) ss.entries
+    → amount_of (without_stale now s) ≤ amount_of s → total.amount ≡ total_of ss.entries → total.low_threshold ≡ ss.total_threshold → avoids ≡ ss.avoids_stalls
+    → emit_events (production id (avoids && crosses (watched_amount s) (watched_amount (without_stale now s)))
+    (avoids && crosses total (lower (amount_of s - amount_of (without_stale now s)) total)) None) (emit_expired now s.messages t) ≡ emit_stale now id ss t
+stale_emitted now id avoids s total ss t at less amount threshold avoiding =
+    let after = streams_without_stale now id ss in
+    let all = avoids && crosses total (lower (amount_of s - amount_of (without_stale now s)) total) in
+    ap (λ (b : Bool). emit_events (production id b all None) (emit_expired now s.messages t)) (low_there id avoids (λ x. without_stale now x) s ss at avoiding)
+    ∙ ap (λ (b : Bool). emit_events (production id (falls_low id ss after) b None) (emit_expired now s.messages t)) (total_there id avoids (λ x. without_stale now x) s total ss at less amount threshold avoiding)
+    ∙ ap (λ (x : Stream). emit_fallen id ss after (emit_expired now x.messages t)) (sym (stream_there id s ss at))

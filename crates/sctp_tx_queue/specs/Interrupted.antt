@@ -2,8 +2,8 @@
 use Rattle.std.specs.Prelude.{◌≡◌, ◌⊎◌, ℕ, zero, suc, Some, None, List, take}
 use Rattle.sctp_state.specs.Events.{Emitted}
 use Rattle.sctp_tx_queue.specs.declared.send_queue.stream.ResetStep.{ResetStep}
-use Rattle.sctp_tx_queue.specs.SendQueue.{Queue, stream}
-use Rattle.sctp_tx_queue.specs.Produced.{turn, next_stream, streams_without_stale, emit_expired}
+use Rattle.sctp_tx_queue.specs.SendQueue.{Queue}
+use Rattle.sctp_tx_queue.specs.Produced.{turn, next_stream, streams_without_stale, emit_stale}
 use Rattle.sctp_tx_queue.specs.Resets.{each_stepped}
 
 -- all is as it was
@@ -14,7 +14,7 @@ pub record Same {P : Type 0} (q : Queue) (emitted : Emitted P) (after : Queue) (
 -- the expired messages at the front of a stream are dropped, with their events, and nothing else
 pub record Freed {P : Type 0} (now id : ℕ) (q : Queue) (emitted : Emitted P) (after : Queue) (later : Emitted P) : Type 0 where
   pub queue : after ≡ record q { streams = streams_without_stale now id q.streams }
-  pub events : later ≡ emit_expired now (stream id q.streams).messages emitted
+  pub events : later ≡ emit_stale now id q.streams emitted
 
 -- a stream had its turn, and gave no fragment
 pub record TurnOver {P : Type 0} (now id size : ℕ) (q : Queue) (emitted : Emitted P) (after : Queue) (later : Emitted P) : Type 0 where

@@ -184,6 +184,21 @@ streams_without_stale now id ss = put_stream id (without_stale now (stream id ss
 abbrev pub streams_after : ℕ → ℕ → Streams → Streams
 streams_after id size ss = put_stream id (advance size (stream id ss)) ss
 
+-- with `avoid_stalls` alone: whether the amount of a stream, or of all, falls to its threshold where these streams come to be those
+abbrev pub falls_low : ℕ → Streams → Streams → Bool
+falls_low id before after = before.avoids_stalls && crosses (watched_amount (stream id before)) (watched_amount (stream id after))
+
+abbrev pub total_falls_low : Streams → Streams → Bool
+total_falls_low before after = before.avoids_stalls && crosses (watched_total before) (watched_total after)
+
+-- what is emitted of it, without a fragment
+abbrev pub emit_fallen : {P : Type 0} → ℕ → Streams → Streams → Emitted P → Emitted P
+emit_fallen id before after emitted = emit_events (production id (falls_low id before after) (total_falls_low before after) None) emitted
+
+-- what is emitted as the expired messages at the front of a stream are dropped
+abbrev pub emit_stale : {P : Type 0} → ℕ → ℕ → Streams → Emitted P → Emitted P
+emit_stale now id ss emitted = emit_fallen id ss (streams_without_stale now id ss) (emit_expired now (stream id ss).messages emitted)
+
 abbrev pub emitted_made : {P : Type 0} → ℕ → Bool → Bool → Option Produced → Emitted P → Emitted P
 emitted_made id is_low is_total_low None emitted = emitted
 emitted_made id is_low is_total_low (Some made) emitted = emit_events (production id is_low is_total_low made.lifecycle) emitted
@@ -219,7 +234,7 @@ turn_from id size ss q emitted =
     }
 
 abbrev pub turn : {P : Type 0} → ℕ → ℕ → ℕ → Queue → Emitted P → Turn P
-turn now id size q emitted = turn_from id size (streams_without_stale now id q.streams) q (emit_expired now (stream id q.streams).messages emitted)
+turn now id size q emitted = turn_from id size (streams_without_stale now id q.streams) q (emit_stale now id q.streams emitted)
 
 -- ---- the next fragment of all
 

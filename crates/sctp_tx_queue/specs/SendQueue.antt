@@ -48,6 +48,7 @@ pub record Streams : Type 0 where
   pub total_threshold : ℕ
   pub default_threshold : ℕ
   pub default_priority : ℕ
+  pub avoids_stalls : Bool  -- whether amounts that fall as messages are given up have their events
 
 pub record Queue : Type 0 where
   pub streams : Streams
@@ -61,6 +62,7 @@ no_streams o = record {
   total_threshold = o.total_buffered_amount_low_threshold;
   default_threshold = o.default_stream_buffered_amount_low_threshold;
   default_priority = o.default_stream_priority;
+  avoids_stalls = o.avoid_stalls;
 }
 
 -- the largest payload of a fragment is what a packet holds besides its header and that of an I-DATA chunk

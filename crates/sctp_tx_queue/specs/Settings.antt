@@ -4,7 +4,7 @@ use Rattle.sctp_state.specs.Events.{Emitted, emit_events, expired_events, OnBuff
 use Rattle.sctp_stream_scheduler.specs.StreamScheduler.{enable_message_interleaving}
 use Rattle.sctp_state.specs.ThresholdWatcher.{crosses}
 use Rattle.sctp_tx_queue.specs.SendQueue.{Queued, Stream, Streams, Queue, watched_amount, stream, with_stream, put_stream, set_sendable}
-use Rattle.sctp_tx_queue.specs.Produced.{pause_if_pending, when}
+use Rattle.sctp_tx_queue.specs.Produced.{pause_if_pending, when, emit_fallen}
 
 pub record Changed (P : Type 0) : Type 0 where
   pub queue : Queue
@@ -60,7 +60,7 @@ abbrev pub discard_from : {P : Type 0} → ℕ → Streams → Option (Option �
 discard_from id ss None q emitted = record { queue = record q { streams = ss }; emitted = emitted }
 discard_from id ss (Some lifecycle) q emitted = record {
   queue = record q { streams = ss; scheduler = set_sendable id (stream id ss) q.scheduler; begun = begun_without id q.begun };
-  emitted = emit_events (expired_events lifecycle) emitted;
+  emitted = emit_fallen id q.streams ss (emit_events (expired_events lifecycle) emitted);
 }
 
 abbrev pub discard : {P : Type 0} → ℕ → ℕ → Queue → Emitted P → Changed P

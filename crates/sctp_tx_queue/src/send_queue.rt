@@ -11,7 +11,7 @@ ghost use Rattle.sctp_state.specs.Events.{Grown, expired_events, emit_events};
 ghost use Rattle.sctp_stream_scheduler.specs.StreamScheduler.{set_bytes_remaining};
 ghost use Rattle.sctp_tx_queue.specs.declared.send_queue.stream.ResetStep.TheVariants.{Requested, Performed, Refused};
 ghost use Rattle.sctp_tx_queue.specs.SendQueue.{amount_of, total_of, stream, with_stream, queue, add, is_empty, has_nothing};
-ghost use Rattle.sctp_tx_queue.specs.Produced.{begun_by, turn, turn_from, produce, next_stream};
+ghost use Rattle.sctp_tx_queue.specs.Produced.{begun_by, production, turn, turn_from, produce, next_stream};
 ghost use Rattle.sctp_tx_queue.specs.Settings.{set_low_threshold, set_priority, set_mode, discard, begun_without};
 ghost use Rattle.sctp_tx_queue.specs.Resets.{prepare_reset, emit_unsent, is_ready, streams_to_request, request_resets, commit_resets, roll_back_resets, apply_reset_step, each_stepped};
 ghost use Rattle.sctp_tx_queue.specs.Begun.{Begins, GoesOn};
@@ -35,7 +35,7 @@ pub mod streams;
 
 use crate::data_to_send::DataToSend;
 use changes::ChangedStreams;
-use emitting::{emit_expired, emit_low};
+use emitting::{Lows, emit_discarded, emit_low};
 use message::QueuedMessage;
 use sctp_chunk::SpareBuffers;
 use sctp_serial::{LifecycleId, Message, OutgoingMessageId, SocketTime, StreamId};
@@ -72,21 +72,22 @@ impl Model for SendQueue {
     ghost invariant = { λ q. ResetKeeps q.changed (record { streams = q.streams; scheduler = q.scheduler; next_number = q.next_message_id.0; begun = option_map (λ id. id.0) q.begun }) };
 }
 
-/// Emits that a message was dropped, and sets what its stream has to send then. Without memory nothing changes.
+/// Emits that a message was dropped and which amounts fall by it, and sets what its stream has to send then. Without memory nothing changes.
 fn leave_line(
     scheduler: &mut StreamScheduler,
     events: &mut Events,
     id: StreamId,
     demand: Demand,
+    lows: Lows,
     lifecycle_id: Option<LifecycleId>,
 ) -> Result<(), AllocError>
     ensures ok { OnOk result (scheduler.new ≡ set_bytes_remaining id.0 demand.bytes demand.priority scheduler.old) }
-    ensures emitted { OnOk result (events.new ≡ emit_events (expired_events lifecycle_id) events.old) }
+    ensures emitted { OnOk result (events.new ≡ emit_events (production id.0 lows.is_low lows.is_total_low None) (emit_events (expired_events lifecycle_id) events.old)) }
     ensures err { OnErr result (scheduler.new ≡ scheduler.old) }
     ensures silent { OnErr result (events.new ≡ events.old) }
 {
     let mark = events.mark();
-    if emit_expired(events, lifecycle_id).is_err() {
+    if emit_discarded(events, id, lows, lifecycle_id).is_err() {
         events.roll_back(mark);
         return Err(AllocError);
     }
@@ -415,7 +416,8 @@ impl SendQueue {
     }
 
     /// Drops what is left of a message that was given up, where it is the first of its stream, as a partly sent message
-    /// is. Its lifecycle ends. Without memory nothing changes.
+    /// is. Its lifecycle ends, and with `avoid_stalls` events say what amounts fell to their thresholds by it. Without memory nothing
+    /// changes.
     pub fn discard(
         &mut self,
         id: StreamId,
@@ -432,7 +434,8 @@ impl SendQueue {
         self.changed.add(id);
         let demand = self.streams.demand_without(id, message_id);
         let lifecycle_id = discarded.lifecycle_id;
-        leave_line(&mut self.scheduler, events, id, demand, lifecycle_id)?;
+        let lows = self.streams.lows_without(id, message_id);
+        leave_line(&mut self.scheduler, events, id, demand, lows, lifecycle_id)?;
         self.streams.change(id, StreamChange::Discard(message_id));
         self.begun = begun_without(id, self.begun);
         Ok(())
@@ -482,12 +485,11 @@ impl SendQueue {
     {
         self.changed.add(id);
         self.streams.emit_waiting(id, events)?;
-        let priority = self.streams.priority(id);
-        self.streams.open(id)?;
         if bytes == 0 {
             self.scheduler.leave(id);
             return Ok(());
         }
+        let priority = self.streams.priority(id);
         self.scheduler.set_bytes_remaining(id, bytes, priority)?;
         Ok(())
     }

@@ -106,7 +106,7 @@ pub record Context (P : Type 0) : Type 0 where
   pub options : Options
   pub now : ℕ
   pub queue : Queue
-  pub forward_from : ℕ  -- no forward point is tested or sent before
+  pub forward_from : ℕ  -- no forward point is looked for or sent before
   pub errors : ErrorCounter
   pub heartbeats : Heartbeats
   pub counts : Counts

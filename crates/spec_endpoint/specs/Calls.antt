@@ -177,7 +177,7 @@ message_taken_in o (Open phase t) = Open phase (message_taken o t)
 abbrev pub take_message : {P : Type 0} → EndpointState P → EndpointState P
 take_message s = record s { state = message_taken_in s.context.options s.state }
 
--- nothing queued, no item kept
+-- some item is kept
 abbrev pub keeps_items : State → Bool
 keeps_items Closed = false
 keeps_items (CookieWait tag first t1) = false

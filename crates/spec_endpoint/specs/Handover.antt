@@ -177,7 +177,7 @@ tcb_from now o h = block_restored now h (tcb o (identity_from h) h.tx.rwnd (capa
 abbrev pub queue_restored : {P : Type 0} → HandoverState → Context P → Context P
 queue_restored h c = record c { queue = taken_up.restore c.now h.capabilities.message_interleaving h.tx c.queue }
 
--- With stalls avoided the timers of items and of heartbeats start (RFC 9260 sections 6.3.2 and 8.3); else they do with the first data that is sent.
+-- With stalls avoided the timers of items and of heartbeats start (RFC 9260 sections 6.3.2 and 8.3); else with the first data, of items with a SACK too.
 abbrev pub woken_if : {P : Type 0} → (avoids_stalls : Bool) → Tcb → Context P → AfterSending P
 woken_if true t c = after_sending (record t { sender = wake c.now t.sender }) (record c { heartbeats = restart_interval c.now c.heartbeats })
 woken_if false t c = after_sending t c

@@ -1,4 +1,4 @@
--- Two laws of the table: no call makes an end emit a packet above the mtu, and of an association that ends one event is emitted.
+-- Laws of the table: no call makes an end emit a packet above the mtu, and each time that an end is closed one event says so.
 use Rattle.std.specs.Prelude.{◌≡◌, ℕ, ◌+◌, ◌≤◌, Bool, true, false, Option, Some, None, List, [], ◌∷◌, ◌++◌, length, All}
 use Rattle.sctp_serial.specs.Messages.{Message}
 use Rattle.sctp_packet.specs.Chunk.{ChunkTree}
@@ -103,7 +103,7 @@ is_closed Closed = true
 is_closed (CookieWait tag first t1) = false
 is_closed (Open phase t) = false
 
--- an association, or an attempt at one, has ended
+-- the end is closed, and wasn't: an association, or an attempt at one, has ended, and none is in its place
 abbrev pub ends : (before after : State) → ℕ
 ends Closed after = 0
 ends (CookieWait tag first t1) Closed = 1
@@ -113,7 +113,7 @@ ends (Open phase t) Closed = 1
 ends (Open phase t) (CookieWait tag first t1) = 0
 ends (Open phase t) (Open new_phase u) = 0
 
--- the chunks of a packet that end one
+-- how often the chunks of a packet close the end
 abbrev pub endings_after : {P : Type 0} → (Endpoint P → ℕ) → AfterChunk P → ℕ
 endings_after rest h = elim h.allows_next [ true ↦ rest h.end | false ↦ 0 ]
 
@@ -129,7 +129,7 @@ endings_unless (Some text) tag chunks s = 0
 abbrev pub endings_in : {P : Type 0} → PacketTree → Endpoint P → ℕ
 endings_in p s = endings_unless (packet_refusal p.header.verification_tag p.chunks s.endpoint_state.state) p.header.verification_tag p.chunks (count_packet_at s)
 
--- how many associations a call ends: one at most, but in a packet, where a COOKIE ECHO may follow an ABORT
+-- how often a call closes the end: once at most, but in a packet, where a COOKIE ECHO may follow an ABORT
 abbrev pub endings_in_call : {P : Type 0} → Call → Endpoint P → ℕ
 endings_in_call (ReceivePacket p) s = endings_in p s
 endings_in_call call s = ends s.endpoint_state.state (called call s).endpoint_state.state
@@ -153,12 +153,12 @@ EachCallSendsAtMost =
     (word_of : List ℕ → ℕ) (call : Call) (s : Endpoint (List ℕ)) → s.endpoint_state.context.pack ≡ writing word_of → 12 ≤ s.endpoint_state.context.options.mtu
     → SendsAtMost s.endpoint_state.context.options.mtu s.endpoint_state.context (called call s).endpoint_state.context
 
--- as many endings as the call ends associations
+-- as many endings as the call closes the end
 abbrev pub EachCallEmitsEndings : Type 0
 EachCallEmitsEndings =
     (call : Call) (s : Endpoint (List ℕ)) → EmitsEndings (endings_in_call call s) s.endpoint_state.context (called call s).endpoint_state.context
 
--- and an end that a call leaves closed had one that ended
+-- and a call that leaves an end closed which was not counts one ending at least
 abbrev pub EachClosingEnds : Type 0
 EachClosingEnds =
     (call : Call) (s : Endpoint (List ℕ)) → is_closed s.endpoint_state.state ≡ false → is_closed (called call s).endpoint_state.state ≡ true → 1 ≤ endings_in_call call s

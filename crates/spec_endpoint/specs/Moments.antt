@@ -1,4 +1,4 @@
--- A law of time: before the moment that `poll_timeout` names, the passing of time moves the clock alone.
+-- Laws of time: before the moment that `poll_timeout` names, it moves the clock alone; a moment before the clock's changes nothing.
 use Rattle.std.specs.Prelude.{◌≡◌, ℕ, ◌<◌, ◌≤◌, Bool, false, List}
 use Rattle.spec_endpoint.specs.Association.{State, Closed, CookieWait, Open, EndpointState}
 use Rattle.spec_endpoint.specs.Sending.{is_before_cookie_ack}

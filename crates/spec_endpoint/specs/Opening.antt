@@ -24,7 +24,7 @@ use Rattle.spec_endpoint.specs.Association.{Identity, Tcb, tcb, Phase, CookieEch
 use Rattle.spec_endpoint.specs.Heartbeats.{restart_interval}
 use Rattle.spec_endpoint.specs.Packets.{add, packet_to, new_packet, round_down_to_4, emit_event_in, emit_error, emit}
 use Rattle.spec_endpoint.specs.Sending.{AfterSending, open_with, send_with, send_buffered, send_cookie}
-use Rattle.spec_endpoint.specs.Shutdown.{errors_if, close_with, send_shutdown_ack}
+use Rattle.spec_endpoint.specs.Shutdown.{cleared_if, close_with, send_shutdown_ack}
 
 -- ---- draws: a TSN but the last, a tag but 0 and the last
 
@@ -196,9 +196,9 @@ on_init_ack i s = on_init_ack_in s.endpoint_state.state i s
 
 -- ---- COOKIE ACK
 
--- an event says so, and heartbeats begin; with stalls avoided errors count from 0 where the association takes another's place
+-- an event says so, and heartbeats begin; with stalls avoided errors count from 0, as they may be another association's
 abbrev pub enter_connected : {P : Type 0} → Context P → Context P
-enter_connected c = record (emit_event_in OnConnected c) { heartbeats = restart_interval c.now c.heartbeats; errors = errors_if c.options.avoid_stalls c.errors }
+enter_connected c = record (emit_event_in OnConnected c) { heartbeats = restart_interval c.now c.heartbeats; errors = cleared_if c.options.avoid_stalls c.errors }
 
 abbrev pub establish : {P : Type 0} → Tcb → Context P → EndpointState P
 establish t c = open_with Established (send_buffered false t (enter_connected c))
@@ -333,7 +333,7 @@ abbrev pub on_read_cookie : {P : Type 0} → (tag : ℕ) → Result Cookie State
 on_read_cookie tag (Ok k) s = on_resolution (resolve_cookie s.endpoint_state.context.options.avoid_stalls tag k s.endpoint_state.state) k s
 on_read_cookie tag (Err fault) s = emit_parse_error (refusal_text fault) s
 
--- a restart comes too late for an association that shuts down (RFC 9260 section 5.2.4 A)
+-- a restart comes too late once the own SHUTDOWN ACK went out (RFC 9260 section 5.2.4 A)
 abbrev pub may_restart : State → Bool
 may_restart Closed = true
 may_restart (CookieWait tag first t1) = true

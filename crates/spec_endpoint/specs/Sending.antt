@@ -139,12 +139,12 @@ request_at_most most x =
     request_of (streams_to_request most x.context.queue) (record x { context = record x.context { queue = request_resets most x.context.queue } })
 
 -- one request at a time
-abbrev pub request_if : {P : Type 0} → (has_current : Bool) → Filling P → Filling P
-request_if true x = x
-request_if false x = request_at_most (most_streams x.packet) x
+abbrev pub request_unless : {P : Type 0} → (has_current : Bool) → Filling P → Filling P
+request_unless true x = x
+request_unless false x = request_at_most (most_streams x.packet) x
 
 abbrev pub with_request : {P : Type 0} → Filling P → Filling P
-with_request x = request_if (is_some x.tcb.requests.current) x
+with_request x = request_unless (is_some x.tcb.requests.current) x
 
 -- ---- data
 

@@ -27,12 +27,12 @@ abbrev pub empty_if : {P : Type 0} → (avoids_stalls : Bool) → Queue → Emit
 empty_if true q emitted = empty q emitted
 empty_if false q emitted = record { queue = q; emitted = emitted }
 
-abbrev pub errors_if : (avoids_stalls : Bool) → ErrorCounter → ErrorCounter
-errors_if true e = no_errors e.limit
-errors_if false e = e
+abbrev pub cleared_if : (avoids_stalls : Bool) → ErrorCounter → ErrorCounter
+cleared_if true e = no_errors e.limit
+cleared_if false e = e
 
 abbrev pub emptied_if : {P : Type 0} → (avoids_stalls : Bool) → Context P → Context P
-emptied_if avoids_stalls c = let x = empty_if avoids_stalls c.queue c.emitted in record c { queue = x.queue; emitted = x.emitted; errors = errors_if avoids_stalls c.errors }
+emptied_if avoids_stalls c = let x = empty_if avoids_stalls c.queue c.emitted in record c { queue = x.queue; emitted = x.emitted; errors = cleared_if avoids_stalls c.errors }
 
 abbrev pub over : {P : Type 0} → Event P → Context P → Context P
 over e c = emptied_if c.options.avoid_stalls (ended e c)

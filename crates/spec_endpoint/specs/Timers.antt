@@ -232,12 +232,12 @@ tick_in (CookieWait tag first t1) c = after_init_timer tag first (expire c.now t
 tick_in (Open phase t) c = tick_open phase t c
 
 -- a moment before the clock's changes nothing
-abbrev pub advance_if : {P : Type 0} → (is_back : Bool) → (now : ℕ) → EndpointState P → EndpointState P
-advance_if true now s = s
-advance_if false now s = tick_in s.state (record s.context { now = now })
+abbrev pub advance_unless : {P : Type 0} → (is_back : Bool) → (now : ℕ) → EndpointState P → EndpointState P
+advance_unless true now s = s
+advance_unless false now s = tick_in s.state (record s.context { now = now })
 
 abbrev pub advance : {P : Type 0} → (now : ℕ) → EndpointState P → EndpointState P
-advance now s = advance_if (nat_lt now s.context.now) now s
+advance now s = advance_unless (nat_lt now s.context.now) now s
 
 -- ---- when to call next
 

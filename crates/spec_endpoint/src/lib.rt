@@ -1,3 +1,3 @@
-//! The table of steps of an association (RFC 9260): what each call, packet and moment does to the value of an end. Definitions
-//! alone, in `specs/`; no code.
+//! The table of steps of an association (RFC 9260): what each call, packet and moment does to the value of an end. Definitions,
+//! in `specs/`; no code.
 #![tactic(auto)]

@@ -92,9 +92,9 @@ abbrev pub some_unless : {X : Type 0} → Bool → X → List X → List X
 some_unless true x xs = xs
 some_unless false x xs = x ∷ xs
 
-abbrev pub all_unless : {X : Type 0} → Bool → List X → List X
-all_unless true xs = xs
-all_unless false xs = []
+abbrev pub all_if : {X : Type 0} → Bool → List X → List X
+all_if true xs = xs
+all_if false xs = []
 
 -- those of a batch that weren't refused
 abbrev pub unrefused : (place : ℕ) → List Message → List (ℕ × SendError) → List Message
@@ -107,7 +107,7 @@ accepted_in (SendMany ms options) (SentMany refused) = unrefused 0 ms refused
 accepted_in call answer = []
 
 abbrev pub accepted_by : End → Entry → List Message
-accepted_by x (Called y clock call answer) = all_unless (same_end x y) (accepted_in call answer)
+accepted_by x (Called y clock call answer) = all_if (same_end x y) (accepted_in call answer)
 accepted_by x entry = []
 
 -- the messages that this end accepted, by their places
@@ -127,7 +127,7 @@ handed_out_in (TookMessage (Some m)) = m ∷ []
 handed_out_in answer = []
 
 abbrev pub handed_out_by : End → Entry → List Message
-handed_out_by x (Called y clock call answer) = all_unless (same_end x y) (handed_out_in answer)
+handed_out_by x (Called y clock call answer) = all_if (same_end x y) (handed_out_in answer)
 handed_out_by x entry = []
 
 -- those that it handed out

@@ -44,12 +44,12 @@ fn look(item: &Item, output: &mut Output) -> Answer {
     output.text("sendings #", &[item.sendings() as u128])
 }
 
-/// What says that an item is missing: a timeout where it is lost at once, else a SACK.
+/// What says that an item is missing: a timeout where it is lost at once, else a report that counts.
 fn indication(at_once: bool) -> MissIndication {
     if at_once {
         MissIndication::Timeout
     } else {
-        MissIndication::Report
+        MissIndication::Report { newest: 0, next: 0 }
     }
 }
 

@@ -43,9 +43,9 @@ pub trait DcSctpSocket {
     /// moment.
     fn connect(&mut self) -> Result<(), CallError>;
 
-    /// Ends the association at once, with an ABORT to the peer (RFC 9260 section 9.1). Without `avoid_stalls` the send queue stays,
-    /// also where the peer aborts: what it holds goes to the peer of the next association, a partly sent message from its start,
-    /// but from its middle at an end that answers a COOKIE ECHO. With it all is given up.
+    /// Ends the association at once, with an ABORT to the peer unless its INIT ACK is still waited for (RFC 9260 section 9.1). Without
+    /// `avoid_stalls` the send queue stays, also where the peer aborts: what it holds goes to the peer of the next association, a partly
+    /// sent message from its start, but from its middle at an end that answers a COOKIE ECHO. With it all is given up.
     fn close(&mut self) -> Result<(), CallError>;
 
     /// Shuts the association down: no more messages are accepted, and SHUTDOWN goes out once nothing is in flight (RFC 9260

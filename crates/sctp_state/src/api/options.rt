@@ -15,8 +15,8 @@ use std::time::Duration;
 pub struct SendOptions {
     /// Whether the message may overtake others of its stream.
     pub unordered: bool,
-    /// How long the message is worth sending, counted from its acceptance; it is given up after that, once a fragment
-    /// was sent with partial reliability alone (RFC 3758 section 4.1).
+    /// How long the message is worth sending, counted from its acceptance. A millisecond behind that it is given up as its turn comes; once
+    /// a fragment of it was sent, where one is missing or lost, and only with partial reliability (RFC 3758 section 4.1).
     pub lifetime: Option<Duration>,
     /// How often a fragment of the message is sent again; with partial reliability the message is given up after that
     /// (RFC 7496 section 3.1).
@@ -54,9 +54,9 @@ pub struct Options {
     pub max_send_buffer_size: usize,
     /// A stream that holds as much takes no further message. Below 2^32.
     pub per_stream_send_queue_limit: usize,
-    /// An event is emitted when a fragment that goes out brings the queued amount of all streams to this.
+    /// An event is emitted when a fragment that goes out, or with `avoid_stalls` what is given up, brings the queued amount of all streams to this.
     pub total_buffered_amount_low_threshold: usize,
-    /// An event is emitted when a fragment that goes out brings the queued amount of a stream to this, where none is set for the stream.
+    /// The same of the queued amount of a stream, where none is set for the stream.
     pub default_stream_buffered_amount_low_threshold: usize,
     /// A round trip time above this isn't taken as a sample.
     pub rtt_max: Duration,
@@ -115,7 +115,7 @@ pub struct Options {
     /// the places, among them: what was lost goes before what is new, acknowledgements are asked for and sent in time (RFC 9260 sections 6.1 and
     /// 6.2, RFC 7053), what is due is timed, and timers back off to `rto_max` at most (section 6.3, RFC 3758 section 3.5), a cookie that is known to
     /// be late is discarded (sections 5.1.5, 5.2.4), `shutdown` waits for the queue (section 9.2), and as an association ends what waits is given
-    /// up, each message with its record (section 8.1).
+    /// up, each message with its record (sections 9, 6.5), and errors count from 0 (section 8.1). What is given up may bring a queued amount low.
     pub avoid_stalls: bool,
 }
 

@@ -1,6 +1,6 @@
 //! What the send queue emits to the socket's user.
 
-ghost use Rattle.std.specs.Prelude.{◌≡◌, OnOk, OnErr};
+ghost use Rattle.std.specs.Prelude.{◌≡◌, None, OnOk, OnErr};
 ghost use Rattle.sctp_state.specs.Events.{OnBufferedAmountLow, OnTotalBufferedAmountLow, expired_events, emit_given_up, emit_events, Grown};
 ghost use Rattle.sctp_tx_queue.specs.Produced.{when, fully_sent, production};
 ghost use Rattle.sctp_tx_queue.specs.Resets.{emit_unsent};
@@ -20,10 +20,7 @@ pub(crate) struct Lows {
 }
 
 /// A message was dropped before it was fully sent.
-pub(crate) fn emit_expired(
-    events: &mut Events,
-    lifecycle_id: Option<LifecycleId>,
-) -> Result<(), AllocError>
+fn emit_expired(events: &mut Events, lifecycle_id: Option<LifecycleId>) -> Result<(), AllocError>
     ensures ok { OnOk result (events.new ≡ emit_events (expired_events lifecycle_id) events.old) }
     ensures err { OnErr result (Grown events.old events.new) }
 {
@@ -31,6 +28,21 @@ pub(crate) fn emit_expired(
         events.add(SocketEvent::OnLifecycleMessageExpired(id))?;
         events.add(SocketEvent::OnLifecycleEnd(id))?;
     }
+    Ok(())
+}
+
+/// The rest of a message was dropped, and these amounts fell by it.
+pub(crate) fn emit_discarded(
+    events: &mut Events,
+    id: StreamId,
+    lows: Lows,
+    lifecycle_id: Option<LifecycleId>,
+) -> Result<(), AllocError>
+    ensures ok { OnOk result (events.new ≡ emit_events (production id.0 lows.is_low lows.is_total_low None) (emit_events (expired_events lifecycle_id) events.old)) }
+    ensures err { OnErr result (Grown events.old events.new) }
+{
+    emit_expired(events, lifecycle_id)?;
+    emit_production(events, id, lows, None)?;
     Ok(())
 }
 

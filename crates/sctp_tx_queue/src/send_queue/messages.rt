@@ -139,6 +139,21 @@ fn is_stale_front(messages: &VecDeque<QueuedMessage>, now: SocketTime) -> bool
     }
 }
 
+/// The bytes of the messages at the front that expired before they were begun.
+fn stale_amount(messages: &VecDeque<QueuedMessage>, now: SocketTime) -> usize
+    requires { sum_by remaining_bytes messages.now.items < 2 ^ 64 }
+    ensures { result + sum_by remaining_bytes (fresh now messages.now.items) ≡ sum_by remaining_bytes messages.now.items }
+{
+    let mut bytes = 0;
+    for message in messages.iter() {
+        if !message.is_stale(now) {
+            return bytes;
+        }
+        bytes += message.left();
+    }
+    bytes
+}
+
 /// Drops the messages at the front that expired before they were begun.
 fn drop_stale_front(
     messages: &mut VecDeque<QueuedMessage>,
@@ -351,6 +366,17 @@ impl Messages {
         match &self.room {
             Some(room) => emit_stale_front(room, now, events),
             None => Ok(()),
+        }
+    }
+
+    /// The bytes of these messages.
+    pub(crate) fn stale_amount(&self, now: SocketTime) -> usize
+        requires { sum_by remaining_bytes self.now < 2 ^ 64 }
+        ensures { result + sum_by remaining_bytes (fresh now self.now) ≡ sum_by remaining_bytes self.now }
+    {
+        match &self.room {
+            Some(room) => stale_amount(room, now),
+            None => 0,
         }
     }
 

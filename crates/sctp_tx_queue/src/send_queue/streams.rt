@@ -10,7 +10,7 @@ ghost use Rattle.sctp_state.specs.Events.{Grown};
 ghost use Rattle.sctp_state.specs.Options.{options_of};
 ghost use Rattle.sctp_state.specs.ThresholdWatcher.{crosses};
 ghost use Rattle.sctp_tx_queue.specs.SendQueue.{amount_of, total_of, watched_amount, no_streams, stream, with_stream, put_stream, push, sendable, has_nothing};
-ghost use Rattle.sctp_tx_queue.specs.Produced.{emit_expired, left_empty, streams_without_stale, streams_after, next_fragment, emitted_of, in_line};
+ghost use Rattle.sctp_tx_queue.specs.Produced.{emit_stale, falls_low, total_falls_low, left_empty, streams_without_stale, streams_after, next_fragment, emitted_of, in_line};
 ghost use Rattle.sctp_tx_queue.specs.Settings.{with_threshold, streams_discarded, front_discarded};
 ghost use Rattle.sctp_tx_queue.specs.Resets.{is_ready, after_step, ready, prepare_stream, emit_unsent};
 ghost use Rattle.sctp_state.specs.Handover.{stream_message_of};
@@ -27,6 +27,7 @@ ghost use Rattle.sctp_tx_queue.specs.Views.{produced_of};
 
 use crate::data_to_send::DataToSend;
 use crate::send_queue::changes::ChangedStreams;
+use crate::send_queue::emitting::Lows;
 use crate::send_queue::message::QueuedMessage;
 use crate::send_queue::messages::SpareRooms;
 use crate::send_queue::ready_ids::{ReadyIds, first_ids};
@@ -44,7 +45,8 @@ use std::collections::BTreeMap;
 use std::marker::Model;
 
 /// The streams by id. `total` counts the bytes on all of them that are not sent, `ready_count` the streams that can be
-/// reset and are in no request.
+/// reset and are in no request. `avoids_stalls` says whether amounts that fall as messages are given
+/// up have their events.
 #[derive(Drop)]
 pub struct Streams {
     streams: BTreeMap<u16, Stream>,
@@ -53,6 +55,7 @@ pub struct Streams {
     ready_ids: ReadyIds,
     default_threshold: usize,
     default_priority: u16,
+    avoids_stalls: bool,
     spare_rooms: SpareRooms,
 }
 
@@ -62,7 +65,7 @@ impl Model for Streams {
 
     ghost Value = { Streams };
 
-    ghost view = { λ s. record { entries = s.streams.entries; total_threshold = s.total.low_threshold; default_threshold = s.default_threshold; default_priority = s.default_priority } };
+    ghost view = { λ s. record { entries = s.streams.entries; total_threshold = s.total.low_threshold; default_threshold = s.default_threshold; default_priority = s.default_priority; avoids_stalls = s.avoids_stalls } };
 
     ghost invariant = { λ s. IsCounted s.total.amount s.ready_count s.ready_ids s.streams.entries };
 }
@@ -86,6 +89,7 @@ impl Streams {
             ready_ids: ReadyIds::new(alloc),
             default_threshold: options.default_stream_buffered_amount_low_threshold,
             default_priority: options.default_stream_priority,
+            avoids_stalls: options.avoid_stalls,
             spare_rooms: SpareRooms::new(alloc),
         }
     }
@@ -124,6 +128,7 @@ impl Streams {
             ready_ids: ReadyIds::new(alloc),
             default_threshold: self.default_threshold,
             default_priority: self.default_priority,
+            avoids_stalls: self.avoids_stalls,
             spare_rooms: SpareRooms::new(alloc),
         })
     }
@@ -242,8 +247,9 @@ impl Streams {
         }
     }
 
-    /// Drops the messages at the front of a stream that expired before they were begun, with their events. The answer is
-    /// whether none is left, where some were dropped. Without memory nothing changes.
+    /// Drops the messages at the front of a stream that expired before they were begun, with their events. With
+    /// `avoid_stalls` events say also what amounts fell to their thresholds by it. The answer is whether none is left, where some
+    /// were dropped. Without memory nothing changes.
     pub(crate) fn drop_stale(
         &mut self,
         id: StreamId,
@@ -251,16 +257,17 @@ impl Streams {
         events: &mut Events,
     ) -> Result<Option<bool>, AllocError>
         ensures ok { OnOk result (self.new ≡ streams_without_stale now id.0 self.old) }
-        ensures emitted { OnOk result (events.new ≡ emit_expired now (stream id.0 self.old).messages events.old) }
+        ensures emitted { OnOk result (events.new ≡ emit_stale now id.0 self.old events.old) }
         ensures left { IfOk result (λ left. left ≡ left_empty now (stream id.0 self.old).messages) }
         ensures err { OnErr result (self.new ≡ self.old) }
         ensures silent { OnErr result (events.new ≡ events.old) }
     {
+        let avoids_stalls = self.avoids_stalls;
         let Some(stream) = self.streams.get_mut(&id.0) else {
             return Ok(None);
         };
         let before = stream.amount();
-        let left = stream.drop_stale(now, events)?;
+        let left = stream.drop_stale(id, now, avoids_stalls, &self.total, events)?;
         self.total.decrease(before - stream.amount());
         Ok(left)
     }
@@ -357,6 +364,20 @@ impl Streams {
         }
     }
 
+    /// Which amounts fall to their thresholds without that message; none are named without `avoid_stalls`.
+    pub(crate) fn lows_without(&self, id: StreamId, message_id: OutgoingMessageId) -> Lows
+        ensures low { result.is_low ≡ falls_low id.0 self.now (streams_discarded id.0 message_id.0 self.now) }
+        ensures total { result.is_total_low ≡ total_falls_low self.now (streams_discarded id.0 message_id.0 self.now) }
+    {
+        match self.streams.get(&id.0) {
+            Some(stream) => stream.lows_without(message_id, self.avoids_stalls, &self.total),
+            None => Lows {
+                is_low: false,
+                is_total_low: false,
+            },
+        }
+    }
+
     /// What a stream has to send without that message.
     pub(crate) fn demand_without(&self, id: StreamId, message_id: OutgoingMessageId) -> Demand
         ensures bytes { result.bytes ≡ sendable (stream id.0 (streams_discarded id.0 message_id.0 self.now)) }
@@ -371,14 +392,22 @@ impl Streams {
         }
     }
 
-    /// Emits of the messages of a stream of which nothing is sent that they are given up.
-    pub(crate) fn emit_waiting(&self, id: StreamId, events: &mut Events) -> Result<(), AllocError>
-        ensures ok { OnOk result (events.new ≡ emit_unsent (stream id.0 self.now).messages events.old) }
-        ensures err { OnErr result (Grown events.old events.new) }
+    /// Emits of the messages of a stream of which nothing is sent that they are given up. Where there is no such stream it is made.
+    pub(crate) fn emit_waiting(
+        &mut self,
+        id: StreamId,
+        events: &mut Events,
+    ) -> Result<(), AllocError>
+        ensures ok { OnOk result (self.new ≡ with_stream id.0 self.old) }
+        ensures there { OnOk result (IsSome (lookup (is_at (nat_cmp id.0)) self.new.entries)) }
+        ensures stream { OnOk result (stream id.0 self.new ≡ stream id.0 self.old) }
+        ensures emitted { OnOk result (events.new ≡ emit_unsent (stream id.0 self.old).messages events.old) }
+        ensures err { OnErr result (self.new ≡ self.old) }
+        ensures grown { OnErr result (Grown events.old events.new) }
     {
         match self.streams.get(&id.0) {
             Some(stream) => stream.emit_waiting(events),
-            None => Ok(()),
+            None => self.open(id),
         }
     }
 

@@ -1,4 +1,4 @@
-use Rattle.std.proofs.Common.{◌≡◌, ℕ, ◌-◌, ◌==◌, true, false, length, refl, ap, sym, ◌∙◌, arith, rules}
+use Rattle.std.proofs.Common.{◌≡◌, ℕ, ◌-◌, ◌==◌, length, refl, ap, sym, ◌∙◌, arith, rules}
 use Rattle.std.specs.Prelude.{option_map}
 use Rattle.sctp_stream_scheduler.specs.StreamScheduler.{Scheduler, leave, set_bytes_remaining}
 use Rattle.sctp_stream_scheduler.proofs.SchedulerLemmas.{withdraws}

@@ -1,8 +1,8 @@
 use Rattle.std.proofs.Common.{◌≡◌, ℕ, List, map, take, ap, sym, subst, ◌∙◌, rules}
-use Rattle.std.specs.Prelude.{option_map, filter}
+use Rattle.std.specs.Prelude.{filter}
 use Rattle.std.specs.Map.{keys_of}
 use Rattle.sctp_tx_queue.specs.SendQueue.{Queue}
-use Rattle.sctp_tx_queue.specs.Restarted.{each_restarted, may_differ, after_reset, unbegun, reset, ResetKeeps, NumbersGoOn, SomeRestarted}
+use Rattle.sctp_tx_queue.specs.Restarted.{each_restarted, may_differ, after_reset, unbegun, ResetKeeps, NumbersGoOn, SomeRestarted}
 use Rattle.sctp_tx_queue.proofs.RestartLemmas.{restarted_numbers}
 use Rattle.sctp_tx_queue.proofs.SettledLemmas.{reset_is, reset_keeps, reset_some}
 use Rattle.sctp_tx_queue.proofs.send_queue.SendQueue.reset.Goals as goal

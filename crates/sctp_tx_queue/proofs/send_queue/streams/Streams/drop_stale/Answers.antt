@@ -7,12 +7,13 @@ use Rattle.sctp_tx_queue.specs.Produced.{without_stale}
 use Rattle.sctp_tx_queue.proofs.BoundLemmas.{few_changed, keeps_fresh, keeps_same}
 use Rattle.sctp_tx_queue.proofs.ReadyIdsLemmas.{lists_kept}
 use Rattle.sctp_tx_queue.proofs.ReadyLemmas.{ready_kept}
+use Rattle.sctp_tx_queue.proofs.StaleLemmas.{nowhere_dropped, stale_emitted}
 use Rattle.sctp_tx_queue.proofs.StreamsLemmas.{total_written, amount_at_most, put_nowhere, written_same}
 use Rattle.sctp_tx_queue.proofs.send_queue.streams.Streams.drop_stale.Goals as goal
 
 pub returns-in_default-clause-ok : goal.returns-in_default-clause-ok
 returns-in_default-clause-ok c =
-    let view : Entries → Streams = λ es. record { entries = es; total_threshold = c.self.inside.total.low_threshold; default_threshold = c.self.inside.default_threshold; default_priority = c.self.inside.default_priority } in
+    let view : Entries → Streams = λ es. record { entries = es; total_threshold = c.self.inside.total.low_threshold; default_threshold = c.self.inside.default_threshold; default_priority = c.self.inside.default_priority; avoids_stalls = c.self.inside.avoids_stalls } in
     ap view (ap (λ m. m.entries) c.get_mut.follows.holds-at-none) ∙ c.self.view_is
     ∙ sym (put_nowhere c.args.id.0 _ c.args.self.now (c.in_default.ensures.value ∙ ap (λ ss. lookup (is_at (nat_cmp c.args.id.0)) ss.entries) c.self.view_is))
 
@@ -35,7 +36,7 @@ invariant_of-self-in_err-left c =
 
 pub returns-in_err-left-clause-err : goal.returns-in_err-left-clause-err
 returns-in_err-left-clause-err c =
-    let view : Entries → Streams = λ es. record { entries = es; total_threshold = c.self.inside.total.low_threshold; default_threshold = c.self.inside.default_threshold; default_priority = c.self.inside.default_priority } in
+    let view : Entries → Streams = λ es. record { entries = es; total_threshold = c.self.inside.total.low_threshold; default_threshold = c.self.inside.default_threshold; default_priority = c.self.inside.default_priority; avoids_stalls = c.self.inside.avoids_stalls } in
     let test = is_at (nat_cmp c.args.id.0) in
     let entries = c.self.inside.streams.entries in
     let same = (c.get_mut.follows.holds c.drop_stale.new.self).0 ∙ ap (λ w. set_value test entries w) c.in_err-left.ensures.err ∙ written_same test c.in-Some.stream.now entries c.in-Some.ensures.value in
@@ -69,3 +70,18 @@ invariant_of-self-2 c =
       ready = c.self.invariant.ready ∙ ready_kept id entries _ v w at written pause;
       listed = lists_kept id c.self.inside.ready_ids entries _ v w at written pause c.self.invariant.listed;
     }
+
+pub returns-in_default-clause-emitted : goal.returns-in_default-clause-emitted
+returns-in_default-clause-emitted c =
+    nowhere_dropped c.args.now c.args.id.0 c.args.self.now c.args.events.now (c.in_default.ensures.value ∙ ap (λ ss. lookup (is_at (nat_cmp c.args.id.0)) ss.entries) c.self.view_is)
+
+pub returns-clause-emitted : goal.returns-clause-emitted
+returns-clause-emitted c =
+    let id = c.args.id.0 in
+    let ss = c.args.self.now in
+    let v = c.in-Some.stream.now in
+    let at = c.in-Some.ensures.value ∙ ap (λ x. lookup (is_at (nat_cmp id)) x.entries) c.self.view_is in
+    let less = ap amount_of (sym c.in_ok-left.ensures.ok) in
+    c.in_ok-left.ensures.emitted
+    ∙ stale_emitted c.args.now id c.self.inside.avoids_stalls v c.self.inside.total ss c.args.events.now at (omega (arith, less, c.in_ok-left.ensures.less)) (c.self.invariant.counted ∙ ap (λ x. total_of x.entries) c.self.view_is) (ap (λ x. x.total_threshold) c.self.view_is)
+    (ap (λ x. x.avoids_stalls) c.self.view_is)

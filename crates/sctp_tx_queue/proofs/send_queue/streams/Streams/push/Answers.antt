@@ -26,7 +26,7 @@ invariant_of-self-in_err-push c =
 
 pub returns-in_err-push-clause-err : goal.returns-in_err-push-clause-err
 returns-in_err-push-clause-err c =
-    let view : Entries → Streams = λ es. record { entries = es; total_threshold = c.self.inside.total.low_threshold; default_threshold = c.self.inside.default_threshold; default_priority = c.self.inside.default_priority } in
+    let view : Entries → Streams = λ es. record { entries = es; total_threshold = c.self.inside.total.low_threshold; default_threshold = c.self.inside.default_threshold; default_priority = c.self.inside.default_priority; avoids_stalls = c.self.inside.avoids_stalls } in
     let entries = c.self.inside.streams.entries in
     let same = (c.get_mut.follows.holds c.push.new.self).0 ∙ ap (λ w. set_value (is_at (nat_cmp c.args.id.0)) entries w) c.in_err-push.ensures.err ∙ written_same (is_at (nat_cmp c.args.id.0)) c.in-Some.stream.now entries c.in-Some.ensures.value in
     let all = ap view same ∙ c.self.view_is in

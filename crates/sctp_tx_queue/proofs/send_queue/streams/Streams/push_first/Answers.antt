@@ -37,7 +37,7 @@ invariant_of-self-2 c =
 pub returns-clause-ok : goal.returns-clause-ok
 returns-clause-ok c =
     let id = c.args.id.0 in
-    let inside : Streams = record { entries = c.self.inside.streams.entries; total_threshold = c.self.inside.total.low_threshold; default_threshold = c.self.inside.default_threshold; default_priority = c.self.inside.default_priority } in
+    let inside : Streams = record { entries = c.self.inside.streams.entries; total_threshold = c.self.inside.total.low_threshold; default_threshold = c.self.inside.default_threshold; default_priority = c.self.inside.default_priority; avoids_stalls = c.self.inside.avoids_stalls } in
     let none = c.requires.absent ∙ ap (λ ss. lookup (is_at (nat_cmp id)) ss.entries) (sym c.self.view_is) in
     first_is id c.args.message inside c.insert.new.self.entries c.increase.new.self.low_threshold none
     (c.in_ok-insert.ensures.entries ∙ ap (λ s. insert_entry nat_cmp c.self.inside.streams.entries id s) (c.in_ok-push.ensures.ok ∙ ap (λ s. push c.args.message s) c.new-stream.ensures)) (ap (λ w. w.low_threshold) c.increase.ensures)

@@ -5,7 +5,7 @@ use Rattle.std.specs.Map.{lookup}
 use Rattle.std.specs.Ordering.{nat_cmp}
 use Rattle.std.specs.BTreeMap.{is_at}
 use Rattle.sctp_tx_queue.specs.SendQueue.{Queued, Stream, Streams, Entries, amount_of, total_of, remaining_bytes, has_nothing}
-use Rattle.sctp_tx_queue.specs.Bounded.{IsCounted, one}
+use Rattle.sctp_tx_queue.specs.Bounded.{IsCounted}
 use Rattle.sctp_tx_queue.specs.Resets.{is_ready}
 use Rattle.sctp_tx_queue.specs.Restarted.{restart, whole_front}
 use Rattle.sctp_tx_queue.proofs.BoundLemmas.{few_changed, keeps_whole}
@@ -16,7 +16,7 @@ use Rattle.sctp_tx_queue.proofs.send_queue.streams.Streams.restart_idle.Goals as
 
 pub returns-in_default-clause-done : goal.returns-in_default-clause-done
 returns-in_default-clause-done c = λ h.
-    let view : Entries → Streams = λ es. record { entries = es; total_threshold = c.self.inside.total.low_threshold; default_threshold = c.self.inside.default_threshold; default_priority = c.self.inside.default_priority } in
+    let view : Entries → Streams = λ es. record { entries = es; total_threshold = c.self.inside.total.low_threshold; default_threshold = c.self.inside.default_threshold; default_priority = c.self.inside.default_priority; avoids_stalls = c.self.inside.avoids_stalls } in
     ap view (ap (λ m. m.entries) c.get_mut.follows.holds-at-none) ∙ c.self.view_is
     ∙ sym (put_nowhere c.args.id.0 _ c.args.self.now (c.in_default.ensures.value ∙ ap (λ ss. lookup (is_at (nat_cmp c.args.id.0)) ss.entries) c.self.view_is))
 
@@ -31,7 +31,7 @@ pub returns-then-has_messages-clause-same : goal.returns-then-has_messages-claus
 returns-then-has_messages-clause-same c = λ h.
     let v = c.in-Some.stream.now in
     let entries = c.self.inside.streams.entries in
-    let view : Entries → Streams = λ es. record { entries = es; total_threshold = c.self.inside.total.low_threshold; default_threshold = c.self.inside.default_threshold; default_priority = c.self.inside.default_priority } in
+    let view : Entries → Streams = λ es. record { entries = es; total_threshold = c.self.inside.total.low_threshold; default_threshold = c.self.inside.default_threshold; default_priority = c.self.inside.default_priority; avoids_stalls = c.self.inside.avoids_stalls } in
     ap view ((c.get_mut.follows.holds v).0 ∙ written_same (is_at (nat_cmp c.args.id.0)) v entries c.in-Some.ensures.value) ∙ c.self.view_is
 
 pub ready_count_after-self-inside-requires-clause-most : goal.ready_count_after-self-inside-requires-clause-most

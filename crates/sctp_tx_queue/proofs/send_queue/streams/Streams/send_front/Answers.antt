@@ -18,7 +18,7 @@ use Rattle.sctp_tx_queue.proofs.send_queue.streams.Streams.send_front.Goals as g
 
 pub returns-in_default-clause-streams : goal.returns-in_default-clause-streams
 returns-in_default-clause-streams c =
-    let view : Entries → Streams = λ es. record { entries = es; total_threshold = c.self.inside.total.low_threshold; default_threshold = c.self.inside.default_threshold; default_priority = c.self.inside.default_priority } in
+    let view : Entries → Streams = λ es. record { entries = es; total_threshold = c.self.inside.total.low_threshold; default_threshold = c.self.inside.default_threshold; default_priority = c.self.inside.default_priority; avoids_stalls = c.self.inside.avoids_stalls } in
     ap view (ap (λ m. m.entries) c.get_mut.follows.holds-at-none) ∙ c.self.view_is
     ∙ sym (put_nowhere c.args.turn.id.0 _ c.args.self.now (c.in_default.ensures.value ∙ ap (λ ss. lookup (is_at (nat_cmp c.args.turn.id.0)) ss.entries) c.self.view_is))
 
@@ -77,7 +77,7 @@ invariant_of-self-in_err-made c =
 
 pub returns-in_err-made-clause-err : goal.returns-in_err-made-clause-err
 returns-in_err-made-clause-err c =
-    let view : Entries → Streams = λ es. record { entries = es; total_threshold = c.self.inside.total.low_threshold; default_threshold = c.self.inside.default_threshold; default_priority = c.self.inside.default_priority } in
+    let view : Entries → Streams = λ es. record { entries = es; total_threshold = c.self.inside.total.low_threshold; default_threshold = c.self.inside.default_threshold; default_priority = c.self.inside.default_priority; avoids_stalls = c.self.inside.avoids_stalls } in
     let entries = c.self.inside.streams.entries in
     let same = (c.get_mut.follows.holds c.send_from.new.stream).0 ∙ ap (λ w. set_value (is_at (nat_cmp c.args.turn.id.0)) entries w) c.in_err-made.ensures.err.stream ∙ written_same (is_at (nat_cmp c.args.turn.id.0)) c.in-Some.stream.now entries c.in-Some.ensures.value in
     let all = ap view same ∙ c.self.view_is in

@@ -1,15 +1,13 @@
-use Rattle.std.proofs.Common.{[], sym, subst, ◌∙◌}
+use Rattle.std.proofs.Common.{[], sym, ◌∙◌}
 use Rattle.std.specs.Map.{values_of}
-use Rattle.std.specs.List.{All}
-use Rattle.std.proofs.lemmas.List.Elements.{All-nil}
 use Rattle.sctp_reassembly.proofs.FinishedLemmas.{seen_next, seen_all}
-use Rattle.sctp_reassembly.proofs.finished.later_keys.Goals as goal
+use Rattle.sctp_reassembly.proofs.finished.add_later.Goals as goal
 
 pub loop-interval-init : goal.loop-interval-init
 loop-interval-init g c = record {
   next = tt;
   finite = tt;
-  keys = subst (All g.K.ReassemblyKey.is_key) (sym c.new-keys.ensures.empty) (All-nil g.K.ReassemblyKey.is_key);
+  keys = c.requires.keys;
   seen = record { front = []; is = sym c.values-interval-items.ensures.rest ∙ sym c.into_iter-interval-iterator.ensures.into_iter_gives; none = tt };
 }
 

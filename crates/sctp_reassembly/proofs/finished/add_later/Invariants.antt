@@ -1,7 +1,7 @@
 use Rattle.std.specs.Map.{values_of}
 use Rattle.std.specs.List.{All}
 use Rattle.sctp_reassembly.proofs.FinishedLemmas.{AreSeen}
-use Rattle.sctp_reassembly.proofs.finished.later_keys.Given as goal
+use Rattle.sctp_reassembly.proofs.finished.add_later.Given as goal
 
 abbrev pub invariant-loop-interval : goal.invariant-loop-interval
 invariant-loop-interval g l = record {

@@ -1,0 +1,11 @@
+use Rattle.std.proofs.Common.{◌≡◌, ◌+◌, sum_by}
+use Rattle.std.specs.VecDeque.Iter.{deque_iter_rest}
+use Rattle.sctp_tx_queue.specs.SendQueue.{remaining_bytes}
+use Rattle.sctp_tx_queue.specs.Produced.{fresh}
+use Rattle.sctp_tx_queue.proofs.send_queue.messages.stale_amount.Given as goal
+
+abbrev pub invariant-loop-message : goal.invariant-loop-message
+invariant-loop-message l = record {
+  left : fresh l.now (deque_iter_rest l.message-iterator) ≡ fresh l.now l.messages.items;
+  bytes : l.bytes + sum_by remaining_bytes (deque_iter_rest l.message-iterator) ≡ sum_by remaining_bytes l.messages.items;
+}
