@@ -85,6 +85,7 @@ def test_texts():
     assert shelfpigeon.text(Text.ANSWER, Answer.QUEUE_FULL)
     assert all(shelfpigeon.text(Text.ANSWER, it) for it in Answer)
     assert all(shelfpigeon.text(Text.REFUSAL, it) for it in Refusal)
+    assert Answer(99) == 99 and Answer(99).name == "UNKNOWN_99" and Answer(99) not in list(Answer)
 
 
 def test_options():
