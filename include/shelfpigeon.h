@@ -77,7 +77,7 @@ enum {
     PIGEON_SHORT_BUFFER = 9,     /* the length needed is handed out, and what didn't fit stays; of pigeon_send_many: too few places for answers */
     PIGEON_EMPTY_PAYLOAD = 10,
     PIGEON_MESSAGE_TOO_LARGE = 11,
-    PIGEON_SHUTTING_DOWN = 12, /* a closed socket queues the message, and answers PIGEON_OK */
+    PIGEON_SHUTTING_DOWN = 12, /* pigeon_state says PIGEON_CLOSING; a closed socket queues the message, and answers PIGEON_OK */
     PIGEON_QUEUE_FULL = 13,
     PIGEON_NO_ASSOCIATION = 14,
     PIGEON_NOT_SUPPORTED = 15, /* the peer can't reset streams */
@@ -91,7 +91,7 @@ enum {
     PIGEON_NO_CHANNELS = 23,     /* the socket has no data channels: pigeon_channels_start */
     PIGEON_HAS_CHANNELS = 24,    /* the socket has data channels already */
     PIGEON_NO_CHANNEL = 25,      /* there is no channel on the stream */
-    PIGEON_CHANNEL_CLOSING = 26, /* the channel is being closed */
+    PIGEON_CHANNEL_CLOSING = 26, /* the channel is being closed, or its number isn't free behind that */
     PIGEON_STREAM_IN_USE = 27,   /* the stream has a channel, or isn't free yet */
     PIGEON_NO_FREE_STREAM = 28,  /* all streams that this end may open channels on are in use */
     PIGEON_TEXT_TOO_LONG = 29,   /* a label or a protocol has 65,536 bytes or more */
@@ -251,6 +251,12 @@ uint32_t pigeon_advance_time(pigeon_socket *socket, uint64_t nanos);
 /* By which moment the time is to be advanced next, in nanoseconds since the socket was made: the wait is this less now. UINT64_MAX: no timer runs
  * and nothing is owed. Ask last in a turn, and not a socket that answered PIGEON_MEMORY: no call moves its timers any more. */
 uint32_t pigeon_poll_timeout(const pigeon_socket *socket, uint64_t *nanos);
+/* How long to wait for such a moment, as poll and epoll_wait take it: milliseconds, rounded up, since a turn that comes too early finds nothing due;
+ * -1, until a packet comes, where it is UINT64_MAX. */
+static inline int pigeon_wait(uint64_t due, uint64_t now) {
+    uint64_t wait = due <= now ? 0 : (due - now - 1) / 1000000 + 1;
+    return due == UINT64_MAX ? -1 : wait < INT32_MAX ? (int)wait : INT32_MAX;
+}
 
 enum { PIGEON_CLOSED = 0, PIGEON_CONNECTING = 1, PIGEON_CONNECTED = 2, PIGEON_CLOSING = 3 };
 uint32_t pigeon_state(const pigeon_socket *socket, uint32_t *state);
@@ -614,6 +620,18 @@ uint32_t pigeon_channel_send(pigeon_socket *socket, uint32_t channel, uint32_t k
  * it. Where it is refused (by a peer without RFC 6525, or that denies it) the channel's number stays in use until the association ends.
  * Advance the time first. PIGEON_NO_CHANNEL. */
 uint32_t pigeon_channel_close(pigeon_socket *socket, uint32_t channel);
+
+/* What a channel is, in the words of W3C's RTCDataChannel.readyState. */
+enum {
+    PIGEON_CHANNEL_STATE_CLOSED = 0,     /* it was told as closed, or none was taken here, and its number isn't free yet */
+    PIGEON_CHANNEL_STATE_CONNECTING = 1, /* this end opens it, and PIGEON_CHANNEL_OPENED is to come. Messages are accepted */
+    PIGEON_CHANNEL_STATE_OPEN = 2,       /* both ends have it; one that was negotiated is so at once. Messages are accepted */
+    PIGEON_CHANNEL_STATE_CLOSING = 3     /* an end closes it, and PIGEON_CHANNEL_CLOSED is to come. No message is accepted */
+};
+
+/* Hands out the state of the channel that is on a stream now: events that wait may be behind it. PIGEON_NO_CHANNEL: there is none, it is closed and
+ * its number is free. */
+uint32_t pigeon_channel_state(const pigeon_socket *socket, uint32_t channel, uint32_t *state);
 
 /* Why something that came was not taken. */
 enum {

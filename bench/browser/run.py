@@ -65,7 +65,7 @@ async def run(bench: Bench, check, offerer: str) -> None:
 
 async def main() -> int:
     parser = argparse.ArgumentParser(prog="browser")
-    parser.add_argument("names", nargs="*", help=f"checks to run, of {' '.join(NAMES)} megabytes soak")
+    parser.add_argument("names", nargs="*", help=f"checks to run, of {' '.join(NAMES)} megabytes")
     parser.add_argument("--interleaving", action="store_true")
     parser.add_argument("--stack", choices=("ours", "aiortc"), default="ours")
     parser.add_argument("--offerer", choices=("browser", "ours"))

@@ -32,6 +32,15 @@ static void show_channel(const char *name, const pigeon_socket *end, uint32_t ch
            options.flags & PIGEON_UNORDERED ? "unordered" : "ordered");
 }
 
+/* Says how far a channel is. */
+static void show_state(const char *name, const pigeon_socket *end, uint32_t channel) {
+    static const char *const states[] = {"closed", "connecting", "open", "closing"};
+    uint32_t state = PIGEON_CHANNEL_STATE_CLOSED, answer = pigeon_channel_state(end, channel, &state);
+    if (answer != PIGEON_NO_CHANNEL) /* there is none any more */
+        must("state", answer);
+    printf("%s: channel %u, by its state: %s\n", name, (unsigned)channel, states[state]);
+}
+
 static void show_event(const char *name, const pigeon_socket *end, const pigeon_event *event, const uint8_t *bytes) {
     unsigned stream = event->stream;
     switch (event->kind) {
@@ -101,7 +110,9 @@ int main(void) {
     settle(&a, &b, &now);
     must("open", pigeon_channel_open(&a, &plainly, "chat", "", &chat));
     must("send", pigeon_channel_send(&a, chat, PIGEON_CHANNEL_TEXT, (const uint8_t *)"hello", 5)); /* at once: it goes behind the opening */
+    show_state("a", &a, chat);
     settle(&a, &b, &now);
+    show_state("a", &a, chat);
     must("open", pigeon_channel_open(&b, &loosely, "game", "moves", &game));
     settle(&a, &b, &now);
     must("send", pigeon_channel_send(&b, game, PIGEON_CHANNEL_BINARY, (const uint8_t *)"\1\2\3", 3));
@@ -110,7 +121,9 @@ int main(void) {
     must("statistics", pigeon_channel_get_statistics(&a, chat, &statistics));
     printf("a: channel %u: %u sent, %u received\n", (unsigned)chat, (unsigned)statistics.messages_sent, (unsigned)statistics.messages_received);
     must("close", pigeon_channel_close(&a, chat));
+    show_state("a", &a, chat);
     settle(&a, &b, &now);
+    show_state("a", &a, chat);
     must("open", pigeon_channel_open(&a, &plainly, "more", "", &chat));
     settle(&a, &b, &now);
     if (pigeon_channel_send(&a, 9, PIGEON_CHANNEL_TEXT, (const uint8_t *)"?", 1) != PIGEON_NO_CHANNEL)

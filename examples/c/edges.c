@@ -69,7 +69,15 @@ static void without_a_socket(void) {
     is("borrow_message", pigeon_borrow_message(&none, &message, &lent), PIGEON_NO_SOCKET);
     is("poll_event", pigeon_poll_event(&none, &event, PIGEON_EMPTY, 0), PIGEON_NO_SOCKET);
     is("borrow_event", pigeon_borrow_event(&none, &event, &lent), PIGEON_NO_SOCKET);
+    is("channel_state", pigeon_channel_state(&none, 1, &state), PIGEON_NO_SOCKET);
     pigeon_free(&none);
+}
+
+static void waits(void) {
+    is("due", pigeon_wait(5, 5) == 0 && pigeon_wait(5, 6) == 0, 1);
+    is("rounded up", pigeon_wait(6, 5) == 1 && pigeon_wait(1000005, 5) == 1 && pigeon_wait(1000006, 5) == 2, 1);
+    is("long", pigeon_wait(UINT64_MAX - 1, 0) == INT32_MAX, 1);
+    is("for ever", pigeon_wait(UINT64_MAX, 5) == -1, 1);
 }
 
 static void texts(void) {
@@ -524,6 +532,7 @@ int main(void) {
     is("local_port", options.local_port, 5000);
     is("min_rtt_variance", options.min_rtt_variance, 220000000);
     texts();
+    waits();
     sizes(options);
     without_a_socket();
     not_made(options);
@@ -537,6 +546,8 @@ int main(void) {
     is("metrics", pigeon_get_metrics(&a, &metrics), PIGEON_NOTHING);
     is("resets", pigeon_reset_streams(&a, streams, 1), PIGEON_NO_ASSOCIATION);
     is("stream", pigeon_reset_stream(&a, 65536), PIGEON_INVALID_STREAM);
+    is("no channels", pigeon_channel_state(&a, 1, &state), PIGEON_NO_CHANNELS);
+    is("channel", pigeon_channel_state(&a, 65536, &state), PIGEON_INVALID_STREAM);
     is("send flags", pigeon_send(&a, 1, 1, text, 1, &odd), PIGEON_INVALID_ARGUMENT);
     lends(&options);
     asks(&options);

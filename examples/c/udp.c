@@ -55,13 +55,6 @@ static int take_all(pigeon_socket *end, int wire, const struct sockaddr_in *peer
     return goes_on;
 }
 
-/* How long nothing is to be done, in milliseconds rounded up: a turn that comes too early finds nothing due. */
-static int milliseconds_until(uint64_t due, uint64_t now) {
-    const uint64_t most = 3600000;
-    uint64_t wait = due <= now ? 0 : (due - now - 1) / 1000000 + 1;
-    return (int)(wait < most ? wait : most);
-}
-
 /* Shuts the association down where nothing is queued and all has arrived, since a shutdown waits for what is in flight alone. Answers
  * whether the association goes on. */
 static int shut_down(pigeon_socket *end) {
@@ -106,7 +99,7 @@ int main(int count, char **words) {
         pigeon_poll_timeout(&end, &due);
         pigeon_send_queue_room(&end, &room);
         struct pollfd ready[2] = {{wire, POLLIN, 0}, {reads && room >= sizeof bytes ? STDIN_FILENO : -1, POLLIN, 0}};
-        int count_ready = goes_on ? poll(ready, 2, milliseconds_until(due, nanos() - start)) : 0;
+        int count_ready = goes_on ? poll(ready, 2, pigeon_wait(due, nanos() - start)) : 0;
         if (pigeon_advance_time(&end, nanos() - start) != PIGEON_OK) /* first: the calls below go by it */
             break;
         if (count_ready > 0) {

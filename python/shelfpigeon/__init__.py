@@ -11,6 +11,7 @@ from .declarations import Metrics, Statistics, library, text
 from .names import (
     Answer,
     Cause,
+    ChannelState,
     Checksum,
     ErrorKind,
     InvalidArgument,
@@ -44,7 +45,7 @@ def use_for(aiortc, **settings) -> None:
 
 
 __all__ = [
-    "Answer", "Cause", "Channel", "Channels", "Checksum", "ErrorKind", "GivenUp", "InvalidArgument", "Kind", "Message", "MessageTooLarge",
-    "Metrics", "NoChannel", "NoRoom", "OptionFlags", "Options", "Peer", "PigeonError", "QueueFull", "Readiness", "Refusal", "Role", "Socket",
-    "SocketFailed", "State", "Statistics", "Text", "ZeroChecksum", "aio", "describe_packet", "events", "library", "text", "use_for",
+    "Answer", "Cause", "Channel", "ChannelState", "Channels", "Checksum", "ErrorKind", "GivenUp", "InvalidArgument", "Kind", "Message",
+    "MessageTooLarge", "Metrics", "NoChannel", "NoRoom", "OptionFlags", "Options", "Peer", "PigeonError", "QueueFull", "Readiness", "Refusal", "Role",
+    "Socket", "SocketFailed", "State", "Statistics", "Text", "ZeroChecksum", "aio", "describe_packet", "events", "library", "text", "use_for",
 ]  # fmt: skip

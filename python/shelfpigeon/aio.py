@@ -513,7 +513,7 @@ class Connection:
             self._wire.pause_reading()
 
     def _turned(self) -> None:
-        """Where messages were given up no event says that there is room again."""
+        """Where messages were given up there may be room again of which no event says so."""
         for channel in next_in_turn(self._held_back):
             if channel.buffered_amount <= self.high_water // 2:
                 channel._room.set()

@@ -9,7 +9,7 @@ from typing import Optional, Union
 
 from .events import ChannelBufferedAmountLow, ChannelClosed, ChannelMessage, ChannelOpened, ChannelRefused, ChannelsEvent
 from .declarations import ChannelOptionsStruct, ChannelsOptionsStruct, OptionsStruct, Statistics, bytes_of, check
-from .names import Answer, Kind, NoChannel, Refusal, Role, SendFlags, Text
+from .names import Answer, ChannelState, Kind, NoChannel, Refusal, Role, SendFlags, Text
 from .declarations import text as text_of
 from .sockets import End
 
@@ -40,6 +40,16 @@ class Channel:
     @property
     def is_closed(self) -> bool:
         return self._channels._channels.get(self.id) is not self
+
+    @property
+    def state(self) -> ChannelState:
+        """CONNECTING until its opener is told that the peer has it, CLOSING from the close of either end on. Events that wait may be behind it."""
+        end, state = self._channels, c_uint32(ChannelState.CLOSED)
+        if not self.is_closed:
+            answer = end._library.pigeon_channel_state(end._at, self.id, byref(state))
+            if answer != Answer.NO_CHANNEL:
+                check(answer)
+        return ChannelState(state.value)
 
     def _open(self) -> Channels:
         if self.is_closed:

@@ -273,6 +273,7 @@ FUNCTIONS: dict[str, list] = {
     "pigeon_channel_negotiate_sized": [END, c_uint32, STRUCT, c_size_t, BYTES, c_size_t, BYTES, c_size_t],
     "pigeon_channel_send": [END, c_uint32, c_uint32, BYTES, c_size_t],
     "pigeon_channel_close": [END, c_uint32],
+    "pigeon_channel_state": [END, c_uint32, U32],
     "pigeon_channels_handle_input": [END, BYTES, c_size_t],
     "pigeon_channels_borrow_event_sized": [END, STRUCT, c_size_t, LENT],
     "pigeon_channel_get_options_sized": [END, c_uint32, STRUCT, c_size_t],

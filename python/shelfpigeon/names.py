@@ -99,6 +99,15 @@ class State(Told):
     CLOSING = 3
 
 
+class ChannelState(Told):
+    """What a channel is, in the words of W3C's `RTCDataChannel.readyState`."""
+
+    CLOSED = 0
+    CONNECTING = 1
+    OPEN = 2
+    CLOSING = 3
+
+
 class Peer(Told):
     """Whose implementation the peer is, as far as its cookie tells."""
 

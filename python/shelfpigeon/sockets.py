@@ -155,7 +155,7 @@ class End:
         check(self._library.pigeon_shutdown(self._at))
 
     def close(self) -> None:
-        """Ends the association at once, with an ABORT to the peer."""
+        """Ends the association at once, with an ABORT to the peer unless its INIT ACK is still waited for."""
         check(self._library.pigeon_close(self._at))
 
     @property
@@ -196,7 +196,7 @@ class End:
         return self._read(self._library.pigeon_buffered_amount_low_threshold, c_size_t, stream)
 
     def set_buffered_amount_low_threshold(self, stream: int, size: int) -> None:
-        """Sets at which amount an event says that more may be sent. None says it where messages are given up."""
+        """Sets at which amount an event says that more may be sent. Where messages are given up it may not come."""
         self._call(self._library.pigeon_set_buffered_amount_low_threshold, stream, size)
 
     @property

@@ -86,6 +86,7 @@ PREFIXES = {
     "Text": "TEXT_",
     "Checksum": "CHECKSUM_",
     "ZeroChecksum": "ZERO_CHECKSUM_",
+    "ChannelState": "CHANNEL_STATE_",
     "Peer": "PEER_",
     "Cause": "CAUSE_",
     "ErrorKind": "ERROR_",

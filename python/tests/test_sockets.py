@@ -8,6 +8,7 @@ import shelfpigeon
 from shelfpigeon import events
 from shelfpigeon import (
     Answer,
+    ChannelState,
     Channels,
     InvalidArgument,
     MessageTooLarge,
@@ -296,6 +297,20 @@ def test_channels_of_both_ends(channels):
         chat.send("to the one of the same number")
     with pytest.raises(NoChannel):
         theirs.close()
+
+
+def test_states_of_channels(channels):
+    a, b = channels.ends
+    chat, agreed = a.open("chat"), a.negotiate(8)
+    assert (chat.state, agreed.state) == (ChannelState.CONNECTING, ChannelState.OPEN)
+    channels.settle()
+    (theirs,) = b
+    assert (chat.state, theirs.state) == (ChannelState.OPEN, ChannelState.OPEN)
+    chat.close()
+    assert (chat.state, theirs.state) == (ChannelState.CLOSING, ChannelState.OPEN)
+    channels.settle()
+    assert (chat.state, theirs.state) == (ChannelState.CLOSED, ChannelState.CLOSED)
+    assert (list(a), agreed.state) == ([agreed], ChannelState.OPEN)
 
 
 def test_channels_that_are_agreed_on(channels):

@@ -4,7 +4,7 @@ use Rattle.std.specs.List.{list_all}
 use Rattle.std.proofs.lemmas.Bool.{and_parts, and_from}
 use Rattle.std.proofs.lemmas.List.Folds.{list_all-append}
 use Rattle.sctp_wire.specs.Parameter.{ParameterTree, reset_response}
-use Rattle.sctp_packet.specs.Chunk.{ChunkTree, FragmentTree, re_config_chunk, cookie_echo_chunk, cookie_ack_chunk}
+use Rattle.sctp_packet.specs.Chunk.{ChunkTree, FragmentTree, re_config_chunk, cookie_echo_chunk, cookie_ack_chunk, fragment_chunk}
 use Rattle.sctp_state.specs.Events.{Event, SendPacket, OnConnected, OnConnectionRestarted, OnError, OnClosed, OnStreamsResetPerformed, OnStreamsResetFailed, Emitted}
 use Rattle.sctp_tx.specs.RetransmissionQueue.{Sender}
 use Rattle.sctp_tx.specs.Resent.{resent_fast}
@@ -15,10 +15,9 @@ use Rattle.spec_endpoint.specs.Packets.{PacketDraft, header_to, fits, added_if, 
 use Rattle.spec_endpoint.specs.ResetRequests.{Outcome, Unsettled, Done, Denied, outcome, request_chunk}
 use Rattle.spec_endpoint.specs.Shutdown.{ended, over}
 use Rattle.spec_endpoint.specs.StreamReset.{on_outcome}
-use Rattle.spec_endpoint.specs.Sending.{selective_ack, data_chunk_of, data_chunks, fast_most, asks_at_once}
+use Rattle.spec_endpoint.specs.Sending.{selective_ack, data_chunks, fast_most, asks_at_once}
 use Rattle.spec_endpoint.specs.Laws.{Call, called, ending}
-use Rattle.proof_endpoint.specs.Mapped.{Carried}
-use Rattle.proof_endpoint.specs.ReadBack.{as_carried}
+use Rattle.proof_endpoint.specs.Mapped.{Carried, as_carried}
 use Rattle.proof_endpoint.specs.Acts.{EndWithPacket, is_plain, is_response, fragments_of, PacketAct, begins, adds_plain, emits, emits_error, counts, before_packets, after_packets, OpeningAct, connects, adds_init, answers_new, answers_waiting, answers_echoed, answers_again, echoes, adds_cookie, establishes, opens, restarts, opens_again, maintains, adds_cookie_ack, before_opening, after_opening, ClosingAct, closes, shuts, shuts_on, before_closing, after_closing, DataAct, takes_data, takes_idata, takes_forward, takes_iforward, before_data, after_data, SackAct, takes_sack, samples, counts_errors, before_sack, after_sack, SendingAct, asks, forces_ack, adds_ack, expires, adds_forward, forwards_later, asks_no_reset, asks_reset, adds_request, sends, sends_fast, before_sending, after_sending, TimeAct, advances, delay_ends, times_out, beats, times_init, times_cookie, times_request, times_items, wakes_request, before_time, after_time, CallAct, accepts, refuses, takes_message, sets_low_threshold, sets_priority, sets_max_message_size, before_call, after_call, ResetAct, prepares, defers, performs, processes, takes_response, adds_responses, before_reset, after_reset, HandoverAct, leaves, takes_up, before_handover, after_handover, InputAct, ends_packet, before_input, after_input, Preserves}
 use Rattle.proof_endpoint.proofs.ActsLemmas.{keeps_call}
 use Rattle.proof_pair.proofs.EmittedLemmas.{is_no_packet_or_status, EmitsNoPacketOrStatus}
@@ -36,7 +35,7 @@ forward_asks : (b : Bool) (s : Sender) → chunk_asks_once (chunk_if b s) ≡ tr
 forward_asks true s = refl
 forward_asks false s = refl
 
-data_asks : (is_interleaved is_immediate : Bool) (cs : List (ℕ × FragmentTree)) → all_ask_once (map (data_chunk_of is_interleaved is_immediate) cs) ≡ true
+data_asks : (is_interleaved is_immediate : Bool) (cs : List (ℕ × FragmentTree)) → all_ask_once (map (fragment_chunk is_interleaved is_immediate) cs) ≡ true
 data_asks is_interleaved is_immediate [] = refl
 data_asks true is_immediate (c ∷ cs) = data_asks true is_immediate cs
 data_asks false is_immediate (c ∷ cs) = data_asks false is_immediate cs

@@ -23,9 +23,9 @@ use Rattle.spec_endpoint.specs.Heartbeats.{counted_on, heartbeat_chunk, send_hea
 use Rattle.spec_endpoint.specs.ResetRequests.{Requests, Outcome, Unsettled, Done, Denied, outcome, in_progress, performed, nothing_to_do, is_last_request, is_next_request, is_known_request, is_final, lasting, expire_reconfig_timer, clear_deferral, is_unanswered}
 use Rattle.spec_endpoint.specs.Sending.{AfterSending, is_before_cookie_ack, add_request, send_cookie, send_in}
 use Rattle.spec_endpoint.specs.Shutdown.{send_shutdown, send_shutdown_ack, too_many}
-use Rattle.spec_endpoint.specs.StreamReset.{Handling, handling, process, is_ahead, resets_if, outgoing_by, incoming_if, on_outcome, is_outgoing, on_parameter, HandledParameters, handle_next, handle_all, send_responses, finish_reconfig_if, on_reconfig, prepare_reset_stream, prepare_all, reset_if, reset_refusal}
-use Rattle.spec_endpoint.specs.Timers.{Ticking, tick_ack, t3_if, tick_t3, tick_interval, tick_timeout, request_again, errs_if, requests_if, ticking, tick_timers, TimerOutcome, after_timers, abort_if, abort_or_send_if, after_ticks_if, after_ticks, t2_expired, t2_if, waits_if, t1_expired, t1_if, after_init_timer, init_expired, init_if, tick_open, tick_in, advance_unless, advance, is_owed}
-use Rattle.spec_endpoint.specs.Calls.{shown_state, send_refusal, send_refusal_of, offered, offer, offer_all, sent_if, send, send_many, take_message, told_if, opens_window, without_first_message}
+use Rattle.spec_endpoint.specs.StreamReset.{Handling, handling, process, is_ahead, resets_unless, outgoing_by, incoming_if, on_outcome, is_outgoing, on_parameter, HandledParameters, handle_next, handle_all, send_responses, finish_reconfig_if, on_reconfig, prepare_reset_stream, prepare_all, streams_reset_unless, reset_refusal}
+use Rattle.spec_endpoint.specs.Timers.{Ticking, tick_ack, t3_if, tick_t3, tick_interval, tick_timeout, request_again, errs_if, requests_if, ticking, tick_timers, TimerOutcome, after_timers, abort_if, abort_or_send_if, after_ticks_if, after_ticks, t2_expired, t2_if, waits_unless, t1_expired, t1_if, after_init_timer, init_expired, init_if, tick_open, tick_in, advance_unless, advance, is_owed}
+use Rattle.spec_endpoint.specs.Calls.{shown_state, send_refusal, send_refusal_of, offered, offer, offer_all, sent_unless, send, send_many, take_message, told_if, opens_window, without_first_message}
 use Rattle.proof_awake.specs.Awake.{Runs}
 use Rattle.proof_awake.specs.Invariant.{BlockHolds, Beats, ContextHolds, is_established, waits, PhaseRuns, StateHolds}
 use Rattle.proof_awake.proofs.TimerLemmas.{expire_restarts, beats_after}
@@ -62,7 +62,7 @@ module _ {P : Type 0} (avoids : Bool) where
     processed : (number result : ℕ) (x : Handling P) → Handled x → Handled (process number result x)
     processed number result x h = (h.0, with_requests waits x.tcb _ (last_set number result x.tcb.requests h.1.requests) h.1)
 
-    resets_by : (b : Bool) (number last_tsn : ℕ) (streams : List StreamId) (x : Handling P) → Handled x → Handled (resets_if b number last_tsn streams x)
+    resets_by : (b : Bool) (number last_tsn : ℕ) (streams : List StreamId) (x : Handling P) → Handled x → Handled (resets_unless b number last_tsn streams x)
     resets_by true number last_tsn streams x h =
         let t : Tcb = record x.tcb { reassembly = defer last_tsn streams x.tcb.reassembly } in
         processed number in_progress (record x { tcb = t }) (h.0, with_reassembly waits x.tcb t.reassembly h.1)
@@ -127,12 +127,12 @@ module _ {P : Type 0} (avoids : Bool) where
   prepared [] s c h = h
   prepared (id ∷ ids) s c h = prepared ids s (prepare_reset_stream id c) h
 
-  reset_if_holds : (o : Option ResetStreamsError) (ids : List ℕ) (s : EndpointState P) → EndHolds avoids s → EndHolds avoids (reset_if o ids s)
-  reset_if_holds None ids s h = where_open_holds avoids send_in (send_in_holds avoids) s.state (prepare_all ids s.context) (prepared ids s.state s.context h)
-  reset_if_holds (Some e) ids s h = h
+  streams_reset_unless_holds : (o : Option ResetStreamsError) (ids : List ℕ) (s : EndpointState P) → EndHolds avoids s → EndHolds avoids (streams_reset_unless o ids s)
+  streams_reset_unless_holds None ids s h = where_open_holds avoids send_in (send_in_holds avoids) s.state (prepare_all ids s.context) (prepared ids s.state s.context h)
+  streams_reset_unless_holds (Some e) ids s h = h
 
-  pub reset_streams_holds : (ids : List ℕ) (s : EndpointState P) → EndHolds avoids s → EndHolds avoids (reset_if (reset_refusal s.state) ids s)
-  reset_streams_holds ids s h = reset_if_holds (reset_refusal s.state) ids s h
+  pub reset_streams_holds : (ids : List ℕ) (s : EndpointState P) → EndHolds avoids s → EndHolds avoids (streams_reset_unless (reset_refusal s.state) ids s)
+  reset_streams_holds ids s h = streams_reset_unless_holds (reset_refusal s.state) ids s h
 
   -- ---- messages
 
@@ -141,14 +141,14 @@ module _ {P : Type 0} (avoids : Bool) where
   offered_holds None m o s c h = h
   offered_holds (Some e) m o s c h = h
 
-  sent_if_holds : (r : Option SendError) (s : State) (c : Context P) → StateHolds avoids s c.options c.heartbeats → EndHolds avoids (sent_if r (record { state = s; context = c }))
-  sent_if_holds None s c h = where_open_holds avoids send_in (send_in_holds avoids) s c h
-  sent_if_holds (Some e) s c h = h
+  sent_unless_holds : (r : Option SendError) (s : State) (c : Context P) → StateHolds avoids s c.options c.heartbeats → EndHolds avoids (sent_unless r (record { state = s; context = c }))
+  sent_unless_holds None s c h = where_open_holds avoids send_in (send_in_holds avoids) s c h
+  sent_unless_holds (Some e) s c h = h
 
   pub send_call_holds : (m : Message) (o : SendOptions) (s : EndpointState P) → EndHolds avoids s → EndHolds avoids (send m o s)
   send_call_holds m o s h =
       let shown : SocketState = shown_state s.state in
-      sent_if_holds (send_refusal_of m s) s.state (offer m o shown s.context) (offered_holds (send_refusal m shown s.context) m o s.state s.context h)
+      sent_unless_holds (send_refusal_of m s) s.state (offer m o shown s.context) (offered_holds (send_refusal m shown s.context) m o s.state s.context h)
 
   offers_hold : (ms : List Message) (o : SendOptions) (shown : SocketState) (s : State) (c : Context P) → StateHolds avoids s c.options c.heartbeats
       → StateHolds avoids s (offer_all ms o shown c).options (offer_all ms o shown c).heartbeats
@@ -266,7 +266,7 @@ module _ {P : Type 0} (avoids : Bool) where
   -- ---- T1-cookie
 
   module _ (new : Timer) (cookie : List ℕ) where
-    waited : (b : Bool) (t : Tcb) (c : Context P) → Runs new → Holds avoids false false t c → Leads (CookieEchoed new cookie) (waits_if b t c)
+    waited : (b : Bool) (t : Tcb) (c : Context P) → Runs new → Holds avoids false false t c → Leads (CookieEchoed new cookie) (waits_unless b t c)
     waited true t c r h = ended_if (CookieEchoed new cookie) r (is_exhausted c.errors) t c h
     waited false t c r h = (h.0, (r, h.1))
 

@@ -19,9 +19,9 @@ use Rattle.spec_endpoint.specs.StreamReset.{on_reconfig}
 use Rattle.spec_endpoint.specs.Opening.{on_cookie_ack}
 use Rattle.spec_endpoint.specs.Calls.{set_max_message_size}
 use Rattle.spec_endpoint.specs.Handover.{left_in, left_if, readiness}
-use Rattle.spec_endpoint.specs.Input.{packet_refusal, report_unrecognized_in, on_unknown_if, emit_unknown_chunk_error, is_reported, on_heartbeat, on_chunk, AfterChunk, violation, received_if, receive, receive_rest, receive_all, has_data_chunk, repeats, repeats_if, in_endpoint_state, ack_if_due, at_end, on_packet_end, count_packet_at, packet_if, on_packet, packet_acked, shut_waiting, shut_if}
+use Rattle.spec_endpoint.specs.Input.{packet_refusal, report_unrecognized_in, on_unknown_if, emit_unknown_chunk_error, is_reported, on_heartbeat, on_chunk, AfterChunk, violation, received_unless, receive, receive_rest, receive_all, has_data_chunk, repeats, repeats_if, in_endpoint_state, ack_if_due, at_end, on_packet_end, count_packet_at, packet_unless, on_packet, packet_acked, shut_waiting, shut_if}
 use Rattle.spec_endpoint.specs.Laws.{Call, Connect, Close, Shutdown, Send, SendMany, ResetStreams, TakeMessage, SetLowThreshold, SetPriority, SetMaxMessageSize, Advance, HandOver, Restore, ReceivePacket, ReceiveNoPacket, called}
-use Rattle.proof_awake.specs.Awake.{is_restore}
+use Rattle.proof_endpoint.specs.Lifecycles.{is_restore}
 use Rattle.proof_awake.specs.Invariant.{HasLimits, BlockHolds, ContextHolds, is_established, waits, StateHolds, IsTimed}
 use Rattle.proof_awake.proofs.BlockLemmas.{taken_holds, ended_holds, with_tracker}
 use Rattle.proof_awake.proofs.SendingRowLemmas.{Beside, chunk_goes_out, sends_with}
@@ -97,7 +97,7 @@ module _ {P : Type 0} (avoids : Bool) where
   chunk_holds tag (shutdown_complete_chunk reflected) s h = opened on_shutdown_complete (on_complete_holds avoids) s h
   chunk_holds tag (re_config_chunk parameters) s h = opened (on_reconfig parameters) (reconfig_holds avoids parameters) s h
 
-  pub received_holds : (o : Option (List ℕ)) (tag : ℕ) (chunk : ChunkTree) (s : Endpoint P) → Whole avoids s → Whole avoids (received_if o tag chunk s).end
+  pub received_holds : (o : Option (List ℕ)) (tag : ℕ) (chunk : ChunkTree) (s : Endpoint P) → Whole avoids s → Whole avoids (received_unless o tag chunk s).end
   received_holds None tag chunk s h = chunk_holds tag chunk s h
   received_holds (Some reason) tag chunk s h =
       opened (λ phase t c. abort_for_violation reason t c)
@@ -152,7 +152,7 @@ module _ {P : Type 0} (avoids : Bool) where
   end_holds : (phase : Phase) (t : Tcb) (c : Context P) → Going avoids phase t c → EndHolds avoids (on_packet_end phase t c)
   end_holds phase t c h = shut_if_holds c.options.avoid_stalls (packet_acked phase t c) (acked_holds phase t c h)
 
-  packet_by : (o : Option (List ℕ)) (tag : ℕ) (chunks : List ChunkTree) (s : Endpoint P) → Whole avoids s → Whole avoids (packet_if o tag chunks s)
+  packet_by : (o : Option (List ℕ)) (tag : ℕ) (chunks : List ChunkTree) (s : Endpoint P) → Whole avoids s → Whole avoids (packet_unless o tag chunks s)
   packet_by None tag chunks s h =
       let x : Endpoint P = in_endpoint_state (repeats_if (has_data_chunk chunks)) s in
       opened on_packet_end end_holds (receive_all tag chunks x) (all_hold tag chunks x (repeats_if_hold (has_data_chunk chunks) s h))

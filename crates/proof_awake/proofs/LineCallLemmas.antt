@@ -9,7 +9,7 @@ use Rattle.spec_endpoint.specs.Association.{Tcb, Phase, CookieEchoed, Establishe
 use Rattle.spec_endpoint.specs.Packets.{round_down_to_4, new_packet}
 use Rattle.spec_endpoint.specs.Sending.{send_in}
 use Rattle.spec_endpoint.specs.Calls.{shown_state, send_refusal, offered, offer, offer_all}
-use Rattle.spec_endpoint.specs.StreamReset.{prepare_reset_stream, prepare_all, reset_if, reset_refusal}
+use Rattle.spec_endpoint.specs.StreamReset.{prepare_reset_stream, prepare_all, streams_reset_unless, reset_refusal}
 use Rattle.proof_awake.specs.Invariant.{StateHolds}
 use Rattle.proof_awake.specs.Line.{HasNoLine, SendingCallsLeaveNoLine}
 use Rattle.proof_awake.proofs.LineLemmas.{none_in_line}
@@ -61,7 +61,7 @@ module _ {P : Type 0} (avoids : Bool) where
       (subst (λ (o : Options). StateHolds avoids s o d.heartbeats) (sym e.options_are) (subst (λ (x : _). StateHolds avoids s c.options x) (sym e.heartbeats_are) h))
 
   reset_sends : (o : Option ResetStreamsError) (ids : List ℕ) (s : EndpointState P) → o ≡ None → 2 ≤ s.context.options.max_burst → StateHolds avoids s.state s.context.options s.context.heartbeats
-      → HasNoLine (reset_if o ids s)
+      → HasNoLine (streams_reset_unless o ids s)
   reset_sends None ids s e b h = sends_then s.state s.context (prepare_all ids s.context) (prepared_same ids s.context) b h
   reset_sends (Some fault) ids s e b h = absurd (cc)
 

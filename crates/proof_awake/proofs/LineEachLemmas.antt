@@ -7,7 +7,7 @@ use Rattle.sctp_wire.specs.Parameter.{ParameterTree, outgoing_reset_request, inc
 use Rattle.sctp_packet.specs.Chunk.{re_config_chunk}
 use Rattle.spec_endpoint.specs.Association.{Tcb, Phase, Open, Context}
 use Rattle.spec_endpoint.specs.ResetRequests.{Outcome, Unsettled, Done, Denied, outcome, is_last_request, is_next_request, is_known_request, is_final}
-use Rattle.spec_endpoint.specs.StreamReset.{Handling, handling, is_ahead, resets_if, outgoing_by, incoming_if, on_outcome, is_outgoing, on_parameter, HandledParameters, handle_next, handle_all, send_responses, finish_reconfig_if, on_reconfig}
+use Rattle.spec_endpoint.specs.StreamReset.{Handling, handling, is_ahead, resets_unless, outgoing_by, incoming_if, on_outcome, is_outgoing, on_parameter, HandledParameters, handle_next, handle_all, send_responses, finish_reconfig_if, on_reconfig}
 use Rattle.proof_awake.specs.Invariant.{is_established, waits}
 use Rattle.proof_awake.specs.Line.{asks_once}
 use Rattle.proof_awake.proofs.CallRowLemmas.{handles_all, responses_go}
@@ -17,7 +17,7 @@ use Rattle.proof_awake.proofs.LineRowLemmas.{Big, Lined, EndLined, big_chunk, bu
 module _ {P : Type 0} (avoids : Bool) where
   -- ---- RE-CONFIG
 
-  big_resets : (b : Bool) (number last_tsn : ℕ) (streams : List StreamId) (x : Handling P) → Big avoids x.context → Big avoids (resets_if b number last_tsn streams x).context
+  big_resets : (b : Bool) (number last_tsn : ℕ) (streams : List StreamId) (x : Handling P) → Big avoids x.context → Big avoids (resets_unless b number last_tsn streams x).context
   big_resets true number last_tsn streams x h = h
   big_resets false number last_tsn streams x h = h
 

@@ -17,8 +17,8 @@ use Rattle.spec_endpoint.specs.Packets.{PacketDraft, add, new_packet, round_down
 use Rattle.spec_endpoint.specs.Heartbeats.{on_heartbeat_info, ack_by_length, clear_if_last, is_last_info, info_in}
 use Rattle.spec_endpoint.specs.Sending.{is_before_cookie_ack, selective_ack, take_due_ack, without_duplicates, send_unless, send_in}
 use Rattle.spec_endpoint.specs.Shutdown.{on_shutdown, on_shutdown_complete, abort_for_violation, refused_if, aborted_in, causes_text, on_error}
-use Rattle.spec_endpoint.specs.StreamReset.{on_reconfig, prepare_all, reset_if, reset_refusal}
-use Rattle.proof_awake.specs.Awake.{is_restore}
+use Rattle.spec_endpoint.specs.StreamReset.{on_reconfig, prepare_all, streams_reset_unless, reset_refusal}
+use Rattle.proof_endpoint.specs.Lifecycles.{is_restore}
 use Rattle.proof_awake.specs.Invariant.{waits}
 use Rattle.proof_awake.specs.Invariant.{BlockHolds}
 use Rattle.sctp_tx_outstanding.specs.Item.{Item}
@@ -26,11 +26,11 @@ use Rattle.sctp_stream_scheduler.specs.StreamScheduler.{Scheduler}
 use Rattle.sctp_tx_queue.specs.SendQueue.{Queue}
 use Rattle.proof_awake.specs.Line.{PhaseHasNoLine, StateHasNoLine, HasNoLine, chunk_asks_once, all_ask_once, call_asks_once, EachCallKeepsLined, NewEndsAreLined}
 use Rattle.spec_endpoint.specs.Laws.{Call, Connect, Close, Shutdown, Send, SendMany, ResetStreams, TakeMessage, SetLowThreshold, SetPriority, SetMaxMessageSize, Advance, HandOver, Restore, ReceivePacket, ReceiveNoPacket, called}
-use Rattle.spec_endpoint.specs.Calls.{set_low_threshold, set_priority, shown_state, send_refusal_of, offered, sent_if, offer_all, take_message, told_if, opens_window, without_first_message}
+use Rattle.spec_endpoint.specs.Calls.{set_low_threshold, set_priority, shown_state, send_refusal_of, offered, sent_unless, offer_all, take_message, told_if, opens_window, without_first_message}
 use Rattle.spec_endpoint.specs.Handover.{left_in, left_if, readiness}
 use Rattle.spec_endpoint.specs.Opening.{on_cookie_ack}
 use Rattle.sctp_rx.specs.DataTracker.{packet_end, take_ack}
-use Rattle.spec_endpoint.specs.Input.{packet_refusal, report_unrecognized_in, on_unknown_if, emit_unknown_chunk_error, is_reported, on_heartbeat, on_chunk, AfterChunk, violation, received_if, receive, receive_rest, receive_all, has_data_chunk, repeats, repeats_if, in_endpoint_state, ack_if_due, at_end, on_packet_end, count_packet_at, packet_if, packet_acked, shut_waiting, shut_if}
+use Rattle.spec_endpoint.specs.Input.{packet_refusal, report_unrecognized_in, on_unknown_if, emit_unknown_chunk_error, is_reported, on_heartbeat, on_chunk, AfterChunk, violation, received_unless, receive, receive_rest, receive_all, has_data_chunk, repeats, repeats_if, in_endpoint_state, ack_if_due, at_end, on_packet_end, count_packet_at, packet_unless, packet_acked, shut_waiting, shut_if}
 use Rattle.proof_awake.proofs.BlockLemmas.{ended_holds, taken_holds, with_tracker}
 use Rattle.proof_awake.proofs.OpeningRowLemmas.{Whole}
 use Rattle.proof_awake.proofs.InputRowLemmas.{received_holds, repeats_if_hold, all_hold, each_stays_timed}
@@ -110,7 +110,7 @@ module _ {P : Type 0} (avoids : Bool) where
   chunk_is_lined tag (shutdown_complete_chunk reflected) s e h l = open_lined avoids on_shutdown_complete (on_complete_lined avoids) s.endpoint_state h l
   chunk_is_lined tag (re_config_chunk parameters) s e h l = open_lined avoids (on_reconfig parameters) (reconfig_lined avoids parameters e) s.endpoint_state h l
 
-  received_lined : (o : Option (List ℕ)) (tag : ℕ) (chunk : ChunkTree) (s : Endpoint P) → chunk_asks_once chunk ≡ true → Whole avoids s → EndLined avoids s.endpoint_state → EndLined avoids (received_if o tag chunk s).end.endpoint_state
+  received_lined : (o : Option (List ℕ)) (tag : ℕ) (chunk : ChunkTree) (s : Endpoint P) → chunk_asks_once chunk ≡ true → Whole avoids s → EndLined avoids s.endpoint_state → EndLined avoids (received_unless o tag chunk s).end.endpoint_state
   received_lined None tag chunk s e h l = chunk_is_lined tag chunk s e h l
   received_lined (Some reason) tag chunk s e h l =
       open_lined avoids (λ phase t c. abort_for_violation reason t c)
@@ -170,7 +170,7 @@ module _ {P : Type 0} (avoids : Bool) where
   end_lined : (phase : Phase) (t : Tcb) (c : Context P) → Going avoids phase t c → Lined avoids (Open phase t) c → EndLined avoids (on_packet_end phase t c)
   end_lined phase t c h l = shut_if_lined c.options.avoid_stalls (packet_acked phase t c) (acked_lined phase t c h l)
 
-  packet_by_lined : (o : Option (List ℕ)) (tag : ℕ) (chunks : List ChunkTree) (s : Endpoint P) → all_ask_once chunks ≡ true → Whole avoids s → EndLined avoids s.endpoint_state → EndLined avoids (packet_if o tag chunks s).endpoint_state
+  packet_by_lined : (o : Option (List ℕ)) (tag : ℕ) (chunks : List ChunkTree) (s : Endpoint P) → all_ask_once chunks ≡ true → Whole avoids s → EndLined avoids s.endpoint_state → EndLined avoids (packet_unless o tag chunks s).endpoint_state
   packet_by_lined None tag chunks s e h l =
       let x : Endpoint P = in_endpoint_state (repeats_if (has_data_chunk chunks)) s in
       let hx = repeats_if_hold avoids (has_data_chunk chunks) s h in
@@ -182,7 +182,7 @@ module _ {P : Type 0} (avoids : Bool) where
   pub refused_lined : (p : PacketTree) (text : List ℕ) (s : Endpoint P) → packet_refusal p.header.verification_tag p.chunks s.endpoint_state.state ≡ Some text → EndLined avoids s.endpoint_state
       → EndLined avoids (called (ReceivePacket p) s).endpoint_state
   refused_lined p text s is l =
-      subst (λ (o : Option (List ℕ)). EndLined avoids (packet_if o p.header.verification_tag p.chunks (count_packet_at s)).endpoint_state) (sym is) l
+      subst (λ (o : Option (List ℕ)). EndLined avoids (packet_unless o p.header.verification_tag p.chunks (count_packet_at s)).endpoint_state) (sym is) l
 
   -- ---- calls
 
@@ -211,11 +211,11 @@ module _ {P : Type 0} (avoids : Bool) where
   sent_then : (s : State) (c d : Context P) → Same avoids c d → EndHolds avoids (record { state = s; context = c }) → Big avoids c → EndLined avoids (where_open send_in (record { state = s; context = d }))
   sent_then s c d e h b = in_state s d (subst (λ (o : Options). 2 ≤ o.max_burst) (sym e.options_are) b) (sends_then avoids s c d e b h)
 
-  send_lined : (r : Option SendError) (m : Message) (o : SendOptions) (s : EndpointState P) → EndHolds avoids s → EndLined avoids s → EndLined avoids (sent_if r (record { state = s.state; context = offered r m o s.context }))
+  send_lined : (r : Option SendError) (m : Message) (o : SendOptions) (s : EndpointState P) → EndHolds avoids s → EndLined avoids s → EndLined avoids (sent_unless r (record { state = s.state; context = offered r m o s.context }))
   send_lined None m o s h l = sent_then s.state s.context (offered None m o s.context) (offered_same avoids None m o s.context) h l.0
   send_lined (Some e) m o s h l = l
 
-  reset_lined : (o : Option ResetStreamsError) (ids : List ℕ) (s : EndpointState P) → EndHolds avoids s → EndLined avoids s → EndLined avoids (reset_if o ids s)
+  reset_lined : (o : Option ResetStreamsError) (ids : List ℕ) (s : EndpointState P) → EndHolds avoids s → EndLined avoids s → EndLined avoids (streams_reset_unless o ids s)
   reset_lined None ids s h l = sent_then s.state s.context (prepare_all ids s.context) (prepared_same avoids ids s.context) h l.0
   reset_lined (Some e) ids s h l = l
 

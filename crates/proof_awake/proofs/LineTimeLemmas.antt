@@ -22,7 +22,7 @@ use Rattle.proof_awake.specs.Line.{PhaseHasNoLine}
 use Rattle.sctp_tx_outstanding.specs.Item.{Item}
 use Rattle.sctp_tx_outstanding.specs.Losses.{nack_all}
 use Rattle.sctp_tx_queue.specs.SendQueue.{Queue}
-use Rattle.spec_endpoint.specs.Timers.{Ticking, tick_ack, t3_if, tick_t3, tick_interval, tick_timeout, request_again, errs_if, requests_if, ticking, tick_timers, after_timers, abort_if, abort_or_send_if, after_ticks_if, after_ticks, t2_expired, t2_if, waits_if, t1_expired, t1_if, after_init_timer, init_expired, init_if, tick_open, tick_in, advance_unless, is_owed}
+use Rattle.spec_endpoint.specs.Timers.{Ticking, tick_ack, t3_if, tick_t3, tick_interval, tick_timeout, request_again, errs_if, requests_if, ticking, tick_timers, after_timers, abort_if, abort_or_send_if, after_ticks_if, after_ticks, t2_expired, t2_if, waits_unless, t1_expired, t1_if, after_init_timer, init_expired, init_if, tick_open, tick_in, advance_unless, is_owed}
 use Rattle.spec_endpoint.specs.Opening.{cookie_ack, connect_in, on_init_open, on_init_in, queue_anew, agreed_by, maker, echo_or_abort, cookie_in, on_init_ack_in, enter_connected, on_cookie_ack, CookieResolution, EstablishNew, RestartDetected, SimultaneousInit, MaintainExisting, Discard, InvalidTag, resolve_cookie, tcb_by, queue_for, identity_of, anew, maintain_existing, maintain_existing_in, restarts_in, on_resolution, on_read_cookie, on_cookie_echo}
 use Rattle.proof_awake.specs.Invariant.{StateHolds, HasLimits, WindowsHaveRoom}
 use Rattle.proof_awake.proofs.ItemsLemmas.{none_lost}
@@ -140,7 +140,7 @@ module _ {P : Type 0} (avoids : Bool) where
   ended_lined new cookie true t c h = abort_lined avoids (user_initiated_abort (codes "Too many retransmissions")) (OnAborted TooManyRetries (codes "Too many retransmissions")) t c h
   ended_lined new cookie false t c h = (h, tt)
 
-  waits_lined : (new : Timer) (cookie : List ℕ) (b : Bool) (t : Tcb) (c : Context P) → Big avoids c → EndLined avoids (after_timers (CookieEchoed new cookie) (waits_if b t c))
+  waits_lined : (new : Timer) (cookie : List ℕ) (b : Bool) (t : Tcb) (c : Context P) → Big avoids c → EndLined avoids (after_timers (CookieEchoed new cookie) (waits_unless b t c))
   waits_lined new cookie true t c h = ended_lined new cookie (is_exhausted c.errors) t c h
   waits_lined new cookie false t c h = (h, tt)
 

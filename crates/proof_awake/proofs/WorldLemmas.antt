@@ -8,7 +8,7 @@ use Rattle.spec_endpoint.specs.Wire.{writing}
 use Rattle.spec_endpoint.specs.Receiving.{Receives, read, not_read}
 use Rattle.spec_world.specs.Observations.{End, A, B, Call, Connect, Shutdown, Close, Send, SendMany, TakeMessage, Reset, SetPriority, SetMaxMessageSize, SetLowThreshold, HandOver, Entry}
 use Rattle.spec_world.specs.World.{Side, World, Action, CallOf, Give, GiveForeign, AdvanceTime, table_call, call_entry, after_call, time_entry, after_time, side_of, other, record_news, TakesBytes, MeetsForeignAt, given, withheld, Happens, Runs, fresh_world}
-use Rattle.proof_awake.specs.Awake.{is_restore}
+use Rattle.proof_endpoint.specs.Lifecycles.{is_restore}
 use Rattle.proof_awake.specs.Invariant.{IsTimed}
 use Rattle.proof_awake.specs.Worlds.{WorldsAreAwake}
 use Rattle.proof_awake.proofs.InputRowLemmas.{each_stays_timed}

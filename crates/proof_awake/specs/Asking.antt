@@ -4,8 +4,7 @@ use Rattle.std.specs.List.{list_all}
 use Rattle.sctp_state.specs.Events.{Event, SendPacket}
 use Rattle.spec_endpoint.specs.Association.{Endpoint}
 use Rattle.spec_endpoint.specs.Laws.{Call, called}
-use Rattle.proof_endpoint.specs.Mapped.{Carried}
-use Rattle.proof_endpoint.specs.ReadBack.{as_carried}
+use Rattle.proof_endpoint.specs.Mapped.{Carried, as_carried}
 use Rattle.proof_awake.specs.Line.{all_ask_once}
 
 abbrev pub event_asks_once : Event Carried → Bool

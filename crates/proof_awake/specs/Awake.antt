@@ -4,7 +4,6 @@ use Rattle.sctp_state.specs.Timer.{Timer, is_running}
 use Rattle.sctp_rx.specs.declared.data_tracker.AckState.{AckState}
 use Rattle.sctp_rx.specs.declared.data_tracker.AckState.TheVariants.{Idle, Becoming, Delayed, Immediate}
 use Rattle.sctp_tx_outstanding.specs.Item.{Item}
-use Rattle.spec_endpoint.specs.Laws.{Call, Restore}
 use Rattle.spec_endpoint.specs.Association.{Tcb, Phase, CookieEchoed, Established, ShutdownPending, ShutdownSent, ShutdownReceived, ShutdownAckSent, State, Closed, CookieWait, Open, Heartbeats, EndpointState}
 
 abbrev pub Runs : Timer → Type 0
@@ -65,9 +64,3 @@ StateIsAwake avoids (Open phase t) h = PhaseIsAwake avoids phase t.sender.outsta
 
 abbrev pub IsAwake : {P : Type 0} → EndpointState P → Type 0
 IsAwake s = StateIsAwake s.context.options.avoid_stalls s.state s.context.heartbeats
-
--- ---- calls
-
-abbrev pub is_restore : Call → Bool
-is_restore (Restore h) = true
-is_restore call = false

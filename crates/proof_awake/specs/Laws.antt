@@ -11,7 +11,8 @@ use Rattle.sctp_rx.specs.DataTracker.{is_ack_due}
 use Rattle.spec_endpoint.specs.Calls.{opens_window, without_first_message, take_message}
 use Rattle.spec_endpoint.specs.Timers.{sends_owed, poll_timeout}
 use Rattle.spec_endpoint.specs.Laws.{Call, called}
-use Rattle.proof_awake.specs.Awake.{is_none, is_delayed, is_restore, IsAwake}
+use Rattle.proof_awake.specs.Awake.{is_none, is_delayed, IsAwake}
+use Rattle.proof_endpoint.specs.Lifecycles.{is_restore}
 use Rattle.proof_awake.specs.Invariant.{IsTimed}
 
 -- a new end with valid options; and what each call leaves, but the one that takes up a record, which starts no timer unless stalls are avoided

@@ -13,7 +13,8 @@ use Rattle.spec_endpoint.specs.StreamReset.{is_outgoing, reset_refusal, reset_st
 use Rattle.spec_endpoint.specs.Laws.{Call, ReceivePacket, called}
 use Rattle.spec_endpoint.specs.Packets.{PacketDraft}
 use Rattle.spec_endpoint.specs.Sending.{AfterSending, send_with}
-use Rattle.proof_awake.specs.Awake.{is_none, is_restore}
+use Rattle.proof_awake.specs.Awake.{is_none}
+use Rattle.proof_endpoint.specs.Lifecycles.{is_restore}
 use Rattle.proof_awake.specs.Invariant.{WindowsHaveRoom, IsTimed}
 
 abbrev pub IsNoneInLine : {P : Type 0} → AfterSending P → Type 0

@@ -11,9 +11,9 @@ use Rattle.sctp_state.specs.Events.{GivenUp}
 use Rattle.sctp_state.specs.Options.{Options, SendOptions}
 use Rattle.spec_endpoint.specs.Association.{EndpointState, Endpoint, where_open, with_context}
 use Rattle.sctp_state.specs.declared.api.errors.ResetStreamsError.{ResetStreamsError}
-use Rattle.spec_endpoint.specs.StreamReset.{reset_refusal, reset_if}
+use Rattle.spec_endpoint.specs.StreamReset.{reset_refusal, streams_reset_unless}
 use Rattle.spec_endpoint.specs.Sending.{send_in}
-use Rattle.spec_endpoint.specs.Calls.{shown_state, send_refusal_of, offer, offer_all, sent_if}
+use Rattle.spec_endpoint.specs.Calls.{shown_state, send_refusal_of, offer, offer_all, sent_unless}
 use Rattle.spec_endpoint.specs.Input.{packet_refusal, in_endpoint_state}
 use Rattle.spec_endpoint.specs.Laws.{Call, Connect, Close, Shutdown, Send, SendMany, ResetStreams, TakeMessage, SetLowThreshold, SetPriority, SetMaxMessageSize, Advance, HandOver, Restore, ReceivePacket, ReceiveNoPacket, called}
 use Rattle.proof_endpoint.specs.Mapped.{Carried}
@@ -60,9 +60,9 @@ module _ (old : List Acceptance) where
       let k = stays_sound old [] TakeMessage (no_offer TakeMessage refl) (λ s is. not_steady TakeMessage (Restore s) refl is refl) (λ streams is. cc) in
       does_where_open k w send_in s (does_send_in k w) h
 
-  sent_if_sound : (r : Option SendError) (s : EndpointState Carried) (w : Stream) → SoundAt old [] (placed s w) → SoundAt old [] (placed (sent_if r s) w)
-  sent_if_sound None s w h = sent_sound s w h
-  sent_if_sound (Some e) s w h = h
+  sent_unless_sound : (r : Option SendError) (s : EndpointState Carried) (w : Stream) → SoundAt old [] (placed s w) → SoundAt old [] (placed (sent_unless r s) w)
+  sent_unless_sound None s w h = sent_sound s w h
+  sent_unless_sound (Some e) s w h = h
 
 -- with what an action of the end accepts
 abbrev with_call : List Acceptance → Call → Side → List Acceptance
@@ -83,7 +83,7 @@ module _ (old : List Acceptance) (x : Side) where
 
   -- by whether streams can be reset
   abbrev after_reset_if : Option ResetStreamsError → (streams : List ℕ) → Endpoint Carried
-  after_reset_if o streams = in_endpoint_state (reset_if o streams) x.end
+  after_reset_if o streams = in_endpoint_state (streams_reset_unless o streams) x.end
 
   reset_sound : (streams : List ℕ) (o : Option ResetStreamsError) → reset_refusal (state_of x) ≡ o → Rests old x
       → SoundAt (old ++ []) (reset_unless o streams) (calm (after_reset_if o streams))
@@ -95,7 +95,7 @@ module _ (old : List Acceptance) (x : Side) where
   call_sound : (call : Call) → restores (Calls call) ≡ false → length (with_call old call x) < 2 ^ 32 → Rests old x
       → SoundAt (with_call old call x) (reset_by (Calls call) x) (calm (called call x.end))
   call_sound (Send m o) none few h =
-      sent_if_sound (with_call old (Send m o) x) (send_refusal_of m x.end.endpoint_state)
+      sent_unless_sound (with_call old (Send m o) x) (send_refusal_of m x.end.endpoint_state)
       (with_context x.end.endpoint_state (offer m o (shown_state (state_of x)) x.end.endpoint_state.context)) x.end.draws (offered_sound (m ∷ []) o few (h []))
   call_sound (SendMany ms o) none few h =
       sent_sound (with_call old (SendMany ms o) x) (with_context x.end.endpoint_state (offer_all ms o (shown_state (state_of x)) x.end.endpoint_state.context)) x.end.draws

@@ -16,7 +16,7 @@ use Rattle.proof_endpoint.specs.Acts.{EndWithPacket, idle, calm, BringsChunk, al
 use Rattle.proof_pair.specs.Trace.{Side, packets_in, state_of}
 use Rattle.proof_pair.proofs.UntilLemmas.{none_before, Until, frame}
 use Rattle.proof_endpoint.proofs.RowActsLemmas.{does_where_open}
-use Rattle.proof_endpoint.proofs.CallActsLemmas.{does_offer, does_offer_all, does_send_in, does_sent_if}
+use Rattle.proof_endpoint.proofs.CallActsLemmas.{does_offer, does_offer_all, does_send_in, does_sent_unless}
 use Rattle.proof_pair.proofs.JoinActsLemmas.{Setting, InvAt}
 use Rattle.proof_pair.proofs.JoinKeepsLemmas.{Rules}
 use Rattle.proof_pair.proofs.JoinFrameLemmas.{joins}
@@ -84,7 +84,7 @@ module _ (g : Setting) {R : EndWithPacket Carried → EndWithPacket Carried → 
       let s : EndpointState Carried = with_context e.endpoint_state d in
       let before : Until (λ a b. InvAt g a → InvAt g b) (calm e) (offering (m ∷ []) how e) =
       does_offer (frame (joins g (Send m how) r)) e.draws m how e.endpoint_state.state e.endpoint_state.context (alone refl) in
-      let rest : Until (Joined g R) (offering (m ∷ []) how e) (calm (called (Send m how) e)) = does_sent_if (frame f) e.draws (send_refusal_of m e.endpoint_state) s in
+      let rest : Until (Joined g R) (offering (m ∷ []) how e) (calm (called (Send m how) e)) = does_sent_unless (frame f) e.draws (send_refusal_of m e.endpoint_state) s in
       (rest.1 none (before.1 (none_before (offering (m ∷ []) how e) (calm (called (Send m how) e)) rest.0 none) inv)).1
 
 -- ---- what it receives is nothing

@@ -15,7 +15,7 @@ use Rattle.spec_endpoint.specs.Association.{Endpoint}
 use Rattle.spec_endpoint.specs.Calls.{ready_in, message_taken_in}
 use Rattle.spec_endpoint.specs.Opening.{emit_parse_error}
 use Rattle.spec_endpoint.specs.StreamReset.{reset_refusal}
-use Rattle.spec_endpoint.specs.Input.{packet_refusal, count_packet_at, packet_if}
+use Rattle.spec_endpoint.specs.Input.{packet_refusal, count_packet_at, packet_unless}
 use Rattle.spec_endpoint.specs.Laws.{Call, Connect, Close, Shutdown, Send, SendMany, ResetStreams, TakeMessage, SetLowThreshold, SetPriority, SetMaxMessageSize, Advance, HandOver, Restore, ReceivePacket, ReceiveNoPacket, called, endings}
 use Rattle.proof_endpoint.specs.Mapped.{Carried}
 use Rattle.proof_endpoint.specs.Acts.{EndWithPacket, calm, HasNoEnd}
@@ -196,7 +196,7 @@ module _ (message : ℕ → Message) (lifecycle : ℕ → Option ℕ) (is_interl
 
   foreign_in : (text : Option (List ℕ)) (p : PacketTree) → packet_refusal p.header.verification_tag p.chunks (state_of r) ≡ text → In (foreign_if text p r) []
   foreign_in None p is = still_in
-  foreign_in (Some text) p is = refused_in p text (ap (λ (z : Option (List ℕ)). packet_if z p.header.verification_tag p.chunks (count_packet_at r.end)) is)
+  foreign_in (Some text) p is = refused_in p text (ap (λ (z : Option (List ℕ)). packet_unless z p.header.verification_tag p.chunks (count_packet_at r.end)) is)
 
   pub action_in : (t : EndAction) → MayAct t r → IsTimely t now stamps_s → endings (act t r s).emitted ≡ 0 → In (act t r s) (handed_by t r)
   action_in (Calls call) may timely none =

@@ -6,7 +6,7 @@ use Rattle.sctp_serial.specs.Messages as messages
 use Rattle.sctp_serial.specs.declared.api.StreamId.{StreamId}
 use Rattle.sctp_serial.specs.declared.types.tsn.Tsn.{Tsn}
 use Rattle.sctp_wire.specs.Parameter.{ParameterTree, outgoing_reset_request}
-use Rattle.sctp_packet.specs.Chunk.{ChunkTree, FragmentTree, re_config_chunk}
+use Rattle.sctp_packet.specs.Chunk.{ChunkTree, FragmentTree, re_config_chunk, fragment_chunk}
 use Rattle.sctp_state.specs.Events.{Event, OnIncomingStreamReset, OnStreamsResetPerformed, OnStreamsResetFailed, numbers_of}
 use Rattle.sctp_state.specs.RetransmissionTimeout.{rto}
 use Rattle.sctp_tx.specs.RetransmissionQueue.{Sender}
@@ -21,7 +21,7 @@ use Rattle.spec_endpoint.specs.Association.{Tcb, Phase, CookieEchoed, CookieWait
 use Rattle.spec_endpoint.specs.Packets.{room, add_all}
 use Rattle.spec_endpoint.specs.ResetRequests.{Request, Outcome, Unsettled, Done, Denied, ids, request_chunk, in_progress, outcome, set_last_request}
 use Rattle.spec_endpoint.specs.StreamReset.{is_ahead, on_outcome}
-use Rattle.spec_endpoint.specs.Sending.{asks_at_once, data_chunk_of, data_chunks, fast_most}
+use Rattle.spec_endpoint.specs.Sending.{asks_at_once, data_chunks, fast_most}
 use Rattle.spec_endpoint.specs.Laws.{Call}
 use Rattle.proof_endpoint.specs.Mapped.{Carried}
 use Rattle.proof_endpoint.specs.Acts.{EndWithPacket, point_of, IsAsked, IsDue, AsksNoIncoming, Answers, in_open, in_state, with_packet, fragments_of, SackAct, takes_sack, samples, counts_errors, before_sack, after_sack, SendingAct, asks, forces_ack, adds_ack, expires, adds_forward, forwards_later, asks_no_reset, asks_reset, adds_request, sends, sends_fast, before_sending, after_sending, TimeAct, advances, delay_ends, times_out, beats, times_init, times_cookie, times_request, times_items, wakes_request, before_time, after_time, CallAct, accepts, refuses, takes_message, sets_low_threshold, sets_priority, sets_max_message_size, before_call, after_call, ResetAct, prepares, defers, performs, processes, takes_response, adds_responses, before_reset, after_reset, InputAct, ends_packet, before_input, after_input}
@@ -48,14 +48,14 @@ module _ (first least : ℕ) (x : Direction) where
   forward_says true s = tt
   forward_says false s = tt
 
-  data_says_of : (is_interleaved is_immediate : Bool) (c : ℕ × FragmentTree) → SaysIn first least x (data_chunk_of is_interleaved is_immediate c)
+  data_says_of : (is_interleaved is_immediate : Bool) (c : ℕ × FragmentTree) → SaysIn first least x (fragment_chunk is_interleaved is_immediate c)
   data_says_of true is_immediate c = tt
   data_says_of false is_immediate c = tt
 
-  data_says_by : (is_interleaved is_immediate : Bool) (cs : List (ℕ × FragmentTree)) → All (SaysIn first least x) (map (data_chunk_of is_interleaved is_immediate) cs)
+  data_says_by : (is_interleaved is_immediate : Bool) (cs : List (ℕ × FragmentTree)) → All (SaysIn first least x) (map (fragment_chunk is_interleaved is_immediate) cs)
   data_says_by is_interleaved is_immediate [] = All-nil (SaysIn first least x)
   data_says_by is_interleaved is_immediate (c ∷ cs) =
-      All-cons (SaysIn first least x) (data_chunk_of is_interleaved is_immediate c) (map (data_chunk_of is_interleaved is_immediate) cs)
+      All-cons (SaysIn first least x) (fragment_chunk is_interleaved is_immediate c) (map (fragment_chunk is_interleaved is_immediate) cs)
       (data_says_of is_interleaved is_immediate c) (data_says_by is_interleaved is_immediate cs)
 
   data_says : (t : Tcb) (is_immediate : Bool) (cs : List (ℕ × FragmentTree)) → All (SaysIn first least x) (data_chunks t is_immediate cs)

@@ -8,7 +8,7 @@ use Rattle.proof_protocol.specs.State.{Message}
 use Rattle.spec_endpoint.specs.Association.{Phase, Tcb, State, Closed, CookieWait, Open, Context, EndpointState, Endpoint, with_context}
 use Rattle.spec_endpoint.specs.Sending.{send_in}
 use Rattle.spec_endpoint.specs.Input.{in_endpoint_state}
-use Rattle.spec_endpoint.specs.StreamReset.{unless_supported, reset_refusal, prepare_reset_stream, prepare_all, reset_if}
+use Rattle.spec_endpoint.specs.StreamReset.{unless_supported, reset_refusal, prepare_reset_stream, prepare_all, streams_reset_unless}
 use Rattle.spec_endpoint.specs.Laws.{Call, ResetStreams, ReceiveNoPacket}
 use Rattle.proof_endpoint.specs.Mapped.{Carried}
 use Rattle.proof_endpoint.specs.Acts.{EndWithPacket, idle, calm, IsReset, prepares, HasNoEnd, Preserves, PreservesUntilEnd}
@@ -34,7 +34,7 @@ preparing ids e = idle e.endpoint_state.state (prepare_all ids e.endpoint_state.
 
 -- the end after the call, unless it refuses
 abbrev pub reset_by : Option ResetStreamsError → List ℕ → Endpoint Carried → Endpoint Carried
-reset_by o ids e = in_endpoint_state (reset_if o ids) e
+reset_by o ids e = in_endpoint_state (streams_reset_unless o ids) e
 
 -- where it doesn't, it has a control block, and may ask for resets
 pub can_reset : (b : Bool) → unless_supported b ≡ None → b ≡ true

@@ -19,12 +19,12 @@ use Rattle.proof_protocol.specs.Based.{InEpochs, Bracketed}
 use Rattle.proof_protocol.proofs.EpochLawsLemmas.{bracketed}
 use Rattle.proof_refines.specs.Reachable.{recorded_places, delivered_ids}
 use Rattle.spec_endpoint.specs.Association.{State, Closed, CookieWait, Open, Context, Endpoint, where_open}
-use Rattle.spec_endpoint.specs.Calls.{ready_in, message_taken_in, send_refusal_of, sent_if}
+use Rattle.spec_endpoint.specs.Calls.{ready_in, message_taken_in, send_refusal_of, sent_unless}
 use Rattle.spec_endpoint.specs.Opening.{emit_parse_error}
-use Rattle.spec_endpoint.specs.Input.{packet_refusal, count_packet_at, packet_if}
+use Rattle.spec_endpoint.specs.Input.{packet_refusal, count_packet_at, packet_unless}
 use Rattle.spec_endpoint.specs.Laws.{Call, Connect, Close, Shutdown, Send, SendMany, ResetStreams, TakeMessage, SetLowThreshold, SetPriority, SetMaxMessageSize, Advance, HandOver, Restore, ReceivePacket, ReceiveNoPacket, called, ending, endings, ends, endings_in_call}
 use Rattle.spec_endpoint.specs.Sending.{send_in}
-use Rattle.spec_endpoint.specs.StreamReset.{reset_refusal, reset_if}
+use Rattle.spec_endpoint.specs.StreamReset.{reset_refusal, streams_reset_unless}
 use Rattle.proof_endpoint.specs.Mapped.{Carried}
 use Rattle.proof_endpoint.proofs.LawsLemmas.{emits_endings}
 use Rattle.proof_endpoint.proofs.EmitsLemmas.{endings_append}
@@ -184,7 +184,7 @@ open_stays Closed c = refl
 open_stays (CookieWait tag first t1) c = refl
 open_stays (Open phase t) c = refl
 
-sent_stays : (o : Option SendError) (s : State) (c : Context Carried) → ends s (sent_if o (record { state = s; context = c })).state ≡ 0
+sent_stays : (o : Option SendError) (s : State) (c : Context Carried) → ends s (sent_unless o (record { state = s; context = c })).state ≡ 0
 sent_stays None s c = open_stays s c
 sent_stays (Some e) Closed c = refl
 sent_stays (Some e) (CookieWait tag first t1) c = refl
@@ -195,7 +195,7 @@ taken_stays o Closed = refl
 taken_stays o (CookieWait tag first t1) = refl
 taken_stays o (Open phase t) = refl
 
-reset_stays : (o : Option ResetStreamsError) (ids : List ℕ) (s : State) (c : Context Carried) → ends s (reset_if o ids (record { state = s; context = c })).state ≡ 0
+reset_stays : (o : Option ResetStreamsError) (ids : List ℕ) (s : State) (c : Context Carried) → ends s (streams_reset_unless o ids (record { state = s; context = c })).state ≡ 0
 reset_stays None ids s c = open_stays s _
 reset_stays (Some e) ids Closed c = refl
 reset_stays (Some e) ids (CookieWait tag first t1) c = refl
@@ -408,7 +408,7 @@ module _ (message : ℕ → Message) (lifecycle : ℕ → Option ℕ) (is_interl
   foreign_out : (text : Option (List ℕ)) (p : PacketTree) → packet_refusal p.header.verification_tag p.chunks (state_of s) ≡ text
       → Out (foreign_if text p s) [] (so_emitted (foreign_if text p s) (emitted_foreign text p s)) (recorded_places (emitted_foreign text p s))
   foreign_out None p is = still_out (numbered_before (state_of s) (state_of s) so_far.asked) (asked_again (state_of s) so_far.asked)
-  foreign_out (Some text) p is = refused_out p text (ap (λ (r : Option (List ℕ)). packet_if r p.header.verification_tag p.chunks (count_packet_at s.end)) is)
+  foreign_out (Some text) p is = refused_out p text (ap (λ (r : Option (List ℕ)). packet_unless r p.header.verification_tag p.chunks (count_packet_at s.end)) is)
 
   pub action_out : (t : EndAction) → MayAct t s → IsTimely t now stamps_r → endings (act t s r).emitted ≡ 0
       → AreOffered message lifecycle accepted (accepted_in t s) → accepted + length (accepted_in t s) < 2 ^ 32
@@ -528,7 +528,7 @@ module _ (message : ℕ → Message) (lifecycle : ℕ → Option ℕ) (is_interl
       by_foreign : (text : Option (List ℕ)) (p : PacketTree) → packet_refusal p.header.verification_tag p.chunks (state_of s) ≡ text → endings (emitted_foreign text p s).events ≡ 0
       by_foreign None p is = refl
       by_foreign (Some text) p is =
-          ap (λ (e : Endpoint Carried). endings (pending_emitted e).events) (ap (λ (r : Option (List ℕ)). packet_if r p.header.verification_tag p.chunks (count_packet_at s.end)) is)
+          ap (λ (e : Endpoint Carried). endings (pending_emitted e).events) (ap (λ (r : Option (List ℕ)). packet_unless r p.header.verification_tag p.chunks (count_packet_at s.end)) is)
           ∙ ap (λ (t : Emitted Carried). endings (t.events ++ OnError ParseFailed text ∷ [])) quiet_s.emitted
 
       by_turn : (t : EndAction) → MayAct t s → IsTimely t now stamps_r → AreOffered message lifecycle accepted (accepted_in t s)

@@ -5,7 +5,7 @@ use Rattle.std.specs.List.{list_all}
 use Rattle.std.proofs.lemmas.List.Elements.{All-nil, All-cons}
 use Rattle.std.proofs.lemmas.List.Folds.{list_all-append}
 use Rattle.std.specs.Prelude.{◌&&◌}
-use Rattle.sctp_packet.specs.Chunk.{ChunkTree, FragmentTree, SackTree, sack_chunk}
+use Rattle.sctp_packet.specs.Chunk.{ChunkTree, FragmentTree, SackTree, sack_chunk, fragment_chunk}
 use Rattle.sctp_state.specs.Events.{Emitted}
 use Rattle.sctp_capabilities.specs.Capabilities.{Capabilities}
 use Rattle.sctp_state.specs.Timer.{is_due}
@@ -40,7 +40,7 @@ use Rattle.proof_refines.proofs.SendLemmas.{fast_row, send_row}
 use Rattle.proof_refines.proofs.WholeLemmas.{timeout_row, expiry_row, received_row, shown_again}
 use Rattle.spec_endpoint.specs.Association.{Tcb, Phase, Context}
 use Rattle.spec_endpoint.specs.Packets.{PacketDraft, room, add, add_all}
-use Rattle.spec_endpoint.specs.Sending.{data_chunk_of, data_chunks, asks_at_once, fast_most}
+use Rattle.spec_endpoint.specs.Sending.{data_chunks, asks_at_once, fast_most}
 use Rattle.spec_endpoint.specs.Sack.{clean_blocks}
 use Rattle.spec_endpoint.specs.Laws.{Call}
 use Rattle.proof_endpoint.specs.Mapped.{Carried}
@@ -71,16 +71,16 @@ module _ (message : ℕ → Message) (is_interleaved : Bool) (first least : ℕ)
   says_all_added p chunks a s = holds_all_added (λ tag. SaysOut message is_interleaved first least x) chunks p a (λ tag. s)
 
   -- what carries a fragment that is kept
-  says_one : (m is_immediate : Bool) → is_interleaved ≡ m → (c : ℕ × FragmentTree) → SaysData message first least (transfer_of x).sender c.0 c.1 → Says (data_chunk_of m is_immediate c)
+  says_one : (m is_immediate : Bool) → is_interleaved ≡ m → (c : ℕ × FragmentTree) → SaysData message first least (transfer_of x).sender c.0 c.1 → Says (fragment_chunk m is_immediate c)
   says_one true is_immediate e c s = (e, s)
   says_one false is_immediate e c s = (e, s)
 
   says_data : (m is_immediate : Bool) → is_interleaved ≡ m → (kept : ℕ) → least ≤ kept → (cs : List (ℕ × FragmentTree)) → AllCarry message first kept (transfer_of x).sender cs
-      → All (SaysOut message is_interleaved first least x) (map (data_chunk_of m is_immediate) cs)
+      → All (SaysOut message is_interleaved first least x) (map (fragment_chunk m is_immediate) cs)
   says_data m is_immediate e kept l [] a = All-nil (SaysOut message is_interleaved first least x)
   says_data m is_immediate e kept l (c ∷ cs) a =
       let from = a.0.1 in
-      All-cons (SaysOut message is_interleaved first least x) (data_chunk_of m is_immediate c) (map (data_chunk_of m is_immediate) cs)
+      All-cons (SaysOut message is_interleaved first least x) (fragment_chunk m is_immediate c) (map (fragment_chunk m is_immediate) cs)
       (says_one m is_immediate e c (record { carries = a.0.0; from = omega (arith, from, l) })) (says_data m is_immediate e kept l cs a.1)
 
 -- a point in its chunk

@@ -5,7 +5,6 @@ use Rattle.std.specs.Prelude.{◌≡◌, ℕ, ◌^◌, ◌≤◌, ◌<◌, Bool,
 use Rattle.std.specs.List.{AllByRecursion, list_any}
 use Rattle.rand_core.specs.Stream.{Stream}
 use Rattle.sctp_packet.specs.Packet.{PacketTree}
-use Rattle.sctp_serial.specs.Messages.{Message}
 use Rattle.sctp_serial.specs.Time.{later}
 use Rattle.sctp_state.specs.Options.{Options, plainly}
 use Rattle.sctp_state.specs.Events.{GivenUp}
@@ -18,6 +17,7 @@ use Rattle.spec_endpoint.specs.StreamReset.{reset_refusal}
 use Rattle.spec_endpoint.specs.Laws.{Send, ResetStreams, Advance, Restore, ReceivePacket, called}
 use Rattle.proof_endpoint.specs.Mapped.{Carried}
 use Rattle.proof_pair.specs.Trace.{Side, Pair, emitted_packets, EndAction, Calls, Gives, Refuses, as_received, goes, run, side_of, KeepsRules, NoAssociationHasEnded, start, state_of}
+use Rattle.proof_pair.specs.Handing.{text}
 use Rattle.proof_pair.specs.Opens.{at_first, one_connects}
 use Rattle.proof_delivery.specs.Accepted.{AcceptedMessage, accepted_at, accepted}
 
@@ -50,7 +50,7 @@ records_given (Some p) checksum x = records_of (called (ReceivePacket (as_receiv
 
 abbrev pub records_foreign : (refusal : Option (List ℕ)) → PacketTree → Side → List GivenUp
 records_foreign None p x = []
-records_foreign (Some text) p x = records_of (called (ReceivePacket p) x.end)
+records_foreign (Some reason) p x = records_of (called (ReceivePacket p) x.end)
 
 -- what one end gives up at its action, beside the other
 abbrev pub records_by : EndAction → (x y : Side) → List GivenUp
@@ -149,9 +149,6 @@ abbrev pub AcceptancesAreAccepted : Type 0
 AcceptancesAreAccepted = (x : Bool) (trace : List (Bool × EndAction)) (w : Pair) → map (λ (a : Acceptance). a.offer) (acceptances x trace w) ≡ accepted x trace w
 
 -- ---- such a trace, computed: of two messages that are lost, one may not be sent again, and the other one's lifetime is over
-
-abbrev pub text : (byte : ℕ) → Message
-text byte = record { stream = 1; ppid = 53; payload = byte ∷ [] }
 
 abbrev pub ten_seconds : ℕ
 ten_seconds = 10 ^ 10

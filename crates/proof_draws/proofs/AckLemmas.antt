@@ -12,11 +12,11 @@ use Rattle.sctp_state.specs.Timer.{Timer}
 use Rattle.spec_endpoint.specs.Association.{State, Closed, CookieWait, Open, Context, Endpoint}
 use Rattle.spec_endpoint.specs.Shown.{Association}
 use Rattle.spec_endpoint.specs.Opening.{init_ack_of, agreed_by, cookie_for, cookie_in}
-use Rattle.spec_endpoint.specs.Input.{my_tag, packet_refusal, count_packet_at, packet_if}
+use Rattle.spec_endpoint.specs.Input.{my_tag, packet_refusal, count_packet_at, packet_unless}
 use Rattle.spec_endpoint.specs.Laws.{Call, ReceivePacket, called}
-use Rattle.proof_endpoint.specs.Mapped.{Carried}
+use Rattle.proof_endpoint.specs.Mapped.{Carried, as_carried}
 use Rattle.proof_endpoint.specs.Acts.{is_opened}
-use Rattle.proof_pair.specs.Trace.{Side, as_carried, as_received, state_of}
+use Rattle.proof_pair.specs.Trace.{Side, as_received, state_of}
 use Rattle.proof_pair.specs.Agreement.{Draw as Drawn}
 use Rattle.proof_pair.proofs.JoinLemmas.{init_by, IsInitAck}
 use Rattle.proof_pair.proofs.TraceLemmas.{seen}
@@ -135,8 +135,8 @@ any_ack tag i j Closed c w h = cc
 any_ack tag i j (CookieWait own first t1) c w h = cc
 any_ack tag i j (Open phase t) c w h = any_taken (packet_refusal tag (init_ack_chunk i ∷ []) (Open phase t))
   where
-    any_taken : (r : Option (List ℕ)) → packet_if r tag (init_ack_chunk i ∷ []) (count_packet_at (at_state (Open phase t) c w))
-        ≡ packet_if r tag (init_ack_chunk j ∷ []) (count_packet_at (at_state (Open phase t) c w))
+    any_taken : (r : Option (List ℕ)) → packet_unless r tag (init_ack_chunk i ∷ []) (count_packet_at (at_state (Open phase t) c w))
+        ≡ packet_unless r tag (init_ack_chunk j ∷ []) (count_packet_at (at_state (Open phase t) c w))
     any_taken None = refl
     any_taken (Some text) = refl
 

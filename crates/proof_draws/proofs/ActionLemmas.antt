@@ -9,9 +9,9 @@ use Rattle.spec_endpoint.specs.Association.{Tcb, Phase, State, Closed, CookieWai
 use Rattle.spec_endpoint.specs.Sending.{is_before_cookie_ack}
 use Rattle.spec_endpoint.specs.Input.{packet_refusal}
 use Rattle.spec_endpoint.specs.Laws.{Call, Connect, Restore, ReceivePacket, called, endings}
-use Rattle.proof_endpoint.specs.Mapped.{Carried}
+use Rattle.proof_endpoint.specs.Mapped.{Carried, as_carried}
 use Rattle.proof_endpoint.proofs.LawsLemmas.{stays_within}
-use Rattle.proof_pair.specs.Trace.{Side, emitted_packets, EndAction, Calls, Gives, Refuses, as_carried, drain, as_received, give_carried, act, MayCall, MayAct, AreValidOptions, state_of}
+use Rattle.proof_pair.specs.Trace.{Side, emitted_packets, EndAction, Calls, Gives, Refuses, drain, as_received, give_carried, act, MayCall, MayAct, AreValidOptions, state_of}
 use Rattle.proof_pair.specs.Agreement.{Draw as Drawn, Has, drawn_to_connect, drawn_given, drawn_in}
 use Rattle.proof_pair.proofs.AddedLemmas.{all_get}
 use Rattle.proof_pair.proofs.TraceLemmas.{SaysAll, seen, Half, Halves, none_of, actions}

@@ -2,13 +2,13 @@
 use Rattle.std.proofs.Common.{◌≡◌, ℕ, zero, suc, ◌==◌, Bool, true, false, Option, Some, None, List, [], ◌∷◌, map, refl, sym, ap, ◌∙◌}
 use Rattle.sctp_packet.specs.Chunk.{ChunkTree, init_chunk, sack_chunk, cookie_echo_chunk, data_chunk, abort_chunk, shutdown_chunk, shutdown_ack_chunk, shutdown_complete_chunk}
 use Rattle.spec_endpoint.specs.Association.{State, Closed, CookieWait, Open, Endpoint}
-use Rattle.spec_endpoint.specs.Input.{abort_flag, complete_flag, has_shutdown_ack, begins_with_cookie, is_single_init, my_tag, plain_refusal, has_more_counted, unless_many, packet_refusal_by, packet_refusal, AfterChunk, violation, received_if, receive, receive_rest, receive_all, has_data_chunk, on_accepted_packet, packet_if, count_packet_at, in_endpoint_state, repeats_if, on_packet_end}
+use Rattle.spec_endpoint.specs.Input.{abort_flag, complete_flag, has_shutdown_ack, begins_with_cookie, is_single_init, my_tag, plain_refusal, has_more_counted, unless_many, packet_refusal_by, packet_refusal, AfterChunk, violation, received_unless, receive, receive_rest, receive_all, has_data_chunk, on_accepted_packet, packet_unless, count_packet_at, in_endpoint_state, repeats_if, on_packet_end}
 use Rattle.spec_endpoint.specs.Association.{where_open}
 use Rattle.proof_endpoint.specs.Mapped.{Carried}
 
 -- under its own tag and the chunks, whatever its checksum
 abbrev pub on_chunks : (tag : ℕ) → List ChunkTree → Endpoint Carried → Endpoint Carried
-on_chunks tag cs e = packet_if (packet_refusal tag cs e.endpoint_state.state) tag cs (count_packet_at e)
+on_chunks tag cs e = packet_unless (packet_refusal tag cs e.endpoint_state.state) tag cs (count_packet_at e)
 
 -- with 0 in its place
 abbrev pub blank : ChunkTree → ChunkTree
@@ -87,8 +87,8 @@ module _ (tag : ℕ) where
 
   receive_blank : (c : ChunkTree) (e : Endpoint Carried) → receive tag (blank c) e ≡ receive tag c e
   receive_blank (shutdown_chunk tsn) e =
-      ap (λ (v : Option (List ℕ)). received_if v tag (shutdown_chunk 0) e) (no_violation e.endpoint_state.state 0)
-      ∙ sym (ap (λ (v : Option (List ℕ)). received_if v tag (shutdown_chunk tsn) e) (no_violation e.endpoint_state.state tsn))
+      ap (λ (v : Option (List ℕ)). received_unless v tag (shutdown_chunk 0) e) (no_violation e.endpoint_state.state 0)
+      ∙ sym (ap (λ (v : Option (List ℕ)). received_unless v tag (shutdown_chunk tsn) e) (no_violation e.endpoint_state.state tsn))
   receive_blank c e = refl
 
   rest_alike : (f g : Endpoint Carried → Endpoint Carried) → ((e : Endpoint Carried) → f e ≡ g e) → (h : AfterChunk Carried) → receive_rest f h ≡ receive_rest g h
@@ -109,11 +109,11 @@ module _ (tag : ℕ) where
       ap (λ (b : Bool). in_endpoint_state (where_open on_packet_end) (receive_all tag (blanks cs) (in_endpoint_state (repeats_if b) e))) (data_blank cs)
       ∙ ap (λ (f : Endpoint Carried). in_endpoint_state (where_open on_packet_end) f) (receive_all_blank cs (in_endpoint_state (repeats_if (has_data_chunk cs)) e))
 
-  taken_blank : (r : Option (List ℕ)) (cs : List ChunkTree) (e : Endpoint Carried) → packet_if r tag (blanks cs) e ≡ packet_if r tag cs e
+  taken_blank : (r : Option (List ℕ)) (cs : List ChunkTree) (e : Endpoint Carried) → packet_unless r tag (blanks cs) e ≡ packet_unless r tag cs e
   taken_blank None cs e = handled_blank cs e
   taken_blank (Some text) cs e = refl
 
   pub chunks_blank : (cs : List ChunkTree) (e : Endpoint Carried) → on_chunks tag (blanks cs) e ≡ on_chunks tag cs e
   chunks_blank cs e =
-      ap (λ (r : Option (List ℕ)). packet_if r tag (blanks cs) (count_packet_at e)) (refusal_blank tag cs e.endpoint_state.state)
+      ap (λ (r : Option (List ℕ)). packet_unless r tag (blanks cs) (count_packet_at e)) (refusal_blank tag cs e.endpoint_state.state)
       ∙ taken_blank (packet_refusal tag cs e.endpoint_state.state) cs (count_packet_at e)

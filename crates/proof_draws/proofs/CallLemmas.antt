@@ -6,10 +6,10 @@ use Rattle.sctp_state.specs.declared.api.errors.ResetStreamsError.{ResetStreamsE
 use Rattle.sctp_state.specs.declared.api.errors.SendError.{SendError}
 use Rattle.sctp_state.specs.Options.{SendOptions, Options}
 use Rattle.spec_endpoint.specs.Association.{Tcb, Phase, CookieEchoed, Established, ShutdownPending, ShutdownSent, ShutdownReceived, ShutdownAckSent, State, Closed, CookieWait, Open, Context, EndpointState, with_context, where_open, Packing}
-use Rattle.spec_endpoint.specs.Sending.{AfterSending, is_before_cookie_ack, open_with, send_buffered, send_unless, send_in}
-use Rattle.spec_endpoint.specs.Calls.{shown_phase, shown_state, send_refusal, offered, offer, sent_if, send, offer_all, send_many, take_message, message_taken_in, told_if, opens_window, without_first_message}
+use Rattle.spec_endpoint.specs.Sending.{AfterSending, is_before_cookie_ack, open_with, send_unless, send_in}
+use Rattle.spec_endpoint.specs.Calls.{shown_phase, shown_state, send_refusal, offered, offer, sent_unless, send, offer_all, send_many, take_message, message_taken_in, told_if, opens_window, without_first_message}
 use Rattle.spec_endpoint.specs.ResetRequests.{Request}
-use Rattle.spec_endpoint.specs.StreamReset.{reset_refusal, prepare_reset_stream, prepare_all, reset_if, reset_streams}
+use Rattle.spec_endpoint.specs.StreamReset.{reset_refusal, prepare_reset_stream, prepare_all, streams_reset_unless, reset_streams}
 use Rattle.spec_endpoint.specs.Handover.{is_strict, request_bit, receiving, readiness_open, readiness_in, readiness, left_in, left_if, hand_over}
 use Rattle.sctp_tx_queue.specs.Readiness as queued
 use Rattle.sctp_tx.specs.Handover as sender
@@ -131,17 +131,17 @@ module _ {P : Type 0} (n : Names) (are : AreNames n) (pack : Packing P) where
       ap (λ (b : Bool). open_with (named_phase n phase) (send_unless (b && c.options.avoid_stalls) b (named_tcb n t) (plain pack c))) (alone_named n phase)
       ∙ ap (λ (x : AfterSending P). open_with (named_phase n phase) x) (send_unless_named (alone && c.options.avoid_stalls) alone t c k)
 
-  sent_if_named : (o : Option SendError) (s : EndpointState P) → Knows n pack s.context → sent_if o (named_endpoint_state n pack s) ≡ named_endpoint_state n pack (sent_if o s)
-  sent_if_named None s k = where_named n are pack send_in s send_in_named k
-  sent_if_named (Some e) s k = refl
+  sent_unless_named : (o : Option SendError) (s : EndpointState P) → Knows n pack s.context → sent_unless o (named_endpoint_state n pack s) ≡ named_endpoint_state n pack (sent_unless o s)
+  sent_unless_named None s k = where_named n are pack send_in s send_in_named k
+  sent_unless_named (Some e) s k = refl
 
   pub send_named : (m : Message) (how : SendOptions) (s : EndpointState P) → Knows n pack s.context → send m how (named_endpoint_state n pack s) ≡ named_endpoint_state n pack (send m how s)
   send_named m how s k =
       let shown : SocketState = shown_state s.state in
       let r : EndpointState P = named_endpoint_state n pack s in
-      ap (λ (x : SocketState). sent_if (send_refusal m x s.context) (with_context r (offer m how x (plain pack s.context)))) (shown_named n s.state)
-      ∙ (ap (λ (d : Context P). sent_if (send_refusal m shown s.context) (with_context r d)) (offer_named pack m how shown s.context)
-      ∙ sent_if_named (send_refusal m shown s.context) (with_context s (offer m how shown s.context)) (offered_stays (send_refusal m shown s.context) m how s.context ∙ k))
+      ap (λ (x : SocketState). sent_unless (send_refusal m x s.context) (with_context r (offer m how x (plain pack s.context)))) (shown_named n s.state)
+      ∙ (ap (λ (d : Context P). sent_unless (send_refusal m shown s.context) (with_context r d)) (offer_named pack m how shown s.context)
+      ∙ sent_unless_named (send_refusal m shown s.context) (with_context s (offer m how shown s.context)) (offered_stays (send_refusal m shown s.context) m how s.context ∙ k))
 
   pub send_many_named : (ms : List Message) (how : SendOptions) (s : EndpointState P) → Knows n pack s.context → send_many ms how (named_endpoint_state n pack s) ≡ named_endpoint_state n pack (send_many ms how s)
   send_many_named ms how s k =
@@ -154,12 +154,12 @@ module _ {P : Type 0} (n : Names) (are : AreNames n) (pack : Packing P) where
   pub take_named : (s : EndpointState P) → take_message (named_endpoint_state n pack s) ≡ named_endpoint_state n pack (take_message s)
   take_named s = ap (λ (st : State). record (named_endpoint_state n pack s) { state = st }) (taken_named n s.context.options s.state)
 
-  reset_if_named : (o : Option ResetStreamsError) (ids : List ℕ) (s : EndpointState P) → Knows n pack s.context → reset_if o ids (named_endpoint_state n pack s) ≡ named_endpoint_state n pack (reset_if o ids s)
-  reset_if_named None ids s k =
+  streams_reset_unless_named : (o : Option ResetStreamsError) (ids : List ℕ) (s : EndpointState P) → Knows n pack s.context → streams_reset_unless o ids (named_endpoint_state n pack s) ≡ named_endpoint_state n pack (streams_reset_unless o ids s)
+  streams_reset_unless_named None ids s k =
       ap (λ (d : Context P). where_open send_in (with_context (named_endpoint_state n pack s) d)) (prepare_all_named pack ids s.context)
       ∙ where_named n are pack send_in (with_context s (prepare_all ids s.context)) send_in_named (prepare_all_stays ids s.context ∙ k)
-  reset_if_named (Some e) ids s k = refl
+  streams_reset_unless_named (Some e) ids s k = refl
 
   pub reset_streams_named : (ids : List ℕ) (s : EndpointState P) → Knows n pack s.context → reset_streams ids (named_endpoint_state n pack s) ≡ named_endpoint_state n pack (reset_streams ids s)
   reset_streams_named ids s k =
-      ap (λ (o : Option ResetStreamsError). reset_if o ids (named_endpoint_state n pack s)) (reset_refusal_named n s.state) ∙ reset_if_named (reset_refusal s.state) ids s k
+      ap (λ (o : Option ResetStreamsError). streams_reset_unless o ids (named_endpoint_state n pack s)) (reset_refusal_named n s.state) ∙ streams_reset_unless_named (reset_refusal s.state) ids s k

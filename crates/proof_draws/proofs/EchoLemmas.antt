@@ -15,9 +15,9 @@ use Rattle.spec_endpoint.specs.Shown.{Association}
 use Rattle.spec_endpoint.specs.Opening.{by_tags, resolve_by_tags, resolve_cookie}
 use Rattle.spec_endpoint.specs.Input.{packet_refusal}
 use Rattle.spec_endpoint.specs.Laws.{Call, ReceivePacket, called}
-use Rattle.proof_endpoint.specs.Mapped.{Carried}
+use Rattle.proof_endpoint.specs.Mapped.{Carried, as_carried}
 use Rattle.proof_endpoint.specs.Acts.{IsEchoed}
-use Rattle.proof_pair.specs.Trace.{Side, AreValidOptions, as_carried, as_received, state_of}
+use Rattle.proof_pair.specs.Trace.{Side, AreValidOptions, as_received, state_of}
 use Rattle.proof_pair.specs.Agreement.{Draw as Drawn}
 use Rattle.proof_pair.proofs.JoinLemmas.{Draw, Both, IsDraw, view_of, cookie_by, IsEcho}
 use Rattle.proof_pair.proofs.TraceLemmas.{seen}

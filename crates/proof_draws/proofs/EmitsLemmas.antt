@@ -11,10 +11,9 @@ use Rattle.sctp_state.specs.declared.api.ErrorKind.TheVariants.{ParseFailed}
 use Rattle.spec_endpoint.specs.Association.{State, Closed, CookieWait, Open, Context, Endpoint, Packing}
 use Rattle.spec_endpoint.specs.Packets.{fits, added_if, emit_if, has_chunks, packet_to, header_to}
 use Rattle.spec_endpoint.specs.Opening.{tag_from, tsn_from, word, drew_word, init_ack_of, agreed_by}
-use Rattle.spec_endpoint.specs.Input.{packet_refusal, count_packet_at, packet_if, on_accepted_packet}
+use Rattle.spec_endpoint.specs.Input.{packet_refusal, count_packet_at, packet_unless, on_accepted_packet}
 use Rattle.spec_endpoint.specs.Laws.{Call, Restore, ReceivePacket as Given, called, endings, is_closed}
-use Rattle.proof_endpoint.specs.Mapped.{Carried}
-use Rattle.proof_pair.specs.Trace.{as_carried}
+use Rattle.proof_endpoint.specs.Mapped.{Carried, as_carried}
 use Rattle.proof_draws.specs.Laws.{is_flowing}
 use Rattle.proof_draws.proofs.StepLemmas.{first_is_init, receives_init, IsOwnIn, EachChunk, EmitsOwn}
 use Rattle.proof_draws.proofs.ReceivedLemmas.{all_received}
@@ -132,13 +131,13 @@ module _ (p : PacketTree) (e : Endpoint Carried) (packing : e.endpoint_state.con
 
   refused_emits : (text : List ℕ) → packet_refusal tag p.chunks e.endpoint_state.state ≡ Some text → EmitsP (called call e)
   refused_emits text is =
-      subst EmitsP (sym (ap (λ (r : Option (List ℕ)). packet_if r tag p.chunks (count_packet_at e)) is))
+      subst EmitsP (sym (ap (λ (r : Option (List ℕ)). packet_unless r tag p.chunks (count_packet_at e)) is))
       (each_both P e.endpoint_state.context.emitted.events (OnError ParseFailed text ∷ []) (subst (EachChunk P) (sym quiet) tt) tt)
 
   module _ (none : packet_refusal tag p.chunks e.endpoint_state.state ≡ None) where
     goes : (s : State) → e.endpoint_state.state ≡ s → called call e ≡ on_accepted_packet tag (init_chunk i ∷ []) (at_state s (count_packet_at e).endpoint_state.context (count_packet_at e).draws)
     goes s is =
-        ap (λ (r : Option (List ℕ)). packet_if r tag p.chunks (count_packet_at e)) none
+        ap (λ (r : Option (List ℕ)). packet_unless r tag p.chunks (count_packet_at e)) none
         ∙ (ap (λ (cs : List ChunkTree). on_accepted_packet tag cs (count_packet_at e)) alone
         ∙ ap (λ (u : State). on_accepted_packet tag (init_chunk i ∷ []) (at_state u (count_packet_at e).endpoint_state.context (count_packet_at e).draws)) is)
 

@@ -4,7 +4,7 @@ use Rattle.std.proofs.Common.{◌≡◌, ℕ, not, Bool, true, false, List, [], 
 use Rattle.std.specs.List.{list_all}
 use Rattle.std.proofs.lemmas.Bool.{both_ways, and_parts}
 use Rattle.std.proofs.lemmas.List.Elements.{All-nil, All-cons, All-weaker}
-use Rattle.sctp_packet.specs.Chunk.{ChunkTree, FragmentTree, InitTree, data_chunk, idata_chunk, init_chunk, init_ack_chunk, sack_chunk, cookie_echo_chunk, cookie_ack_chunk, re_config_chunk, forward_tsn_chunk, i_forward_tsn_chunk}
+use Rattle.sctp_packet.specs.Chunk.{ChunkTree, FragmentTree, InitTree, data_chunk, idata_chunk, init_chunk, init_ack_chunk, sack_chunk, cookie_echo_chunk, cookie_ack_chunk, re_config_chunk, forward_tsn_chunk, i_forward_tsn_chunk, fragment_chunk}
 use Rattle.sctp_state.specs.Events.{Event, SendPacket, OnConnected, OnConnectionRestarted, OnError, OnClosed, OnStreamsResetPerformed, OnStreamsResetFailed}
 use Rattle.sctp_state.specs.Events as events
 use Rattle.sctp_state.specs.Options.{Options}
@@ -13,14 +13,13 @@ use Rattle.spec_endpoint.specs.Association.{Tcb, Phase, CookieEchoed, Establishe
 use Rattle.spec_endpoint.specs.Packets.{PacketDraft, add, add_all, header_to}
 use Rattle.spec_endpoint.specs.ResetRequests.{Outcome, Unsettled, Done, Denied, outcome}
 use Rattle.spec_endpoint.specs.StreamReset.{on_outcome}
-use Rattle.spec_endpoint.specs.Sending.{is_before_cookie_ack, data_chunk_of, data_chunks, fast_most, asks_at_once}
+use Rattle.spec_endpoint.specs.Sending.{is_before_cookie_ack, data_chunks, fast_most, asks_at_once}
 use Rattle.spec_endpoint.specs.Laws.{Call, Connect, Shutdown, Restore, called}
-use Rattle.proof_endpoint.specs.Mapped.{Carried}
+use Rattle.proof_endpoint.specs.Mapped.{Carried, as_carried}
 use Rattle.sctp_tx.specs.Resent.{resent_fast}
 use Rattle.sctp_tx.specs.ForwardPoints.{forward_chunk, chunk_if}
 use Rattle.sctp_tx.specs.RetransmissionQueue.{Sender}
 use Rattle.proof_endpoint.specs.Acts.{EndWithPacket, PacketAct, begins, adds_plain, emits, emits_error, counts, before_packets, after_packets, OpeningAct, connects, adds_init, answers_new, answers_waiting, answers_echoed, answers_again, echoes, adds_cookie, establishes, opens, restarts, opens_again, maintains, adds_cookie_ack, before_opening, after_opening, ClosingAct, closes, shuts, shuts_on, before_closing, after_closing, DataAct, takes_data, takes_idata, takes_forward, takes_iforward, before_data, after_data, SackAct, takes_sack, samples, counts_errors, before_sack, after_sack, SendingAct, asks, forces_ack, adds_ack, expires, adds_forward, forwards_later, asks_no_reset, asks_reset, adds_request, sends, sends_fast, before_sending, after_sending, TimeAct, advances, delay_ends, times_out, beats, times_init, times_cookie, times_request, times_items, wakes_request, before_time, after_time, CallAct, accepts, refuses, takes_message, sets_low_threshold, sets_priority, sets_max_message_size, before_call, after_call, ResetAct, prepares, defers, performs, processes, takes_response, adds_responses, before_reset, after_reset, HandoverAct, leaves, takes_up, before_handover, after_handover, InputAct, ends_packet, before_input, after_input, calm, is_opened, is_plain, BringsChunk, fragments_of, HasNoEnd, PreservesUntilEnd}
-use Rattle.proof_pair.specs.Trace.{as_carried}
 use Rattle.proof_pair.proofs.AddedLemmas.{holds_added, holds_all_added}
 use Rattle.proof_pair.proofs.EmittedLemmas.{is_no_packet_or_status, EmitsNoPacketOrStatus}
 use Rattle.proof_pair.proofs.UntilLemmas.{sack_act_emits_no_packet_or_status, sending_act_emits_no_packet_or_status, time_act_emits_no_packet_or_status, call_act_emits_no_packet_or_status, reset_act_emits_no_packet_or_status, no_end, no_end_over, until_end}
@@ -79,15 +78,15 @@ module _ (call : Call) where
   init_may : (s : State) (i : InitTree) → May call s (init_chunk i)
   init_may s i = λ e. cc
 
-  data_may_by : (phase : Phase) (t : Tcb) (is_interleaved is_immediate : Bool) (c : ℕ × FragmentTree) → May call (Open phase t) (data_chunk_of is_interleaved is_immediate c)
+  data_may_by : (phase : Phase) (t : Tcb) (is_interleaved is_immediate : Bool) (c : ℕ × FragmentTree) → May call (Open phase t) (fragment_chunk is_interleaved is_immediate c)
   data_may_by phase t true is_immediate c = λ e. refl
   data_may_by phase t false is_immediate c = λ e. refl
 
   data_may : (phase : Phase) (t : Tcb) (is_interleaved is_immediate : Bool) (cs : List (ℕ × FragmentTree))
-      → All (May call (Open phase t)) (map (data_chunk_of is_interleaved is_immediate) cs)
+      → All (May call (Open phase t)) (map (fragment_chunk is_interleaved is_immediate) cs)
   data_may phase t is_interleaved is_immediate [] = All-nil (May call (Open phase t))
   data_may phase t is_interleaved is_immediate (c ∷ cs) =
-      All-cons (May call (Open phase t)) (data_chunk_of is_interleaved is_immediate c) (map (data_chunk_of is_interleaved is_immediate) cs)
+      All-cons (May call (Open phase t)) (fragment_chunk is_interleaved is_immediate c) (map (fragment_chunk is_interleaved is_immediate) cs)
       (data_may_by phase t is_interleaved is_immediate c) (data_may phase t is_interleaved is_immediate cs)
 
   forward_may : (phase : Phase) (t : Tcb) (b : Bool) (s : Sender) → May call (Open phase t) (chunk_if b s)

@@ -2,7 +2,7 @@
 use Rattle.std.proofs.Common.{◌≡◌, ℕ, zero, suc, ◌+◌, ◌-◌, ◌*◌, ◌/◌, ◌==◌, not, nat_le, nat_lt, Bool, true, false, is_some, Option, Some, None, option_map, List, [], ◌∷◌, length, map, refl, ap, ◌∙◌}
 use Rattle.sctp_serial.specs.declared.types.tsn.Tsn.{Tsn}
 use Rattle.sctp_serial.specs.Unwrapped.{u32_space}
-use Rattle.sctp_packet.specs.Chunk.{ChunkTree, FragmentTree, sack_chunk, forward_tsn_chunk, i_forward_tsn_chunk}
+use Rattle.sctp_packet.specs.Chunk.{ChunkTree, FragmentTree, sack_chunk, forward_tsn_chunk, i_forward_tsn_chunk, fragment_chunk}
 use Rattle.sctp_state.specs.RetransmissionTimeout.{rto}
 use Rattle.sctp_tx_outstanding.specs.OutstandingData.{wire_tsn, fast_items}
 use Rattle.sctp_tx_outstanding.specs.OutstandingData as items
@@ -22,7 +22,7 @@ use Rattle.spec_endpoint.specs.Association.{Tcb, Context, Packing}
 use Rattle.spec_endpoint.specs.Heartbeats.{restart_interval_if}
 use Rattle.spec_endpoint.specs.ResetRequests.{Request, Requests, request_chunk, start_request}
 use Rattle.spec_endpoint.specs.Packets.{PacketDraft, clear_chunks, room, fits, add, add_all, has_chunks, new_packet, emit}
-use Rattle.spec_endpoint.specs.Sending.{Filling, window, selective_ack, take_due_ack, without_duplicates, ack_if, has_data_to_send, with_ack, forward_later, forward_added_if, forward_if, with_expired_abandoned, forward_if_time, with_forward, most_streams, last_assigned, add_reset_breakpoint, request_started, add_request, carrying, request_of, request_at_most, request_unless, with_request, data_chunk_of, asks_at_once, with_fragments, with_data, filled_as, emit_packet, BurstStep, burst_step_if, next_packet, continue_burst, burst, AfterSending, after_sending, sent_by, send_with, send_buffered, fast_most, fast_packet, fast_if, send_lost}
+use Rattle.spec_endpoint.specs.Sending.{Filling, window, selective_ack, take_due_ack, without_duplicates, ack_if, has_data_to_send, with_ack, forward_later, forward_added_if, forward_if, with_expired_abandoned, forward_if_time, with_forward, most_streams, last_assigned, add_reset_breakpoint, request_started, add_request, carrying, request_of, request_at_most, request_unless, with_request, asks_at_once, with_fragments, with_data, filled_as, emit_packet, BurstStep, burst_step_if, next_packet, continue_burst, burst, AfterSending, after_sending, sent_by, send_with, send_buffered, fast_most, fast_packet, fast_if, send_lost}
 use Rattle.proof_draws.specs.NamedChunks.{Names, AreNames, move_by, moved_tsn, named_chunk, named_chunks}
 use Rattle.proof_draws.specs.Names.{named_packet, named_sender, named_request, named_requests, named_tcb, plain}
 use Rattle.proof_draws.proofs.MovedLemmas.{moved_wire, sum_moved}
@@ -91,10 +91,10 @@ module _ (n : Names) where
       ∙ ap (λ (next : ℕ). with_requests u (record (start_request now (rto t.rtt) (move_by n.own (last_assigned s)) streams r) { next = next })) (sum_moved u32_space t.requests.next 1 n.own)
 
   pub data_named : (m is_immediate : Bool) (cs : List (ℕ × FragmentTree))
-      → map (data_chunk_of m is_immediate) (named_pairs n cs) ≡ named_chunks n (map (data_chunk_of m is_immediate) cs)
+      → map (fragment_chunk m is_immediate) (named_pairs n cs) ≡ named_chunks n (map (fragment_chunk m is_immediate) cs)
   data_named m is_immediate [] = refl
-  data_named true is_immediate (c ∷ cs) = ap (λ (xs : List ChunkTree). named_chunk n (data_chunk_of true is_immediate c) ∷ xs) (data_named true is_immediate cs)
-  data_named false is_immediate (c ∷ cs) = ap (λ (xs : List ChunkTree). named_chunk n (data_chunk_of false is_immediate c) ∷ xs) (data_named false is_immediate cs)
+  data_named true is_immediate (c ∷ cs) = ap (λ (xs : List ChunkTree). named_chunk n (fragment_chunk true is_immediate c) ∷ xs) (data_named true is_immediate cs)
+  data_named false is_immediate (c ∷ cs) = ap (λ (xs : List ChunkTree). named_chunk n (fragment_chunk false is_immediate c) ∷ xs) (data_named false is_immediate cs)
 
 -- ---- what a packet is filled with
 
@@ -169,9 +169,9 @@ module _ {P : Type 0} (n : Names) (are : AreNames n) (pack : Packing P) where
       let y : Filling P = named_filling n pack (with_fragments f x) in
       let m : Bool = x.tcb.capabilities.message_interleaving in
       let small : Bool = asks_at_once x.context.options x.tcb.sender in
-      ap (λ (k : ℕ). filled_by y (add_all (map (data_chunk_of m small) (named_pairs n f.chunks)) (named_packet n x.packet)) x k) (length_pairs n f.chunks)
+      ap (λ (k : ℕ). filled_by y (add_all (map (fragment_chunk m small) (named_pairs n f.chunks)) (named_packet n x.packet)) x k) (length_pairs n f.chunks)
       ∙ (ap (λ (cs : List ChunkTree). filled_by y (add_all cs (named_packet n x.packet)) x (length f.chunks)) (data_named n m small f.chunks)
-      ∙ ap (λ (p : PacketDraft). filled_by y p x (length f.chunks)) (named_add_all n are (map (data_chunk_of m small) f.chunks) x.packet))
+      ∙ ap (λ (p : PacketDraft). filled_by y p x (length f.chunks)) (named_add_all n are (map (fragment_chunk m small) f.chunks) x.packet))
 
   with_data_named : (x : Filling P) → with_data (named_filling n pack x) ≡ named_filling n pack (with_data x)
   with_data_named x =
@@ -293,8 +293,8 @@ module _ {P : Type 0} (n : Names) (are : AreNames n) (pack : Packing P) where
       let m : Bool = t.capabilities.message_interleaving in
       let p : PacketDraft = named_packet n (new_packet c.options t) in
       let cs : List (ℕ × FragmentTree) = (resent_fast (fast_most c.options) t.sender).chunks in
-      ap (λ (xs : List (ℕ × FragmentTree)). add_all (map (data_chunk_of m false) xs) p) (fast_chunks_named n (fast_most c.options) t.sender)
-      ∙ (ap (λ (xs : List ChunkTree). add_all xs p) (data_named n m false cs) ∙ named_add_all n are (map (data_chunk_of m false) cs) (new_packet c.options t))
+      ap (λ (xs : List (ℕ × FragmentTree)). add_all (map (fragment_chunk m false) xs) p) (fast_chunks_named n (fast_most c.options) t.sender)
+      ∙ (ap (λ (xs : List ChunkTree). add_all xs p) (data_named n m false cs) ∙ named_add_all n are (map (fragment_chunk m false) cs) (new_packet c.options t))
 
   fast_if_named : (b : Bool) (t : Tcb) (c : Context P) → Knows n pack c → fast_if b (named_tcb n t) (plain pack c) ≡ named_sent n pack (fast_if b t c)
   fast_if_named true t c k =

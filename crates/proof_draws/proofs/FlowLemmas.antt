@@ -11,8 +11,8 @@ use Rattle.spec_endpoint.specs.Association.{Tcb, State, Closed, CookieWait, Open
 use Rattle.spec_endpoint.specs.Shown.{Association}
 use Rattle.spec_endpoint.specs.Input.{my_tag, packet_refusal}
 use Rattle.spec_endpoint.specs.Laws.{Call, ReceivePacket, called}
-use Rattle.proof_endpoint.specs.Mapped.{Carried}
-use Rattle.proof_pair.specs.Trace.{Side, as_carried, as_received, state_of}
+use Rattle.proof_endpoint.specs.Mapped.{Carried, as_carried}
+use Rattle.proof_pair.specs.Trace.{Side, as_received, state_of}
 use Rattle.proof_pair.specs.Agreement.{Draw as Drawn}
 use Rattle.proof_pair.proofs.JoinLemmas.{Draw, view_of, Faces}
 use Rattle.proof_draws.specs.NamedChunks.{Names, flip, named_chunk, named_chunks, named_parameter}

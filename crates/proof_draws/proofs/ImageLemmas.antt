@@ -6,12 +6,12 @@ use Rattle.spec_endpoint.specs.Association.{State, Context, EndpointState, Endpo
 use Rattle.spec_endpoint.specs.Opening.{emit_parse_error}
 use Rattle.spec_endpoint.specs.Input.{count_packet_at, count_packet}
 use Rattle.spec_endpoint.specs.Laws.{Call, called}
-use Rattle.proof_endpoint.specs.Mapped.{Carried, map_event, map_context}
+use Rattle.proof_endpoint.specs.Mapped.{Carried, map_event, map_context, as_carried}
 use Rattle.proof_pair.specs.Trace.{Side, drain, state_of}
 use Rattle.proof_draws.specs.NamedChunks.{Names, AreNames}
 use Rattle.proof_draws.specs.Names.{named_state, plain, with_random}
 use Rattle.proof_draws.specs.NamedCalls.{named_call, CallIsNamed, EachCallIsNamed}
-use Rattle.proof_draws.specs.Images.{as_carried, named_carried, as_named, image}
+use Rattle.proof_draws.specs.Images.{named_carried, as_named, image}
 use Rattle.proof_draws.specs.Alike.{IsAlike, AreEventsAlike, AreAlike}
 
 abbrev pub endpoint_state : State → Context Carried → EndpointState Carried

@@ -11,10 +11,10 @@ use Rattle.spec_endpoint.specs.Association.{Tcb, Phase, CookieEchoed, Establishe
 use Rattle.sctp_rx.specs.DataTracker.{is_ack_due}
 use Rattle.spec_endpoint.specs.Sending.{take_due_ack}
 use Rattle.spec_endpoint.specs.Opening.{tsn_from, tag_from, word, drew_word, cookie_for}
-use Rattle.spec_endpoint.specs.Input.{packet_refusal, count_packet_at, packet_if, in_endpoint_state, repeats_if, receive_all, on_accepted_packet, ack_if_due, at_end, shut_if, on_packet_end}
+use Rattle.spec_endpoint.specs.Input.{packet_refusal, count_packet_at, packet_unless, in_endpoint_state, repeats_if, receive_all, on_accepted_packet, ack_if_due, at_end, shut_if, on_packet_end}
 use Rattle.spec_endpoint.specs.Laws.{Call, ReceivePacket, called, is_closed}
-use Rattle.proof_endpoint.specs.Mapped.{Carried}
-use Rattle.proof_pair.specs.Trace.{Side, AreValidOptions, as_carried, as_received, state_of}
+use Rattle.proof_endpoint.specs.Mapped.{Carried, as_carried}
+use Rattle.proof_pair.specs.Trace.{Side, AreValidOptions, as_received, state_of}
 use Rattle.proof_pair.specs.Agreement.{Draw as Drawn, Has}
 use Rattle.proof_pair.proofs.JoinLemmas.{Draw, IsDraw, drawn_is, init_by, cookie_by, IsInit}
 use Rattle.proof_pair.proofs.TraceLemmas.{seen}
@@ -101,7 +101,7 @@ module _ (ps : List (Drawn × Drawn)) (k : Knows ps) (law : EachCallIsNamed) (o 
   stays_open h =
       let tag : ℕ = p.header.verification_tag in
       let e : Endpoint Carried = count_packet_at x.end in
-      ap (λ (a : Option (List ℕ)). is_closed (packet_if a tag received e).endpoint_state.state) none
+      ap (λ (a : Option (List ℕ)). is_closed (packet_unless a tag received e).endpoint_state.state) none
       ∙ (ap (λ (cs : List ChunkTree). is_closed (on_accepted_packet tag cs e).endpoint_state.state) received_alone
       ∙ init_leaves tag i (state_of x) e.endpoint_state.context e.draws h)
 

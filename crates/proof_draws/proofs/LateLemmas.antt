@@ -12,7 +12,7 @@ use Rattle.spec_endpoint.specs.Packets.{add, new_packet}
 use Rattle.spec_endpoint.specs.Sending.{AfterSending, is_before_cookie_ack, selective_ack, take_due_ack, without_duplicates, send_with}
 use Rattle.spec_endpoint.specs.Shutdown.{pending_next, received_next, maybe_send_shutdown_or_ack, is_quiet}
 use Rattle.spec_endpoint.specs.Opening.{tag_from, word, next_first, cookie_for}
-use Rattle.spec_endpoint.specs.Input.{my_tag, packet_refusal, count_packet_at, packet_if, on_accepted_packet, in_endpoint_state, repeats_if, has_data_chunk, ack_if_due, at_end, shut_if, on_packet_end}
+use Rattle.spec_endpoint.specs.Input.{my_tag, packet_refusal, count_packet_at, packet_unless, on_accepted_packet, in_endpoint_state, repeats_if, has_data_chunk, ack_if_due, at_end, shut_if, on_packet_end}
 use Rattle.spec_endpoint.specs.Laws.{Call, ReceivePacket, called, is_closed}
 use Rattle.proof_endpoint.specs.Mapped.{Carried}
 use Rattle.proof_pair.specs.Trace.{Side, as_received, state_of}
@@ -245,7 +245,7 @@ module _ (ps : List (Drawn × Drawn)) (k : Knows ps) (law : EachCallIsNamed) whe
       } in
       let e : Endpoint Carried = count_packet_at x.end in
       let after : (P : State → Bool) → P (called call x.end).endpoint_state.state ≡ P (on_accepted_packet tag (init_chunk i ∷ []) (at_state (Open phase u) e.endpoint_state.context e.draws)).endpoint_state.state =
-      λ P. ap (λ (a : Option (List ℕ)). P (packet_if a tag (map carried p.chunks) e).endpoint_state.state) none
+      λ P. ap (λ (a : Option (List ℕ)). P (packet_unless a tag (map carried p.chunks) e).endpoint_state.state) none
       ∙ (ap (λ (cs : List ChunkTree). P (on_accepted_packet tag cs e).endpoint_state.state) received
       ∙ ap (λ (a : State). P (on_accepted_packet tag (init_chunk i ∷ []) (at_state a e.endpoint_state.context e.draws)).endpoint_state.state) is) in
       record {

@@ -3,13 +3,13 @@ use Rattle.std.proofs.Common.{◌≡◌, ℕ, Option, is_some, List, refl, ap, �
 use Rattle.rand_core.specs.Stream.{Stream}
 use Rattle.sctp_packet.specs.Chunk.{ChunkTree}
 use Rattle.spec_endpoint.specs.Association.{Context, EndpointState, Endpoint, Packing}
-use Rattle.spec_endpoint.specs.Input.{packet_refusal, count_packet_at, packet_if}
+use Rattle.spec_endpoint.specs.Input.{packet_refusal, count_packet_at, packet_unless}
 use Rattle.spec_endpoint.specs.Laws.{Call, Connect, Close, Shutdown, Send, SendMany, ResetStreams, TakeMessage, SetLowThreshold, SetPriority, SetMaxMessageSize, Advance, HandOver, Restore, ReceivePacket, ReceiveNoPacket, called}
-use Rattle.proof_endpoint.specs.Mapped.{Carried, map_context, map_endpoint_state}
+use Rattle.proof_endpoint.specs.Mapped.{Carried, map_context, map_endpoint_state, as_carried}
 use Rattle.proof_endpoint.proofs.MappedLemmas.{maps_called}
 use Rattle.proof_draws.specs.NamedChunks.{Names, AreNames, flip, named_chunks}
 use Rattle.proof_draws.specs.Names.{named_state, named_endpoint_state, with_random}
-use Rattle.proof_draws.specs.Images.{as_carried, named_carried, as_named, image}
+use Rattle.proof_draws.specs.Images.{named_carried, as_named, image}
 use Rattle.proof_draws.specs.NamedCalls.{named_call, CallIsNamed, EachCallIsNamed, EachRefusalIsNamed}
 use Rattle.proof_draws.proofs.WritingLemmas.{Knows}
 use Rattle.proof_draws.proofs.TagLemmas.{refused_named}
@@ -62,6 +62,6 @@ each_refusal n are p s w v text e =
     record {
       text = text;
       named_text = other.0;
-      first = ap (λ (o : Option (List ℕ)). packet_if o tag p.chunks (count_packet_at (with_random w s))) e;
-      second = ap (λ (o : Option (List ℕ)). packet_if o (n.tag tag) ds (count_packet_at (with_random v (image n s)))) other.1;
+      first = ap (λ (o : Option (List ℕ)). packet_unless o tag p.chunks (count_packet_at (with_random w s))) e;
+      second = ap (λ (o : Option (List ℕ)). packet_unless o (n.tag tag) ds (count_packet_at (with_random v (image n s)))) other.1;
     }

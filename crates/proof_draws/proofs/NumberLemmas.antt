@@ -30,8 +30,8 @@ use Rattle.spec_endpoint.specs.Data.{on_data_in, on_data_if, on_data, accepts_fr
 use Rattle.spec_endpoint.specs.Sack.{clean_blocks, sample_rtt, after_sack, on_sack_in, is_late, sampled_unless}
 use Rattle.spec_endpoint.specs.Sack as acks
 use Rattle.spec_endpoint.specs.Opening.{on_cookie_ack, enter_connected, tcb_by, queue_for, cookie_ack, anew, maintain_existing, maintain_existing_in, restarts, restarts_in, restart, CookieResolution, EstablishNew, RestartDetected, SimultaneousInit, MaintainExisting, Discard, InvalidTag, resolve_cookie, on_resolution, on_read_cookie, on_cookie_echo, long_word}
-use Rattle.spec_endpoint.specs.StreamReset.{Handling, handling, is_ahead, resets_if, outgoing_by, incoming_if, on_parameter, is_outgoing, HandledParameters, handle_next, handle_all, send_responses, finish_reconfig_if, on_reconfig}
-use Rattle.spec_endpoint.specs.Input.{violation, on_unknown_if, is_reported, on_heartbeat, on_chunk, received_if, receive, repeats, repeats_if}
+use Rattle.spec_endpoint.specs.StreamReset.{Handling, handling, is_ahead, resets_unless, outgoing_by, incoming_if, on_parameter, is_outgoing, HandledParameters, handle_next, handle_all, send_responses, finish_reconfig_if, on_reconfig}
+use Rattle.spec_endpoint.specs.Input.{violation, on_unknown_if, is_reported, on_heartbeat, on_chunk, received_unless, receive, repeats, repeats_if}
 use Rattle.sctp_wire.specs.Cause.{CauseTree}
 use Rattle.proof_draws.specs.Laws.{NumberFits, NumbersFit, NumbersFitIn, number_fits, is_flowing}
 use Rattle.proof_endpoint.proofs.RowMapsLemmas.{endpoint_state_in}
@@ -220,7 +220,7 @@ module _ {P : Type 0} where
   unknown_fits false typ flags value s h = h
 
   resets_fit : (b : Bool) (number last_tsn : ℕ) (streams : List StreamId) (x : Handling P) → number < u32_space → NumbersFit x.tcb.requests
-      → NumbersFit (resets_if b number last_tsn streams x).tcb.requests
+      → NumbersFit (resets_unless b number last_tsn streams x).tcb.requests
   resets_fit true number last_tsn streams x k h = record { next = h.next; current = h.current; last = k }
   resets_fit false number last_tsn streams x k h = record { next = h.next; current = h.current; last = k }
 
@@ -298,14 +298,14 @@ module _ {P : Type 0} where
   chunk_fits tag (i_forward_tsn_chunk tsn skipped) e k h = forward_in_fits e.endpoint_state.state tsn skipped h
   chunk_fits tag (unknown_chunk typ flags value) e k h = unknown_fits (is_reported typ) typ flags value e.endpoint_state h
 
-  received_if_fits : (o : Option (List ℕ)) (tag : ℕ) (chunk : ChunkTree) (e : Endpoint P) → is_flowing chunk ≡ true → NumbersFitIn e.endpoint_state.state
-      → NumbersFitIn (received_if o tag chunk e).end.endpoint_state.state
-  received_if_fits (Some reason) tag chunk e k h = where_fits (λ phase t c. abort_for_violation reason t c) e.endpoint_state (λ phase t c j. tt) h
-  received_if_fits None tag chunk e k h = chunk_fits tag chunk e k h
+  received_unless_fits : (o : Option (List ℕ)) (tag : ℕ) (chunk : ChunkTree) (e : Endpoint P) → is_flowing chunk ≡ true → NumbersFitIn e.endpoint_state.state
+      → NumbersFitIn (received_unless o tag chunk e).end.endpoint_state.state
+  received_unless_fits (Some reason) tag chunk e k h = where_fits (λ phase t c. abort_for_violation reason t c) e.endpoint_state (λ phase t c j. tt) h
+  received_unless_fits None tag chunk e k h = chunk_fits tag chunk e k h
 
   pub receive_fits : (tag : ℕ) (chunk : ChunkTree) (e : Endpoint P) → is_flowing chunk ≡ true → NumbersFitIn e.endpoint_state.state
       → NumbersFitIn (receive tag chunk e).end.endpoint_state.state
-  receive_fits tag chunk e k h = received_if_fits (violation e.endpoint_state.state chunk) tag chunk e k h
+  receive_fits tag chunk e k h = received_unless_fits (violation e.endpoint_state.state chunk) tag chunk e k h
 
   repeats_fit : OpenFits {P = P} repeats
   repeats_fit (CookieEchoed t1 cookie) t c h = h

@@ -6,7 +6,8 @@ use Rattle.spec_endpoint.specs.Association.{State, Closed, CookieWait, Open}
 use Rattle.spec_endpoint.specs.Opening.{connect_in}
 use Rattle.spec_endpoint.specs.Input.{my_tag}
 use Rattle.spec_endpoint.specs.Laws.{Call, Connect, Close, Shutdown, Send, SendMany, ResetStreams, TakeMessage, SetLowThreshold, SetPriority, SetMaxMessageSize, Advance, HandOver, Restore, ReceivePacket, ReceiveNoPacket, called}
-use Rattle.proof_pair.specs.Trace.{Side, as_carried, MayCall, state_of}
+use Rattle.proof_pair.specs.Trace.{Side, MayCall, state_of}
+use Rattle.proof_endpoint.specs.Mapped.{as_carried}
 use Rattle.proof_pair.specs.Agreement.{Draw, Has}
 use Rattle.proof_draws.specs.NamedChunks.{Names}
 use Rattle.proof_draws.specs.Names.{named_state}

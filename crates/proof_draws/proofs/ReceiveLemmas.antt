@@ -21,7 +21,7 @@ use Rattle.spec_endpoint.specs.Sack.{clean_blocks, sample_rtt, after_sack, on_sa
 use Rattle.spec_endpoint.specs.Sack as acks
 use Rattle.spec_endpoint.specs.Opening.{on_cookie_ack, with_endpoint_state, enter_connected}
 use Rattle.spec_endpoint.specs.StreamReset.{on_reconfig}
-use Rattle.spec_endpoint.specs.Input.{misuse, violation, is_reported, unrecognized_chunk_error, report_unrecognized_in, emit_unknown_chunk_error, on_unknown_if, on_unknown, on_heartbeat, AfterChunk, in_endpoint_state, on_chunk, allows_next, received_if, receive, receive_rest, receive_all, has_data_chunk, repeats, repeats_if, on_packet_end, on_accepted_packet}
+use Rattle.spec_endpoint.specs.Input.{misuse, violation, is_reported, unrecognized_chunk_error, report_unrecognized_in, emit_unknown_chunk_error, on_unknown_if, on_unknown, on_heartbeat, AfterChunk, in_endpoint_state, on_chunk, allows_next, received_unless, receive, receive_rest, receive_all, has_data_chunk, repeats, repeats_if, on_packet_end, on_accepted_packet}
 use Rattle.proof_draws.specs.NamedChunks.{Names, AreNames, flip, move_by, named_parameter, named_sack, named_chunk, named_chunks}
 use Rattle.proof_draws.specs.Names.{named_state, named_endpoint_state, named_end, plain}
 use Rattle.proof_draws.specs.Laws.{NumbersFitIn, number_fits, is_flowing}
@@ -176,10 +176,10 @@ module _ {P : Type 0} where
   chunk_stays tag (i_forward_tsn_chunk tsn skipped) e h = refl
   chunk_stays tag (unknown_chunk typ flags value) e h = unknown_stays (is_reported typ) typ flags value e.endpoint_state
 
-  received_if_stays : (o : Option (List ℕ)) (tag : ℕ) (chunk : ChunkTree) (e : Endpoint P) → is_flowing chunk ≡ true → (received_if o tag chunk e).end.endpoint_state.context.pack ≡ e.endpoint_state.context.pack
-  received_if_stays (Some reason) tag chunk e h =
+  received_unless_stays : (o : Option (List ℕ)) (tag : ℕ) (chunk : ChunkTree) (e : Endpoint P) → is_flowing chunk ≡ true → (received_unless o tag chunk e).end.endpoint_state.context.pack ≡ e.endpoint_state.context.pack
+  received_unless_stays (Some reason) tag chunk e h =
       where_stays (λ phase t c. abort_for_violation reason t c) e.endpoint_state (λ phase t c. emit_stays (add (abort_chunk false (protocol_violation reason ∷ [])) (new_packet c.options t)) c)
-  received_if_stays None tag chunk e h = chunk_stays tag chunk e h
+  received_unless_stays None tag chunk e h = chunk_stays tag chunk e h
 
   rest_stays : (rest : Endpoint P → Endpoint P) (b : Bool) (e : Endpoint P) → ((x : Endpoint P) → (rest x).endpoint_state.context.pack ≡ x.endpoint_state.context.pack)
       → (receive_rest rest (received_as b e)).endpoint_state.context.pack ≡ e.endpoint_state.context.pack
@@ -191,7 +191,7 @@ module _ {P : Type 0} where
   all_stay tag (c ∷ cs) e h =
       let both = and_parts (is_flowing c) (list_all is_flowing cs) h in
       let x : AfterChunk P = receive tag c e in
-      rest_stays (receive_all tag cs) x.allows_next x.end (λ y. all_stay tag cs y both.1) ∙ received_if_stays (violation e.endpoint_state.state c) tag c e both.0
+      rest_stays (receive_all tag cs) x.allows_next x.end (λ y. all_stay tag cs y both.1) ∙ received_unless_stays (violation e.endpoint_state.state c) tag c e both.0
 
   repeats_stay : (phase : Phase) (t : Tcb) (c : Context P) → (repeats phase t c).context.pack ≡ c.pack
   repeats_stay (CookieEchoed t1 cookie) t c = refl
@@ -318,11 +318,11 @@ module _ {P : Type 0} (n : Names) (are : AreNames n) (pack : Packing P) where
   chunk_named tag (i_forward_tsn_chunk tsn skipped) e h f knows = on_named (on_forward tsn skipped) (on_forward (move_by n.peer tsn) skipped) e (named_forward n pack tsn skipped e.endpoint_state)
   chunk_named tag (unknown_chunk typ flags value) e h f knows = on_named (on_unknown typ flags value) (on_unknown typ flags value) e (unknown_named (is_reported typ) typ flags value e.endpoint_state knows)
 
-  received_if_named : (o : Option (List ℕ)) (tag : ℕ) (chunk : ChunkTree) (e : Endpoint P) → is_flowing chunk ≡ true → NumbersFitIn e.endpoint_state.state → Knows n pack e.endpoint_state.context
-      → received_if o (n.tag tag) (named_chunk (flip n) chunk) (named_end n pack e) ≡ received_as (received_if o tag chunk e).allows_next (named_end n pack (received_if o tag chunk e).end)
-  received_if_named (Some reason) tag chunk e h f k =
+  received_unless_named : (o : Option (List ℕ)) (tag : ℕ) (chunk : ChunkTree) (e : Endpoint P) → is_flowing chunk ≡ true → NumbersFitIn e.endpoint_state.state → Knows n pack e.endpoint_state.context
+      → received_unless o (n.tag tag) (named_chunk (flip n) chunk) (named_end n pack e) ≡ received_as (received_unless o tag chunk e).allows_next (named_end n pack (received_unless o tag chunk e).end)
+  received_unless_named (Some reason) tag chunk e h f k =
       ap (λ (x : Endpoint P). received_as false x) (on_open (λ phase t c. abort_for_violation reason t c) e (λ phase t c knows. abort_for_violation_named n are pack reason t c knows) k)
-  received_if_named None tag chunk e h f k =
+  received_unless_named None tag chunk e h f k =
       let avoids : Bool = e.endpoint_state.context.options.avoid_stalls in
       let st : State = e.endpoint_state.state in
       ap (λ (b : Bool). received_as b (on_chunk (n.tag tag) (named_chunk (flip n) chunk) (named_end n pack e))) (goes_on_named (flip n) avoids tag (n.tag tag) st (named_state n st) chunk h)
@@ -331,8 +331,8 @@ module _ {P : Type 0} (n : Names) (are : AreNames n) (pack : Packing P) where
   receive_named : (tag : ℕ) (chunk : ChunkTree) (e : Endpoint P) → is_flowing chunk ≡ true → NumbersFitIn e.endpoint_state.state → Knows n pack e.endpoint_state.context
       → receive (n.tag tag) (named_chunk (flip n) chunk) (named_end n pack e) ≡ received_as (receive tag chunk e).allows_next (named_end n pack (receive tag chunk e).end)
   receive_named tag chunk e h f k =
-      ap (λ (o : Option (List ℕ)). received_if o (n.tag tag) (named_chunk (flip n) chunk) (named_end n pack e)) (violation_named n (flip n) e.endpoint_state.state chunk)
-      ∙ received_if_named (violation e.endpoint_state.state chunk) tag chunk e h f k
+      ap (λ (o : Option (List ℕ)). received_unless o (n.tag tag) (named_chunk (flip n) chunk) (named_end n pack e)) (violation_named n (flip n) e.endpoint_state.state chunk)
+      ∙ received_unless_named (violation e.endpoint_state.state chunk) tag chunk e h f k
 
   rest_named : (rest named : Endpoint P → Endpoint P) (b : Bool) (e : Endpoint P) → named (named_end n pack e) ≡ named_end n pack (rest e)
       → receive_rest named (received_as b (named_end n pack e)) ≡ named_end n pack (receive_rest rest (received_as b e))
@@ -347,7 +347,7 @@ module _ {P : Type 0} (n : Names) (are : AreNames n) (pack : Packing P) where
       let x : AfterChunk P = receive tag c e in
       ap (λ (y : AfterChunk P). receive_rest (receive_all (n.tag tag) (named_chunks (flip n) cs)) y) (receive_named tag c e both.0 f k)
       ∙ rest_named (receive_all tag cs) (receive_all (n.tag tag) (named_chunks (flip n) cs)) x.allows_next x.end
-      (all_named tag cs x.end both.1 (receive_fits tag c e both.0 f) (received_if_stays (violation e.endpoint_state.state c) tag c e both.0 ∙ k))
+      (all_named tag cs x.end both.1 (receive_fits tag c e both.0 f) (received_unless_stays (violation e.endpoint_state.state c) tag c e both.0 ∙ k))
 
   pub repeats_if_named : (b : Bool) (s : EndpointState P) → Knows n pack s.context → repeats_if b (named_endpoint_state n pack s) ≡ named_endpoint_state n pack (repeats_if b s)
   repeats_if_named true s k = where_named n are pack repeats s (repeats_named n are pack) k

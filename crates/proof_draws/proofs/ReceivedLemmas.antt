@@ -5,11 +5,11 @@ use Rattle.sctp_packet.specs.Grammar.{carried}
 use Rattle.sctp_packet.specs.Packet.{PacketTree}
 use Rattle.spec_endpoint.specs.Association.{CookieEchoed, Established, ShutdownPending, ShutdownSent, ShutdownReceived, ShutdownAckSent, State, Closed, CookieWait, Open, Endpoint}
 use Rattle.spec_endpoint.specs.Opening.{emit_parse_error}
-use Rattle.spec_endpoint.specs.Input.{my_tag, has_tag_in, abort_flag, complete_flag, has_shutdown_ack, begins_with_cookie, is_single_init, is_early, unless, plain_refusal, has_more_counted, unless_many, packet_refusal_by, packet_refusal, count_packet_at, packet_if}
+use Rattle.spec_endpoint.specs.Input.{my_tag, has_tag_in, abort_flag, complete_flag, has_shutdown_ack, begins_with_cookie, is_single_init, is_early, unless, plain_refusal, has_more_counted, unless_many, packet_refusal_by, packet_refusal, count_packet_at, packet_unless}
 use Rattle.spec_endpoint.specs.Laws.{Call, ReceivePacket, called}
-use Rattle.proof_endpoint.specs.Mapped.{Carried}
+use Rattle.proof_endpoint.specs.Mapped.{Carried, as_carried}
 use Rattle.proof_endpoint.specs.Acts.{BringsChunk}
-use Rattle.proof_pair.specs.Trace.{Side, as_carried, as_received, state_of}
+use Rattle.proof_pair.specs.Trace.{Side, as_received, state_of}
 use Rattle.proof_pair.specs.Agreement.{Draw}
 use Rattle.proof_pair.proofs.AddedLemmas.{all_at}
 use Rattle.proof_pair.proofs.TraceLemmas.{packet_of}
@@ -93,7 +93,7 @@ some_text (Some text) h = record { text = text; is = refl }
 
 refused_end : (tag : ℕ) (cs : List ChunkTree) (e : Endpoint Carried) (text : List ℕ) → packet_refusal tag cs e.endpoint_state.state ≡ Some text
     → on_chunks tag cs e ≡ emit_parse_error text (count_packet_at e)
-refused_end tag cs e text is = ap (λ (r : Option (List ℕ)). packet_if r tag cs (count_packet_at e)) is
+refused_end tag cs e text is = ap (λ (r : Option (List ℕ)). packet_unless r tag cs (count_packet_at e)) is
 
 module _ (ps : List (Draw × Draw)) (k : Knows ps) (x z : Side) (p q : Carried) (checksum other : ℕ) (mine peer : ℕ) (tie cookie_tie : ℕ → ℕ)
     (named : q ≡ named_carried (names ps mine peer tie cookie_tie) p) (own_tie : ℕ → ℕ)

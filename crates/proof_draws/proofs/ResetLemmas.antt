@@ -20,7 +20,7 @@ use Rattle.spec_endpoint.specs.Packets.{emit_event_in}
 use Rattle.spec_endpoint.specs.ResetRequests.{Request, Requests, nothing_to_do, performed, bad_number, in_progress, is_final, Outcome, Unsettled, Done, Denied, outcome_if, outcome, end_or_defer, response_if, handle_response_in, handle_response, is_last_request, is_next_request, is_known_request, next_number}
 use Rattle.spec_endpoint.specs.Sending.{AfterSending, is_before_cookie_ack, open_with, send_buffered}
 use Rattle.spec_endpoint.specs.StreamReset as resets_rows
-use Rattle.spec_endpoint.specs.StreamReset.{Handling, handling, respond, process, is_ahead, resets_if, resets, outgoing_by, on_outgoing, incoming_if, on_outcome, on_response, is_outgoing, on_parameter, HandledParameters, handle_next, handle_all, send_responses, finish_reconfig_if, finish_reconfig, on_reconfig}
+use Rattle.spec_endpoint.specs.StreamReset.{Handling, handling, respond, process, is_ahead, resets_unless, resets, outgoing_by, on_outgoing, incoming_if, on_outcome, on_response, is_outgoing, on_parameter, HandledParameters, handle_next, handle_all, send_responses, finish_reconfig_if, finish_reconfig, on_reconfig}
 use Rattle.proof_draws.specs.NamedChunks.{Names, AreNames, flip, move_by, named_parameter}
 use Rattle.proof_draws.specs.Names.{named_phase, named_reassembly, named_request, named_requests, named_tcb, named_endpoint_state, plain}
 use Rattle.proof_draws.specs.Laws.{NumberFits, NumbersFit, number_fits}
@@ -140,7 +140,7 @@ module _ {P : Type 0} where
   outcome_stays (Done streams) c = refl
   outcome_stays (Denied streams) c = refl
 
-  resets_stay : (b : Bool) (number last_tsn : ℕ) (streams : List StreamId) (x : Handling P) → (resets_if b number last_tsn streams x).context.pack ≡ x.context.pack
+  resets_stay : (b : Bool) (number last_tsn : ℕ) (streams : List StreamId) (x : Handling P) → (resets_unless b number last_tsn streams x).context.pack ≡ x.context.pack
   resets_stay true number last_tsn streams x = refl
   resets_stay false number last_tsn streams x = refl
 
@@ -197,13 +197,13 @@ module _ {P : Type 0} (n : Names) (are : AreNames n) (pack : Packing P) where
   process_named : (number result : ℕ) (x : Handling P) → process (move_by n.peer number) result (named_handling n pack x) ≡ named_handling n pack (process number result x)
   process_named number result x = respond_named number result (record x { tcb = with_requests x.tcb (record x.tcb.requests { last = number; result = result }) })
 
-  resets_if_named : (b : Bool) (number last_tsn : ℕ) (streams : List StreamId) (x : Handling P)
-      → resets_if b (move_by n.peer number) (move_by n.peer last_tsn) streams (named_handling n pack x) ≡ named_handling n pack (resets_if b number last_tsn streams x)
-  resets_if_named true number last_tsn streams x =
+  resets_unless_named : (b : Bool) (number last_tsn : ℕ) (streams : List StreamId) (x : Handling P)
+      → resets_unless b (move_by n.peer number) (move_by n.peer last_tsn) streams (named_handling n pack x) ≡ named_handling n pack (resets_unless b number last_tsn streams x)
+  resets_unless_named true number last_tsn streams x =
       let y : Handling P = named_handling n pack x in
       ap (λ (r : Reassembly). process (move_by n.peer number) in_progress (record y { tcb = with_reassembly y.tcb r })) (defer_named n last_tsn streams x.tcb.reassembly)
       ∙ process_named number in_progress (record x { tcb = with_reassembly x.tcb (defer last_tsn streams x.tcb.reassembly) })
-  resets_if_named false number last_tsn streams x =
+  resets_unless_named false number last_tsn streams x =
       let y : Handling P = named_handling n pack x in
       ap (λ (r : Reassembly). process (move_by n.peer number) performed (record y { tcb = with_reassembly y.tcb r; context = plain pack (said streams x.context) })) (reset_named n streams x.tcb.reassembly)
       ∙ process_named number performed (record x { tcb = with_reassembly x.tcb (reset streams x.tcb.reassembly); context = said streams x.context })
@@ -211,8 +211,8 @@ module _ {P : Type 0} (n : Names) (are : AreNames n) (pack : Packing P) where
   resets_named : (number last_tsn : ℕ) (streams : List StreamId) (x : Handling P)
       → resets (move_by n.peer number) (move_by n.peer last_tsn) streams (named_handling n pack x) ≡ named_handling n pack (resets number last_tsn streams x)
   resets_named number last_tsn streams x =
-      ap (λ (k : ℕ). resets_if (nat_lt x.tcb.tracker.tracker.seen.front k) (move_by n.peer number) (move_by n.peer last_tsn) streams (named_handling n pack x)) (received_number n x.tcb.tracker last_tsn)
-      ∙ resets_if_named (is_ahead last_tsn x.tcb) number last_tsn streams x
+      ap (λ (k : ℕ). resets_unless (nat_lt x.tcb.tracker.tracker.seen.front k) (move_by n.peer number) (move_by n.peer last_tsn) streams (named_handling n pack x)) (received_number n x.tcb.tracker last_tsn)
+      ∙ resets_unless_named (is_ahead last_tsn x.tcb) number last_tsn streams x
 
   outgoing_by_named : (a b d : Bool) (number last_tsn : ℕ) (streams : List StreamId) (x : Handling P)
       → outgoing_by a b d (move_by n.peer number) (move_by n.peer last_tsn) streams (named_handling n pack x) ≡ named_handling n pack (outgoing_by a b d number last_tsn streams x)

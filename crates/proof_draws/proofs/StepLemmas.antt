@@ -13,7 +13,7 @@ use Rattle.spec_endpoint.specs.Sending.{is_before_cookie_ack}
 use Rattle.spec_endpoint.specs.Opening.{tsn_from, tag_from, word, drew_word, emit_parse_error}
 use Rattle.spec_endpoint.specs.Input.{count_packet_at, count_packet}
 use Rattle.spec_endpoint.specs.Laws.{Call, ReceivePacket, called, is_closed}
-use Rattle.proof_endpoint.specs.Mapped.{Carried}
+use Rattle.proof_endpoint.specs.Mapped.{Carried, as_carried}
 use Rattle.proof_endpoint.specs.Acts.{is_opened}
 use Rattle.proof_pair.specs.Trace.{Side, packets_in, drain, state_of}
 use Rattle.proof_pair.specs.Agreement.{Draw as Drawn}
@@ -21,7 +21,7 @@ use Rattle.proof_pair.proofs.JoinLemmas.{Draw, Both, view_of, IsInitAck, Says}
 use Rattle.proof_pair.proofs.TraceLemmas.{SaysAll}
 use Rattle.proof_pair.proofs.AgreeLemmas.{is_load}
 use Rattle.proof_draws.specs.Names.{named_state}
-use Rattle.proof_draws.specs.Images.{as_carried, image}
+use Rattle.proof_draws.specs.Images.{image}
 use Rattle.proof_draws.specs.Pairing.{names, Knows}
 use Rattle.proof_draws.proofs.NamesLemmas.{same_tie, names_in, TagsAre, state_by, are_names}
 use Rattle.proof_draws.proofs.ImageLemmas.{Mirrors, named, refused, emitted_under, asked_as, taken}

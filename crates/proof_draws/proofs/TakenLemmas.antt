@@ -8,7 +8,7 @@ use Rattle.sctp_packet.specs.Packet.{PacketTree}
 use Rattle.sctp_capabilities.specs.StateCookie.{Cookie}
 use Rattle.spec_endpoint.specs.Association.{Tcb, Phase, CookieEchoed, Established, ShutdownPending, ShutdownSent, ShutdownReceived, ShutdownAckSent, State, Closed, CookieWait, Open, Context, EndpointState, Endpoint, with_context, where_open, Packing}
 use Rattle.spec_endpoint.specs.Opening.{resolve_cookie}
-use Rattle.spec_endpoint.specs.Input.{packet_refusal, violation, on_chunk, allows_next, AfterChunk, received_if, receive, receive_rest, receive_all, has_data_chunk, repeats_if, on_packet_end, on_accepted_packet, count_packet, count_packet_at, packet_if, on_packet}
+use Rattle.spec_endpoint.specs.Input.{packet_refusal, violation, on_chunk, allows_next, AfterChunk, received_unless, receive, receive_rest, receive_all, has_data_chunk, repeats_if, on_packet_end, on_accepted_packet, count_packet, count_packet_at, packet_unless, on_packet}
 use Rattle.proof_endpoint.proofs.OpeningStepsLemmas.{steps_init, steps_init_ack, steps_cookie_echo}
 use Rattle.proof_endpoint.proofs.RowMapsLemmas.{endpoint_state_in}
 use Rattle.proof_endpoint.proofs.InputMapsLemmas.{received_as}
@@ -51,7 +51,7 @@ module _ {P : Type 0} (v : Stream) where
   chunk_quiet tag (unknown_chunk typ flags value) e h = refl
 
   received_quiet : (o : Option (List ℕ)) (tag : ℕ) (chunk : ChunkTree) (e : Endpoint P) → is_flowing chunk ≡ true
-      → received_if o tag chunk (worded v e) ≡ received_as (received_if o tag chunk e).allows_next (worded v (received_if o tag chunk e).end)
+      → received_unless o tag chunk (worded v e) ≡ received_as (received_unless o tag chunk e).allows_next (worded v (received_unless o tag chunk e).end)
   received_quiet (Some reason) tag chunk e h = refl
   received_quiet None tag chunk e h = ap (λ (x : Endpoint P). received_as (allows_next e.endpoint_state.context.options.avoid_stalls tag e.endpoint_state.state chunk) x) (chunk_quiet tag chunk e h)
 
@@ -75,7 +75,7 @@ module _ {P : Type 0} where
   first_received : (tag : ℕ) (c : ChunkTree) (cs : List ChunkTree) (e : Endpoint P) → violation e.endpoint_state.state c ≡ None
       → receive_all tag (c ∷ cs) e
       ≡ receive_rest (receive_all tag cs) (received_as (allows_next e.endpoint_state.context.options.avoid_stalls tag e.endpoint_state.state c) (on_chunk tag c e))
-  first_received tag c cs e allowed = ap (λ (o : Option (List ℕ)). receive_rest (receive_all tag cs) (received_if o tag c e)) allowed
+  first_received tag c cs e allowed = ap (λ (o : Option (List ℕ)). receive_rest (receive_all tag cs) (received_unless o tag c e)) allowed
 
 init_allowed : (st : State) (i : InitTree) → violation st (init_chunk i) ≡ None
 init_allowed Closed i = refl
@@ -260,6 +260,6 @@ module _ {P : Type 0} (n : Names) (are : AreNames n) (pack : Packing P) where
       let tag : ℕ = p.header.verification_tag in
       let ds : List ChunkTree = named_chunks (flip n) p.chunks in
       let other : packet_refusal (n.tag tag) ds (named_state n s.state) ≡ None = none_of (packet_refusal (n.tag tag) ds (named_state n s.state)) (refused_named n are (flip n) tag p.chunks s.state ∙ ap (λ (o : Option (List ℕ)). is_some o) is.taken) in
-      ap (λ (o : Option (List ℕ)). (packet_if o (n.tag tag) ds (count_packet_at (with_random v (named_endpoint_state n pack s)))).endpoint_state) other
+      ap (λ (o : Option (List ℕ)). (packet_unless o (n.tag tag) ds (count_packet_at (with_random v (named_endpoint_state n pack s)))).endpoint_state) other
       ∙ (taken_as tag p.chunks (with_context s (count_packet s.context)) w v is.chunks is.numbers k
-      ∙ sym (ap (λ (o : Option (List ℕ)). named_endpoint_state n pack (packet_if o tag p.chunks (count_packet_at (with_random w s))).endpoint_state) is.taken))
+      ∙ sym (ap (λ (o : Option (List ℕ)). named_endpoint_state n pack (packet_unless o tag p.chunks (count_packet_at (with_random w s))).endpoint_state) is.taken))

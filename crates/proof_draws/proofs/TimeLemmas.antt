@@ -11,7 +11,7 @@ use Rattle.spec_endpoint.specs.ResetRequests.{Request, Requests, lasting, expire
 use Rattle.spec_endpoint.specs.Sending.{AfterSending, add_request, cookie_if, send_cookie}
 use Rattle.spec_endpoint.specs.Shutdown.{send_shutdown, send_shutdown_ack, too_many}
 use Rattle.spec_endpoint.specs.Heartbeats.{counted_on, heartbeat_chunk, send_heartbeat_if, heartbeat_timeout_if}
-use Rattle.spec_endpoint.specs.Timers.{Ticking, tick_ack, t3_if, tick_t3, tick_interval, tick_timeout, request_again, errs_if, requests_again, reconfig_timeout, requests_if, tick_requests, ticking, tick_timers, TimerOutcome, timer_outcome, closed_if, after_timers, abort_if, abort_if_exhausted, abort_or_send_if, abort_or_send, after_ticks_if, after_ticks, t2_expired, t2_if, tick_t2, waits_if, echoed_again, t1_expired, t1_if, tick_cookie, InitOutcome, init_outcome, waiting_if, after_init_timer, init_expired, init_if, tick_init, tick_open, tick_in, advance_unless, advance, is_owed}
+use Rattle.spec_endpoint.specs.Timers.{Ticking, tick_ack, t3_if, tick_t3, tick_interval, tick_timeout, request_again, errs_if, requests_again, reconfig_timeout, requests_if, tick_requests, ticking, tick_timers, TimerOutcome, timer_outcome, closed_if, after_timers, abort_if, abort_if_exhausted, abort_or_send_if, abort_or_send, after_ticks_if, after_ticks, t2_expired, t2_if, tick_t2, waits_unless, echoed_again, t1_expired, t1_if, tick_cookie, InitOutcome, init_outcome, waiting_unless, after_init_timer, init_expired, init_if, tick_init, tick_open, tick_in, advance_unless, advance, is_owed}
 use Rattle.proof_draws.specs.NamedChunks.{Names, AreNames, move_by}
 use Rattle.proof_draws.specs.Names.{named_request, named_requests, named_phase, named_tcb, named_state, named_endpoint_state, plain}
 use Rattle.proof_draws.proofs.WritingLemmas.{Knows, named_emit, named_emit_chunk, emit_stays}
@@ -219,9 +219,9 @@ module _ {P : Type 0} (n : Names) (are : AreNames n) (pack : Packing P) where
 
   -- ---- T1-cookie
 
-  waits_if_named : (b : Bool) (t : Tcb) (c : Context P) → Knows n pack c → waits_if b (named_tcb n t) (plain pack c) ≡ named_left n pack (waits_if b t c)
-  waits_if_named true t c k = abort_if_exhausted_named t c k
-  waits_if_named false t c k = refl
+  waits_unless_named : (b : Bool) (t : Tcb) (c : Context P) → Knows n pack c → waits_unless b (named_tcb n t) (plain pack c) ≡ named_left n pack (waits_unless b t c)
+  waits_unless_named true t c k = abort_if_exhausted_named t c k
+  waits_unless_named false t c k = refl
 
   t1_expired_named : (b : Bool) (cookie : List ℕ) (t : Tcb) (c : Context P) → Knows n pack c
       → t1_expired b (n.cookie cookie) (named_tcb n t) (plain pack c) ≡ named_left n pack (t1_expired b cookie t c)
@@ -233,7 +233,7 @@ module _ {P : Type 0} (n : Names) (are : AreNames n) (pack : Packing P) where
   t1_if_named : (b : Bool) (t1 : Timer) (cookie : List ℕ) (x : Ticking P) → Knows n pack x.context
       → t1_if b t1 (n.cookie cookie) (named_ticking n pack x) ≡ named_left n pack (t1_if b t1 cookie x)
   t1_if_named true t1 cookie x k = t1_expired_named (is_running (expire x.context.now t1)) cookie x.tcb x.context k
-  t1_if_named false t1 cookie x k = waits_if_named x.has_expired x.tcb x.context k
+  t1_if_named false t1 cookie x k = waits_unless_named x.has_expired x.tcb x.context k
 
   cookie_named : (t1 : Timer) (cookie : List ℕ) (t : Tcb) (c : Context P) → Knows n pack c
       → tick_cookie t1 (n.cookie cookie) (tick_ack (ticking (named_tcb n t) (plain pack c))) ≡ named_left n pack (tick_cookie t1 cookie (tick_ack (ticking t c)))
@@ -251,10 +251,10 @@ module _ {P : Type 0} (n : Names) (are : AreNames n) (pack : Packing P) where
   init_if_named true tag first t1 c k = init_expired_named (is_running (expire c.now t1)) tag first c k
   init_if_named false tag first t1 c k = refl
 
-  waiting_if_named : (b : Bool) (tag first : ℕ) (t1 : Timer) (c : Context P)
-      → waiting_if b (n.tag tag) (move_by n.own first) t1 (plain pack c) ≡ named_endpoint_state n pack (waiting_if b tag first t1 c)
-  waiting_if_named true tag first t1 c = refl
-  waiting_if_named false tag first t1 c = refl
+  waiting_unless_named : (b : Bool) (tag first : ℕ) (t1 : Timer) (c : Context P)
+      → waiting_unless b (n.tag tag) (move_by n.own first) t1 (plain pack c) ≡ named_endpoint_state n pack (waiting_unless b tag first t1 c)
+  waiting_unless_named true tag first t1 c = refl
+  waiting_unless_named false tag first t1 c = refl
 
   -- ---- by state
 
@@ -282,7 +282,7 @@ module _ {P : Type 0} (n : Names) (are : AreNames n) (pack : Packing P) where
   tick_named (CookieWait tag first t1) c k =
       let x : InitOutcome P = tick_init tag first t1 c in
       ap (λ (y : InitOutcome P). after_init_timer (n.tag tag) (move_by n.own first) (expire c.now t1) y) (init_if_named (is_due c.now t1) tag first t1 c k)
-      ∙ waiting_if_named x.has_ended tag first (expire c.now t1) x.context
+      ∙ waiting_unless_named x.has_ended tag first (expire c.now t1) x.context
   tick_named (Open phase t) c k = tick_open_named phase t c k
 
   advance_if_named : (b : Bool) (now : ℕ) (s : EndpointState P) → Knows n pack s.context → advance_unless b now (named_endpoint_state n pack s) ≡ named_endpoint_state n pack (advance_unless b now s)

@@ -9,7 +9,7 @@ use Rattle.std.proofs.lemmas.List.Elements.{All-head, All-tail}
 use Rattle.std.proofs.lemmas.Nat.{mod_below}
 use Rattle.sctp_serial.specs.Unwrapped.{u32_space}
 use Rattle.sctp_wire.specs.Parameter.{ParameterTree, reset_response}
-use Rattle.sctp_packet.specs.Chunk.{ChunkTree, FragmentTree, data_chunk, idata_chunk, init_chunk, init_ack_chunk, cookie_echo_chunk, re_config_chunk}
+use Rattle.sctp_packet.specs.Chunk.{ChunkTree, FragmentTree, data_chunk, idata_chunk, init_chunk, init_ack_chunk, cookie_echo_chunk, re_config_chunk, fragment_chunk}
 use Rattle.sctp_packet.specs.Grammar.{Each}
 use Rattle.sctp_state.specs.Options.{Options}
 use Rattle.sctp_capabilities.specs.Capabilities.{Capabilities, agreed, zero_checksum_enabled}
@@ -21,7 +21,7 @@ use Rattle.sctp_tx.specs.ForwardPoints.{chunk_if}
 use Rattle.spec_endpoint.specs.Association.{Tcb}
 use Rattle.spec_endpoint.specs.Packets.{PacketDraft, fits, added_if, add, add_all}
 use Rattle.spec_endpoint.specs.ResetRequests.{Request, Requests, requests, request_chunk, is_known_request, is_last_request, is_next_request, without_deferral, clear_deferral, next_number}
-use Rattle.spec_endpoint.specs.Sending.{data_chunk_of, data_chunks}
+use Rattle.spec_endpoint.specs.Sending.{data_chunks}
 use Rattle.spec_endpoint.specs.Opening.{queue_if, other_mode, queue_for, queue_anew}
 use Rattle.spec_endpoint.specs.Laws.{Call}
 use Rattle.proof_endpoint.specs.Acts.{is_plain, goes_along, takes_more, IsBundled, an_init_alone, an_init_ack_alone, all_along, HasRequest, Answers}
@@ -123,12 +123,12 @@ added_all_summed (c ∷ cs) p = added_all_summed cs (add c p) ∙ added_summed c
 -- ---- what is put in
 
 data_whole : (is_interleaved is_immediate : Bool) (cs : List (ℕ × FragmentTree)) → Each HasPayload cs
-    → list_all is_whole (map (data_chunk_of is_interleaved is_immediate) cs) ≡ true
+    → list_all is_whole (map (fragment_chunk is_interleaved is_immediate) cs) ≡ true
 data_whole is_interleaved is_immediate [] h = refl
 data_whole true is_immediate (c ∷ cs) h =
-    and_from (not (length c.1.payload == 0)) (list_all is_whole (map (data_chunk_of true is_immediate) cs)) (ap not h.0) (data_whole true is_immediate cs h.1)
+    and_from (not (length c.1.payload == 0)) (list_all is_whole (map (fragment_chunk true is_immediate) cs)) (ap not h.0) (data_whole true is_immediate cs h.1)
 data_whole false is_immediate (c ∷ cs) h =
-    and_from (not (length c.1.payload == 0)) (list_all is_whole (map (data_chunk_of false is_immediate) cs)) (ap not h.0) (data_whole false is_immediate cs h.1)
+    and_from (not (length c.1.payload == 0)) (list_all is_whole (map (fragment_chunk false is_immediate) cs)) (ap not h.0) (data_whole false is_immediate cs h.1)
 
 pub data_chunks_whole : (t : Tcb) (is_immediate : Bool) (cs : List (ℕ × FragmentTree)) → Each HasPayload cs → list_all is_whole (data_chunks t is_immediate cs) ≡ true
 data_chunks_whole t is_immediate cs h = data_whole t.capabilities.message_interleaving is_immediate cs h

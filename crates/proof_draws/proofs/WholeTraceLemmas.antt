@@ -14,7 +14,7 @@ use Rattle.sctp_state.specs.Events.{Event, OnError}
 use Rattle.sctp_tx_queue.specs.InOrder.{HasRests}
 use Rattle.spec_endpoint.specs.Association.{Endpoint}
 use Rattle.spec_endpoint.specs.Opening.{emit_parse_error}
-use Rattle.spec_endpoint.specs.Input.{packet_refusal, count_packet_at, packet_if}
+use Rattle.spec_endpoint.specs.Input.{packet_refusal, count_packet_at, packet_unless}
 use Rattle.spec_endpoint.specs.Laws.{Call, ReceivePacket, called, endings}
 use Rattle.proof_endpoint.specs.Mapped.{Carried}
 use Rattle.proof_endpoint.specs.Acts.{calm, BringsChunk}
@@ -104,7 +104,7 @@ module _ (o q : Options) (x y : Side) (own : AreValidOptions o) (other : AreVali
     whole_refused (Some text) p is =
         let s : Endpoint Carried = x.end in
         let same : called (ReceivePacket p) s ≡ emit_parse_error text (count_packet_at s) =
-        ap (λ (r : Option (List ℕ)). packet_if r p.header.verification_tag p.chunks (count_packet_at s)) is in
+        ap (λ (r : Option (List ℕ)). packet_unless r p.header.verification_tag p.chunks (count_packet_at s)) is in
         let w = whole_begins x.got_init in
         let none : packets_in (s.endpoint_state.context.emitted.events ++ OnError ParseFailed text ∷ []) ≡ [] =
         ap (λ (es : List (Event Carried)). packets_in (es ++ OnError ParseFailed text ∷ [])) h.own.quiet in

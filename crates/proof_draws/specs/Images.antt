@@ -1,11 +1,8 @@
 -- Ends whose packets are lists of chunks: the one is the other under other names, and so is each packet.
-use Rattle.spec_endpoint.specs.Association.{Packing, EndpointState}
-use Rattle.proof_endpoint.specs.Mapped.{Mapping, Carried, map_endpoint_state}
+use Rattle.spec_endpoint.specs.Association.{EndpointState}
+use Rattle.proof_endpoint.specs.Mapped.{Mapping, Carried, as_carried, map_endpoint_state}
 use Rattle.proof_draws.specs.NamedChunks.{Names, named_header, named_chunks}
 use Rattle.proof_draws.specs.Names.{named_endpoint_state}
-
-abbrev pub as_carried : Packing Carried
-as_carried = record { write = λ header is_summed chunks. record { header = header; is_summed = is_summed; chunks = chunks }; word_of = λ bytes. 0 }
 
 abbrev pub named_carried : Names → Carried → Carried
 named_carried n p = record { header = named_header n p.header; is_summed = p.is_summed; chunks = named_chunks n p.chunks }

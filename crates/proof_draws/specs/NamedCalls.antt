@@ -11,11 +11,11 @@ use Rattle.spec_endpoint.specs.Association.{Tcb, Phase, CookieEchoed, Establishe
 use Rattle.spec_endpoint.specs.Opening.{tsn_from, tag_from, next_first, cookie_for, cookie_in, maker, CookieResolution, EstablishNew, RestartDetected, SimultaneousInit, MaintainExisting, Discard, InvalidTag, resolve_cookie, emit_parse_error}
 use Rattle.spec_endpoint.specs.Input.{packet_refusal, count_packet_at}
 use Rattle.spec_endpoint.specs.Laws.{Call, Connect, Restore, ReceivePacket, called}
-use Rattle.proof_endpoint.specs.Mapped.{Carried}
+use Rattle.proof_endpoint.specs.Mapped.{Carried, as_carried}
 use Rattle.proof_draws.specs.NamedChunks.{Names, AreNames, flip, named_header, named_chunks}
 use Rattle.proof_draws.specs.Names.{named_cookie, with_random}
 use Rattle.proof_draws.specs.Laws.{DrawsTwo, TiesTell, Makes, NumbersFitIn, is_flowing}
-use Rattle.proof_draws.specs.Images.{as_carried, image}
+use Rattle.proof_draws.specs.Images.{image}
 
 -- ---- draws
 

@@ -15,7 +15,7 @@ use Rattle.spec_endpoint.specs.Sending.{take_due_ack, without_duplicates, select
 use Rattle.spec_endpoint.specs.Shutdown.{abort_for_violation, on_error, on_shutdown, on_shutdown_complete}
 use Rattle.spec_endpoint.specs.Opening.{on_cookie_ack}
 use Rattle.spec_endpoint.specs.StreamReset.{on_reconfig}
-use Rattle.spec_endpoint.specs.Input.{packet_refusal, is_reported, unrecognized_chunk_error, report_unrecognized_in, emit_unknown_chunk_error, on_unknown_if, on_heartbeat, AfterChunk, in_endpoint_state, on_chunk, violation, received_if, receive, receive_rest, receive_all, has_data_chunk, repeats, repeats_if, ack_if_due, at_end, on_packet_end, on_accepted_packet, count_packet_at as counts_row, packet_if, on_packet, on_no_packet, packet_acked, shut_waiting, shut_if}
+use Rattle.spec_endpoint.specs.Input.{packet_refusal, is_reported, unrecognized_chunk_error, report_unrecognized_in, emit_unknown_chunk_error, on_unknown_if, on_heartbeat, AfterChunk, in_endpoint_state, on_chunk, violation, received_unless, receive, receive_rest, receive_all, has_data_chunk, repeats, repeats_if, ack_if_due, at_end, on_packet_end, on_accepted_packet, count_packet_at as counts_row, packet_unless, on_packet, on_no_packet, packet_acked, shut_waiting, shut_if}
 use Rattle.spec_endpoint.specs.Laws.{Call, Connect, Close, Shutdown, Send, SendMany, ResetStreams, TakeMessage, SetLowThreshold, SetPriority, SetMaxMessageSize, Advance, HandOver, Restore, ReceivePacket as Given, ReceiveNoPacket, called}
 use Rattle.proof_endpoint.specs.Acts.{EndWithPacket, at, idle, calm, BringsChunk, counts, asks, adds_ack, beats, counts_errors, shuts_on, ends_packet, Preserves}
 use Rattle.proof_endpoint.proofs.BundledLemmas.{first_more}
@@ -90,15 +90,15 @@ module _ {P : Type 0} {call : Call} {R : EndWithPacket P → EndWithPacket P →
   does_on_chunk tag (shutdown_complete_chunk reflected) s h right = does_where_open k s.draws on_shutdown_complete s.endpoint_state (does_shutdown_complete k s.draws)
   does_on_chunk tag (re_config_chunk parameters) s h right = does_where_open k s.draws (on_reconfig parameters) s.endpoint_state (does_reconfig k s.draws tag parameters h)
 
-  does_received_if : (v : Option (List ℕ)) (tag : ℕ) (chunk : ChunkTree) (s : Endpoint P) → BringsChunk call tag chunk → violation s.endpoint_state.state chunk ≡ v
-      → R (calm s) (calm (received_if v tag chunk s).end)
-  does_received_if (Some reason) tag chunk s h is =
+  does_received_unless : (v : Option (List ℕ)) (tag : ℕ) (chunk : ChunkTree) (s : Endpoint P) → BringsChunk call tag chunk → violation s.endpoint_state.state chunk ≡ v
+      → R (calm s) (calm (received_unless v tag chunk s).end)
+  does_received_unless (Some reason) tag chunk s h is =
       does_where_open k s.draws (λ phase t c. abort_for_violation reason t c) s.endpoint_state
       (does_abort_for_violation k s.draws reason (reason_is_text s.endpoint_state.state chunk reason is))
-  does_received_if None tag chunk s h is = does_on_chunk tag chunk s h is
+  does_received_unless None tag chunk s h is = does_on_chunk tag chunk s h is
 
   pub does_receive : (tag : ℕ) (chunk : ChunkTree) (s : Endpoint P) → BringsChunk call tag chunk → R (calm s) (calm (receive tag chunk s).end)
-  does_receive tag chunk s h = does_received_if (violation s.endpoint_state.state chunk) tag chunk s h refl
+  does_receive tag chunk s h = does_received_unless (violation s.endpoint_state.state chunk) tag chunk s h refl
 
   does_receive_rest : (b : Bool) (rest : Endpoint P → Endpoint P) (s : Endpoint P) → ((t : Endpoint P) → R (calm t) (calm (rest t)))
       → R (calm s) (calm (receive_rest rest (record { end = s; allows_next = b })))
@@ -164,7 +164,7 @@ module _ {P : Type 0} {call : Call} {R : EndWithPacket P → EndWithPacket P →
       (k.through (does_receive_all p [] p.chunks first is refl) (does_where_open k middle.draws on_packet_end middle.endpoint_state (does_ended middle.draws)))
 
   does_taken_if : (o : Option (List ℕ)) (p : PacketTree) (s : Endpoint P) → call ≡ Given p
-      → R (calm s) (calm (packet_if o p.header.verification_tag p.chunks s))
+      → R (calm s) (calm (packet_unless o p.header.verification_tag p.chunks s))
   does_taken_if None p s is = does_handled p s is
   does_taken_if (Some text) p s is = does_emit_error k ParseFailed text s.endpoint_state.state s.endpoint_state.context s.draws
 

@@ -3,7 +3,7 @@ use Rattle.std.proofs.Common.{◌≡◌, ℕ, ◌&&◌, nat_le, Bool, true, fals
 use Rattle.std.specs.List.{list_all}
 use Rattle.std.proofs.lemmas.Bool.{and_parts, and_from}
 use Rattle.std.proofs.lemmas.List.Folds.{list_all-append}
-use Rattle.sctp_packet.specs.Chunk.{ChunkTree, FragmentTree, init_chunk, init_ack_chunk, cookie_echo_chunk, shutdown_ack_chunk}
+use Rattle.sctp_packet.specs.Chunk.{ChunkTree, FragmentTree, init_chunk, init_ack_chunk, cookie_echo_chunk, shutdown_ack_chunk, fragment_chunk}
 use Rattle.sctp_tx.specs.RetransmissionQueue.{Sender}
 use Rattle.sctp_tx.specs.Resent.{is_interleaved}
 use Rattle.sctp_tx.specs.ForwardPoints.{chunk_if, forward_chunk}
@@ -15,7 +15,7 @@ use Rattle.spec_endpoint.specs.Association.{Tcb}
 use Rattle.spec_endpoint.specs.Packets.{PacketDraft, room, fits, added_if, add, add_all, has_chunks}
 use Rattle.spec_endpoint.specs.ResetRequests.{Request, request_chunk}
 use Rattle.spec_endpoint.specs.Sending as sending
-use Rattle.spec_endpoint.specs.Sending.{Filling, selective_ack, with_expired_abandoned, most_streams, request_started, asks_at_once, ack_if, with_ack, forward_added_if, forward_if, forward_if_time, with_forward, add_request, request_of, request_unless, with_request, data_chunk_of, data_chunks, with_data, filled_as, burst_step_if, next_packet}
+use Rattle.spec_endpoint.specs.Sending.{Filling, selective_ack, with_expired_abandoned, most_streams, request_started, asks_at_once, ack_if, with_ack, forward_added_if, forward_if, forward_if_time, with_forward, add_request, request_of, request_unless, with_request, data_chunks, with_data, filled_as, burst_step_if, next_packet}
 use Rattle.proof_endpoint.specs.Acts.{is_plain, goes_along, goes_first, takes_more, IsBundled, all_along}
 
 -- ---- chunks
@@ -77,7 +77,7 @@ first_more c p new e = first_if (fits p c) c p new e
 
 -- ---- a burst
 
-data_along : (is_interleaved is_immediate : Bool) (cs : List (ℕ × FragmentTree)) → list_all goes_along (map (data_chunk_of is_interleaved is_immediate) cs) ≡ true
+data_along : (is_interleaved is_immediate : Bool) (cs : List (ℕ × FragmentTree)) → list_all goes_along (map (fragment_chunk is_interleaved is_immediate) cs) ≡ true
 data_along is_interleaved is_immediate [] = refl
 data_along true is_immediate (c ∷ cs) = data_along true is_immediate cs
 data_along false is_immediate (c ∷ cs) = data_along false is_immediate cs

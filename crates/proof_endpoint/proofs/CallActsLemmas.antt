@@ -23,8 +23,8 @@ use Rattle.spec_endpoint.specs.Association.{Tcb, Phase, Established, State, Clos
 use Rattle.spec_endpoint.specs.Packets.{PacketDraft, add, new_packet, emit_event_in}
 use Rattle.spec_endpoint.specs.ResetRequests.{Request, Requests, performed, nothing_to_do, bad_number, in_progress, is_final, next_number, is_last_request, is_next_request, is_known_request, set_last_request, end_or_defer, response_if, handle_response_in, handle_response}
 use Rattle.spec_endpoint.specs.Sending.{AfterSending, is_before_cookie_ack, open_with, send_unless, send_in}
-use Rattle.spec_endpoint.specs.Calls.{shown_state, send_refusal, send_refusal_of, offered, offer, sent_if, send, offer_all, send_many, set_low_threshold, set_priority, set_max_message_size, take_message, message_taken_in, opens_window, told_if, without_first_message}
-use Rattle.spec_endpoint.specs.StreamReset.{Handling, handling, is_ahead, resets_if, resets, outgoing_by, on_outgoing, incoming_if, is_outgoing, on_parameter, HandledParameters, handle_next, handle_all, send_responses, finish_reconfig_if, on_reconfig, unless_supported, reset_refusal, prepare_reset_stream, prepare_all, reset_if, reset_streams}
+use Rattle.spec_endpoint.specs.Calls.{shown_state, send_refusal, send_refusal_of, offered, offer, sent_unless, send, offer_all, send_many, set_low_threshold, set_priority, set_max_message_size, take_message, message_taken_in, opens_window, told_if, without_first_message}
+use Rattle.spec_endpoint.specs.StreamReset.{Handling, handling, is_ahead, resets_unless, resets, outgoing_by, on_outgoing, incoming_if, is_outgoing, on_parameter, HandledParameters, handle_next, handle_all, send_responses, finish_reconfig_if, on_reconfig, unless_supported, reset_refusal, prepare_reset_stream, prepare_all, streams_reset_unless, reset_streams}
 use Rattle.spec_endpoint.specs.Handover.{readiness, left_in, left_if, hand_over, tcb_from, queue_restored, take_up, invalid_unless, restore_refusal_in, restored_as, restored_unless, restore, woken_if}
 use Rattle.spec_endpoint.specs.Laws.{Call, SendMany, ResetStreams, TakeMessage, SetLowThreshold, SetPriority, SetMaxMessageSize, HandOver, Restore, Send}
 use Rattle.spec_endpoint.specs.Heartbeats.{restart_interval}
@@ -63,14 +63,14 @@ module _ {P : Type 0} {call : Call} {R : EndWithPacket P → EndWithPacket P →
       go true = k.same (idle (Open phase t) c w)
       go false = does_send_buffered k phase w (is_before_cookie_ack phase) t c
 
-  pub does_sent_if : (o : Option SendError) (s : EndpointState P) → R (placed s w) (placed (sent_if o s) w)
-  does_sent_if None s = does_where_open k w send_in s does_send_in
-  does_sent_if (Some e) s = k.same (placed s w)
+  pub does_sent_unless : (o : Option SendError) (s : EndpointState P) → R (placed s w) (placed (sent_unless o s) w)
+  does_sent_unless None s = does_where_open k w send_in s does_send_in
+  does_sent_unless (Some e) s = k.same (placed s w)
 
   pub does_send : (m : Message) (how : SendOptions) (s : EndpointState P) → call ≡ Send m how → R (placed s w) (placed (send m how s) w)
   does_send m how s is =
       let d : Context P = offer m how (shown_state s.state) s.context in
-      k.through (does_offer m how s.state s.context (alone is)) (does_sent_if (send_refusal_of m s) (with_context s d))
+      k.through (does_offer m how s.state s.context (alone is)) (does_sent_unless (send_refusal_of m s) (with_context s d))
 
   pub does_send_many : (ms : List Message) (how : SendOptions) (s : EndpointState P) → call ≡ SendMany ms how → R (placed s w) (placed (send_many ms how s) w)
   does_send_many ms how s is =
@@ -111,18 +111,18 @@ module _ {P : Type 0} {call : Call} {R : EndWithPacket P → EndWithPacket P →
     abbrev Handles : (x y : Handling P) → Type 0
     Handles x y = R (idle (Open phase x.tcb) x.context w) (idle (Open phase y.tcb) y.context w)
 
-    does_resets_if : (b : Bool) (number response : ℕ) (last_tsn : Tsn) (streams : List StreamId) (x : Handling P)
+    does_resets_unless : (b : Bool) (number response : ℕ) (last_tsn : Tsn) (streams : List StreamId) (x : Handling P)
         → IsAsked call (outgoing_reset_request number response last_tsn streams) → IsDue number x.tcb.requests → is_ahead last_tsn.0 x.tcb ≡ b
-        → Handles x (resets_if b number last_tsn.0 streams x)
-    does_resets_if true number response last_tsn streams x h due ahead =
+        → Handles x (resets_unless b number last_tsn.0 streams x)
+    does_resets_unless true number response last_tsn streams x h due ahead =
         k.resets (defers number response last_tsn streams phase x.tcb (idle (Open phase x.tcb) x.context w) h due ahead)
-    does_resets_if false number response last_tsn streams x h due ahead =
+    does_resets_unless false number response last_tsn streams x h due ahead =
         k.resets (performs number response last_tsn streams phase x.tcb (idle (Open phase x.tcb) x.context w) h due ahead)
 
     does_resets : (number response : ℕ) (last_tsn : Tsn) (streams : List StreamId) (x : Handling P)
         → IsAsked call (outgoing_reset_request number response last_tsn streams) → IsDue number x.tcb.requests
         → Handles x (resets number last_tsn.0 streams x)
-    does_resets number response last_tsn streams x h due = does_resets_if (is_ahead last_tsn.0 x.tcb) number response last_tsn streams x h due refl
+    does_resets number response last_tsn streams x h due = does_resets_unless (is_ahead last_tsn.0 x.tcb) number response last_tsn streams x h due refl
 
     does_outgoing_by : (a b d : Bool) (number response : ℕ) (last_tsn : Tsn) (streams : List StreamId) (x : Handling P)
         → IsAsked call (outgoing_reset_request number response last_tsn streams)
@@ -240,17 +240,17 @@ module _ {P : Type 0} (call : Call) where
       one_more call (set_last_request number result x.tcb.requests) x.responses number result a (λ asks. inl (eq-eqb number number refl, refl))
       (record { are = e.are; answer = went_on call x.tcb.requests (set_last_request number result x.tcb.requests) x.responses none e.answer })
 
-  responses_resets_if : (b : Bool) (number last_tsn : ℕ) (streams : List StreamId) (x : Handling P) → HasRequest call number → (AsksNoIncoming call → x.responses ≡ [])
-      → Responds x → Responds (resets_if b number last_tsn streams x)
-  responses_resets_if true number last_tsn streams x a none e = responses_processed number in_progress x a none e
-  responses_resets_if false number last_tsn streams x a none e = responses_processed number performed x a none e
+  responses_resets_unless : (b : Bool) (number last_tsn : ℕ) (streams : List StreamId) (x : Handling P) → HasRequest call number → (AsksNoIncoming call → x.responses ≡ [])
+      → Responds x → Responds (resets_unless b number last_tsn streams x)
+  responses_resets_unless true number last_tsn streams x a none e = responses_processed number in_progress x a none e
+  responses_resets_unless false number last_tsn streams x a none e = responses_processed number performed x a none e
 
   responses_outgoing_by : (a b d : Bool) (number last_tsn : ℕ) (streams : List StreamId) (x : Handling P) → HasRequest call number → (AsksNoIncoming call → x.responses ≡ [])
       → is_last_request number x.tcb.requests ≡ a → is_next_request number x.tcb.requests ≡ b → Responds x → Responds (outgoing_by a b d number last_tsn streams x)
   responses_outgoing_by true b true number last_tsn streams x h none last next e =
       one_more call x.tcb.requests x.responses number x.tcb.requests.result h (λ asks. inl (last, refl)) e
-  responses_outgoing_by true b false number last_tsn streams x h none last next e = responses_resets_if (is_ahead last_tsn x.tcb) number last_tsn streams x h none e
-  responses_outgoing_by false true d number last_tsn streams x h none last next e = responses_resets_if (is_ahead last_tsn x.tcb) number last_tsn streams x h none e
+  responses_outgoing_by true b false number last_tsn streams x h none last next e = responses_resets_unless (is_ahead last_tsn x.tcb) number last_tsn streams x h none e
+  responses_outgoing_by false true d number last_tsn streams x h none last next e = responses_resets_unless (is_ahead last_tsn x.tcb) number last_tsn streams x h none e
   responses_outgoing_by false false d number last_tsn streams x h none last next e =
       one_more call x.tcb.requests x.responses number bad_number h
       (λ asks. inr (ap (λ (a : Bool). a || is_next_request number x.tcb.requests) last ∙ next, refl)) e
@@ -333,13 +333,13 @@ module _ {P : Type 0} {call : Call} {R : EndWithPacket P → EndWithPacket P →
       (does_prepare_all all (before ++ id ∷ []) ids phase t (prepare_reset_stream id c) is (next_among before id ids all e) can)
 
   does_reset_open : (b : Bool) (ids : List ℕ) (phase : Phase) (t : Tcb) (c : Context P) → call ≡ ResetStreams ids → t.capabilities.reconfig ≡ b
-      → R (idle (Open phase t) c w) (placed (reset_if (unless_supported b) ids (record { state = Open phase t; context = c })) w)
+      → R (idle (Open phase t) c w) (placed (streams_reset_unless (unless_supported b) ids (record { state = Open phase t; context = c })) w)
   does_reset_open true ids phase t c is can =
       k.through (does_prepare_all ids [] ids phase t c is refl can) (does_send_in k w phase t (prepare_all ids c))
   does_reset_open false ids phase t c is can = k.same (idle (Open phase t) c w)
 
   does_reset_in : (s : State) (ids : List ℕ) (c : Context P) → call ≡ ResetStreams ids
-      → R (idle s c w) (placed (reset_if (reset_refusal s) ids (record { state = s; context = c })) w)
+      → R (idle s c w) (placed (streams_reset_unless (reset_refusal s) ids (record { state = s; context = c })) w)
   does_reset_in Closed ids c is = k.same (idle Closed c w)
   does_reset_in (CookieWait tag first t1) ids c is = k.same (idle (CookieWait tag first t1) c w)
   does_reset_in (Open phase t) ids c is = does_reset_open t.capabilities.reconfig ids phase t c is refl

@@ -9,7 +9,7 @@ use Rattle.sctp_state.specs.Events.{Emitted}
 use Rattle.sctp_tx_queue.specs.Settings.{Changed}
 use Rattle.spec_endpoint.specs.Association.{Context, EndpointState, with_context, where_open}
 use Rattle.spec_endpoint.specs.Sending.{send_in}
-use Rattle.spec_endpoint.specs.Calls.{shown_state, send_refusal, send_refusal_of, refusal_events, lifecycle_end_events, refuse, offered, offer, sent_if, send, offer_all, send_many, set_low_threshold}
+use Rattle.spec_endpoint.specs.Calls.{shown_state, send_refusal, send_refusal_of, refusal_events, lifecycle_end_events, refuse, offered, offer, sent_unless, send, offer_all, send_many, set_low_threshold}
 use Rattle.proof_endpoint.specs.Mapped.{Mapping, map_event, map_context, map_endpoint_state}
 use Rattle.proof_endpoint.proofs.EmittedMapsLemmas.{maps_emit_event_all, maps_threshold}
 use Rattle.proof_endpoint.proofs.SendingMapsLemmas.{maps_send_in}
@@ -55,15 +55,15 @@ module _ {P Q : Type 0} (f : Mapping P Q) where
   maps_offer_all (m ∷ ms) how shown c =
       ap (λ (d : Context Q). offer_all ms how shown d) (maps_offer m how shown c) ∙ maps_offer_all ms how shown (offer m how shown c)
 
-  maps_sent_if : (o : Option SendError) (s : EndpointState P) → sent_if o (map_endpoint_state f s) ≡ map_endpoint_state f (sent_if o s)
-  maps_sent_if None s = maps_where_open f send_in send_in s (maps_send_in f)
-  maps_sent_if (Some e) s = refl
+  maps_sent_unless : (o : Option SendError) (s : EndpointState P) → sent_unless o (map_endpoint_state f s) ≡ map_endpoint_state f (sent_unless o s)
+  maps_sent_unless None s = maps_where_open f send_in send_in s (maps_send_in f)
+  maps_sent_unless (Some e) s = refl
 
   pub maps_send : (m : Message) (how : SendOptions) (s : EndpointState P) → send m how (map_endpoint_state f s) ≡ map_endpoint_state f (send m how s)
   maps_send m how s =
       let d : Context P = offer m how (shown_state s.state) s.context in
-      ap (λ (e : Context Q). sent_if (send_refusal_of m s) (with_context (map_endpoint_state f s) e)) (maps_offer m how (shown_state s.state) s.context)
-      ∙ maps_sent_if (send_refusal_of m s) (with_context s d)
+      ap (λ (e : Context Q). sent_unless (send_refusal_of m s) (with_context (map_endpoint_state f s) e)) (maps_offer m how (shown_state s.state) s.context)
+      ∙ maps_sent_unless (send_refusal_of m s) (with_context s d)
 
   pub maps_send_many : (ms : List Message) (how : SendOptions) (s : EndpointState P) → send_many ms how (map_endpoint_state f s) ≡ map_endpoint_state f (send_many ms how s)
   maps_send_many ms how s =

@@ -7,7 +7,7 @@ use Rattle.sctp_state.specs.Options.{SendOptions}
 use Rattle.sctp_state.specs.Events.{Event}
 use Rattle.spec_endpoint.specs.Association.{State, Closed, CookieWait, Open, Context, EndpointState, with_context}
 use Rattle.spec_endpoint.specs.Sending.{is_before_cookie_ack, send_unless, send_in}
-use Rattle.spec_endpoint.specs.Calls.{shown_state, send_refusal, send_refusal_of, refusal_events, lifecycle_end_events, refuse, accept, offered, offer, sent_if, send, offer_all, send_many, set_low_threshold, set_priority, set_max_message_size, take_message, message_taken_in}
+use Rattle.spec_endpoint.specs.Calls.{shown_state, send_refusal, send_refusal_of, refusal_events, lifecycle_end_events, refuse, accept, offered, offer, sent_unless, send, offer_all, send_many, set_low_threshold, set_priority, set_max_message_size, take_message, message_taken_in}
 use Rattle.spec_endpoint.specs.Laws.{ends}
 use Rattle.proof_endpoint.proofs.StepsLemmas.{most_bytes, Goes, Steps}
 use Rattle.proof_endpoint.proofs.EmitsLemmas.{quiet_both, emits_all, emits_threshold, quiet_end, quiet_refusal}
@@ -45,14 +45,14 @@ module _ {P : Type 0} where
   pub steps_then : (s : EndpointState P) (d : Context P) (t : EndpointState P) → Goes 0 s.context d → Steps (with_context s d) t → Steps s t
   steps_then s d t g h = goes_then (ends s.state t.state) s.context d t.context g h
 
-  steps_sent_if : (o : Option SendError) (s : EndpointState P) → Steps s (sent_if o s)
-  steps_sent_if None s = steps_where_open send_in s steps_send_in
-  steps_sent_if (Some e) s = steps_same s
+  steps_sent_unless : (o : Option SendError) (s : EndpointState P) → Steps s (sent_unless o s)
+  steps_sent_unless None s = steps_where_open send_in s steps_send_in
+  steps_sent_unless (Some e) s = steps_same s
 
   pub steps_send : (m : Message) (how : SendOptions) (s : EndpointState P) → Steps s (send m how s)
   steps_send m how s =
       let d : Context P = offer m how (shown_state s.state) s.context in
-      steps_then s d (send m how s) (goes_offer m how (shown_state s.state) s.context) (steps_sent_if (send_refusal_of m s) (with_context s d))
+      steps_then s d (send m how s) (goes_offer m how (shown_state s.state) s.context) (steps_sent_unless (send_refusal_of m s) (with_context s d))
 
   pub steps_send_many : (ms : List Message) (how : SendOptions) (s : EndpointState P) → Steps s (send_many ms how s)
   steps_send_many ms how s =

@@ -6,7 +6,7 @@ use Rattle.sctp_packet.specs.Packet.{PacketTree}
 use Rattle.sctp_rx.specs.DataTracker.{is_ack_due}
 use Rattle.spec_endpoint.specs.Association.{Tcb, Phase, CookieEchoed, Established, ShutdownPending, ShutdownSent, ShutdownReceived, ShutdownAckSent, State, Closed, CookieWait, Open, Context, EndpointState, Endpoint, where_open}
 use Rattle.spec_endpoint.specs.Sending.{take_due_ack}
-use Rattle.spec_endpoint.specs.Input.{packet_refusal, AfterChunk, receive, receive_rest, receive_all, has_data_chunk, repeats, repeats_if, ack_if_due, at_end, on_packet_end, in_endpoint_state, on_accepted_packet, count_packet_at, packet_if, on_packet, packet_acked, shut_waiting, shut_if}
+use Rattle.spec_endpoint.specs.Input.{packet_refusal, AfterChunk, receive, receive_rest, receive_all, has_data_chunk, repeats, repeats_if, ack_if_due, at_end, on_packet_end, in_endpoint_state, on_accepted_packet, count_packet_at, packet_unless, on_packet, packet_acked, shut_waiting, shut_if}
 use Rattle.spec_endpoint.specs.Laws.{Call, Connect, Close, Shutdown, Send, SendMany, TakeMessage, SetLowThreshold, SetPriority, SetMaxMessageSize, Advance, HandOver, Restore, ReceivePacket, ReceiveNoPacket, called, is_closed, ends, endings_after, endings_by, endings_unless, endings_in, endings_in_call, ResetStreams}
 use Rattle.spec_endpoint.specs.Shutdown.{}
 
@@ -90,7 +90,7 @@ module _ {P : Type 0} where
       some_by tag chunks first (same_repeats (has_data_chunk chunks) s.endpoint_state ∙ e) (sym (stays_open on_packet_end middle.endpoint_state open_ended) ∙ f)
 
   some_unless : (o : Option (List ℕ)) (tag : ℕ) (chunks : List ChunkTree) (s : Endpoint P) → is_closed s.endpoint_state.state ≡ false
-      → is_closed (packet_if o tag chunks s).endpoint_state.state ≡ true → 1 ≤ endings_unless o tag chunks s
+      → is_closed (packet_unless o tag chunks s).endpoint_state.state ≡ true → 1 ≤ endings_unless o tag chunks s
   some_unless None tag chunks s e f = some_handled tag chunks s e f
   some_unless (Some text) tag chunks s e f = absurd (both_ways (is_closed s.endpoint_state.state) e f)
 

@@ -15,7 +15,7 @@ use Rattle.spec_endpoint.specs.Data.{on_data, on_forward}
 use Rattle.spec_endpoint.specs.Sack.{on_sack}
 use Rattle.spec_endpoint.specs.Opening.{on_cookie_ack}
 use Rattle.spec_endpoint.specs.StreamReset.{on_reconfig}
-use Rattle.spec_endpoint.specs.Input.{packet_refusal, is_reported, unrecognized_chunk_error, report_unrecognized_in, emit_unknown_chunk_error, on_unknown_if, on_unknown, on_heartbeat, AfterChunk, in_endpoint_state, on_chunk, allows_next, violation, received_if, receive, receive_rest, receive_all, has_data_chunk, repeats, repeats_if, ack_if_due, at_end, on_packet_end, on_accepted_packet, count_packet_at, packet_if, on_packet, on_no_packet, packet_acked, shut_waiting, shut_if}
+use Rattle.spec_endpoint.specs.Input.{packet_refusal, is_reported, unrecognized_chunk_error, report_unrecognized_in, emit_unknown_chunk_error, on_unknown_if, on_unknown, on_heartbeat, AfterChunk, in_endpoint_state, on_chunk, allows_next, violation, received_unless, receive, receive_rest, receive_all, has_data_chunk, repeats, repeats_if, ack_if_due, at_end, on_packet_end, on_accepted_packet, count_packet_at, packet_unless, on_packet, on_no_packet, packet_acked, shut_waiting, shut_if}
 use Rattle.proof_endpoint.specs.Mapped.{Mapping, map_context, map_endpoint_state, map_end}
 use Rattle.proof_endpoint.proofs.SendingMapsLemmas.{maps_emit_error, maps_emit_chunk, maps_send_with}
 use Rattle.proof_endpoint.proofs.RowMapsLemmas.{OpenMaps, maps_where_open, maps_in_state, maps_send_shutdown, maps_on_shutdown, maps_shutdown_ack, maps_shutdown_complete, maps_abort_for_violation, maps_aborted, maps_on_error, maps_data, maps_forward, maps_on_sack, maps_go_on}
@@ -103,15 +103,15 @@ module _ {P Q : Type 0} (f : Mapping P Q) where
   maps_chunk tag (shutdown_complete_chunk reflected) s = maps_on_open on_shutdown_complete on_shutdown_complete s (maps_shutdown_complete f)
   maps_chunk tag (re_config_chunk parameters) s = maps_on_open (on_reconfig parameters) (on_reconfig parameters) s (maps_reconfig f parameters)
 
-  maps_received_if : (o : Option (List ℕ)) (tag : ℕ) (chunk : ChunkTree) (s : Endpoint P) → received_if o tag chunk (map_end f s) ≡ map_received f (received_if o tag chunk s)
-  maps_received_if (Some reason) tag chunk s =
+  maps_received_unless : (o : Option (List ℕ)) (tag : ℕ) (chunk : ChunkTree) (s : Endpoint P) → received_unless o tag chunk (map_end f s) ≡ map_received f (received_unless o tag chunk s)
+  maps_received_unless (Some reason) tag chunk s =
       ap (λ (e : Endpoint Q). received_as false e)
       (maps_on_open (λ phase t c. abort_for_violation reason t c) (λ phase t c. abort_for_violation reason t c) s (λ phase t c. maps_abort_for_violation f reason t c))
-  maps_received_if None tag chunk s =
+  maps_received_unless None tag chunk s =
       ap (λ (e : Endpoint Q). received_as (allows_next s.endpoint_state.context.options.avoid_stalls tag s.endpoint_state.state chunk) e) (maps_chunk tag chunk s)
 
   maps_receive : (tag : ℕ) (chunk : ChunkTree) (s : Endpoint P) → receive tag chunk (map_end f s) ≡ map_received f (receive tag chunk s)
-  maps_receive tag chunk s = maps_received_if (violation s.endpoint_state.state chunk) tag chunk s
+  maps_receive tag chunk s = maps_received_unless (violation s.endpoint_state.state chunk) tag chunk s
 
   maps_receive_rest : (rest : Endpoint P → Endpoint P) (mapped : Endpoint Q → Endpoint Q) (b : Bool) (s : Endpoint P)
       → ((t : Endpoint P) → mapped (map_end f t) ≡ map_end f (rest t)) → receive_rest mapped (received_as b (map_end f s)) ≡ map_end f (receive_rest rest (received_as b s))
@@ -172,7 +172,7 @@ module _ {P Q : Type 0} (f : Mapping P Q) where
 
   -- ---- packets
 
-  maps_taken_if : (o : Option (List ℕ)) (tag : ℕ) (chunks : List ChunkTree) (s : Endpoint P) → packet_if o tag chunks (map_end f s) ≡ map_end f (packet_if o tag chunks s)
+  maps_taken_if : (o : Option (List ℕ)) (tag : ℕ) (chunks : List ChunkTree) (s : Endpoint P) → packet_unless o tag chunks (map_end f s) ≡ map_end f (packet_unless o tag chunks s)
   maps_taken_if None tag chunks s = maps_handled tag chunks s
   maps_taken_if (Some text) tag chunks s = maps_emit_parse_error f text s
 

@@ -13,7 +13,7 @@ use Rattle.spec_endpoint.specs.Sending.{take_due_ack, without_duplicates, select
 use Rattle.spec_endpoint.specs.Shutdown.{abort_for_violation, on_error, on_shutdown, on_shutdown_complete}
 use Rattle.spec_endpoint.specs.Opening.{on_cookie_ack}
 use Rattle.spec_endpoint.specs.StreamReset.{on_reconfig}
-use Rattle.spec_endpoint.specs.Input.{packet_refusal, is_reported, unrecognized_chunk_error, report_unrecognized_in, emit_unknown_chunk_error, on_unknown_if, on_unknown, on_heartbeat, AfterChunk, in_endpoint_state, on_chunk, violation, received_if, receive, receive_rest, receive_all, has_data_chunk, repeats, repeats_if, ack_if_due, at_end, on_packet_end, on_accepted_packet, count_packet, count_packet_at, packet_if, on_packet, on_no_packet, packet_acked, shut_waiting, shut_if}
+use Rattle.spec_endpoint.specs.Input.{packet_refusal, is_reported, unrecognized_chunk_error, report_unrecognized_in, emit_unknown_chunk_error, on_unknown_if, on_unknown, on_heartbeat, AfterChunk, in_endpoint_state, on_chunk, violation, received_unless, receive, receive_rest, receive_all, has_data_chunk, repeats, repeats_if, ack_if_due, at_end, on_packet_end, on_accepted_packet, count_packet, count_packet_at, packet_unless, on_packet, on_no_packet, packet_acked, shut_waiting, shut_if}
 use Rattle.spec_endpoint.specs.Laws.{ends, endings_after, endings_by, endings_unless, endings_in}
 use Rattle.proof_endpoint.proofs.StepsLemmas.{most_bytes, Goes, Steps, EndSteps}
 use Rattle.proof_endpoint.proofs.GoesLemmas.{small_add, small_new, goes_silent, goes_same, goes_through, goes_then, goes_last, goes_emit_error, goes_emit_chunk}
@@ -85,12 +85,12 @@ module _ {P : Type 0} where
   steps_chunk tag (shutdown_complete_chunk reflected) s = steps_where_open on_shutdown_complete s.endpoint_state steps_shutdown_complete
   steps_chunk tag (re_config_chunk parameters) s = steps_where_open (on_reconfig parameters) s.endpoint_state (steps_reconfig parameters)
 
-  steps_received_if : (v : Option (List ℕ)) (tag : ℕ) (chunk : ChunkTree) (s : Endpoint P) → EndSteps s (received_if v tag chunk s).end
-  steps_received_if (Some reason) tag chunk s = steps_where_open (λ phase t c. abort_for_violation reason t c) s.endpoint_state (steps_abort_for_violation reason)
-  steps_received_if None tag chunk s = steps_chunk tag chunk s
+  steps_received_unless : (v : Option (List ℕ)) (tag : ℕ) (chunk : ChunkTree) (s : Endpoint P) → EndSteps s (received_unless v tag chunk s).end
+  steps_received_unless (Some reason) tag chunk s = steps_where_open (λ phase t c. abort_for_violation reason t c) s.endpoint_state (steps_abort_for_violation reason)
+  steps_received_unless None tag chunk s = steps_chunk tag chunk s
 
   steps_receive : (tag : ℕ) (chunk : ChunkTree) (s : Endpoint P) → EndSteps s (receive tag chunk s).end
-  steps_receive tag chunk s = steps_received_if (violation s.endpoint_state.state chunk) tag chunk s
+  steps_receive tag chunk s = steps_received_unless (violation s.endpoint_state.state chunk) tag chunk s
 
   goes_receive_rest : (b : Bool) (n : ℕ) (rest : Endpoint P → Endpoint P) (count : Endpoint P → ℕ) (c : Context P) (s : Endpoint P)
       → ((t : Endpoint P) → Goes (count t) t.endpoint_state.context (rest t).endpoint_state.context) → Goes n c s.endpoint_state.context
@@ -162,7 +162,7 @@ module _ {P : Type 0} where
   -- ---- packets
 
   goes_taken_if : (o : Option (List ℕ)) (tag : ℕ) (chunks : List ChunkTree) (s : Endpoint P)
-      → Goes (endings_unless o tag chunks s) s.endpoint_state.context (packet_if o tag chunks s).endpoint_state.context
+      → Goes (endings_unless o tag chunks s) s.endpoint_state.context (packet_unless o tag chunks s).endpoint_state.context
   goes_taken_if None tag chunks s = goes_handled tag chunks s
   goes_taken_if (Some text) tag chunks s = goes_emit_error ParseFailed text s.endpoint_state.context
 

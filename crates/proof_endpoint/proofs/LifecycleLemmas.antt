@@ -13,7 +13,7 @@ use Rattle.spec_endpoint.specs.Laws.{Call, Send, SendMany, ReceiveNoPacket, call
 use Rattle.proof_endpoint.specs.Lifecycles.{end_total, lifecycle_count, alive_count, handed_in_count, is_restore, EndsWithin, Use, Calls, TakesEvent, after_use, taken_events, emitted_along, handed_by, handed_along, restores, NoneRestores}
 use Rattle.proof_endpoint.specs.Acts.{Preserves}
 use Rattle.proof_endpoint.proofs.RowActsLemmas.{does_where_open}
-use Rattle.proof_endpoint.proofs.CallActsLemmas.{does_send_in, does_sent_if}
+use Rattle.proof_endpoint.proofs.CallActsLemmas.{does_send_in, does_sent_unless}
 use Rattle.proof_endpoint.proofs.ActsLemmas.{keeps_call}
 use Rattle.proof_endpoint.proofs.SpendsLemmas.{Spends, ends_append, ends_ended, ends_refusal, spends_nothing, spends_all, spends_then, spends_within}
 use Rattle.proof_endpoint.proofs.QueueSpendsLemmas.{waiting_added}
@@ -62,7 +62,7 @@ module _ {P : Type 0} (l : ℕ) where
   ends_within (Send m o) s h =
       let e : EndpointState P = s.endpoint_state in
       let t : EndpointState P = with_context e (offer m o (shown_state e.state) e.context) in
-      handed (lifecycle_count l o.lifecycle_id) e t (send m o e) (hands_one (send_refusal_of m e) m o e) (does_sent_if acts s.draws (send_refusal_of m e) t)
+      handed (lifecycle_count l o.lifecycle_id) e t (send m o e) (hands_one (send_refusal_of m e) m o e) (does_sent_unless acts s.draws (send_refusal_of m e) t)
   ends_within (SendMany ms o) s h =
       let e : EndpointState P = s.endpoint_state in
       let t : EndpointState P = with_context e (offer_all ms o (shown_state e.state) e.context) in

@@ -19,7 +19,7 @@ use Rattle.sctp_state.specs.declared.api.SctpImplementation.TheVariants.{DcsctpR
 use Rattle.spec_endpoint.specs.Association.{Identity, Tcb, tcb, State, CookieEchoed, Established, Closed, CookieWait, Open, Context, Endpoint, context, where_open, Packing}
 use Rattle.spec_endpoint.specs.Opening.{t1_init, t1_cookie, cookie_for, init_ack_of, new_if, on_resolution, on_read_cookie}
 use Rattle.spec_endpoint.specs.Calls.{ready_in}
-use Rattle.spec_endpoint.specs.Input.{my_tag, abort_flag, complete_flag, has_shutdown_ack, begins_with_cookie, has_more_counted, packet_refusal, packet_if, count_packet_at, on_packet_end, in_endpoint_state}
+use Rattle.spec_endpoint.specs.Input.{my_tag, abort_flag, complete_flag, has_shutdown_ack, begins_with_cookie, has_more_counted, packet_refusal, packet_unless, count_packet_at, on_packet_end, in_endpoint_state}
 use Rattle.spec_endpoint.specs.Shown.{Association, association_in}
 use Rattle.spec_endpoint.specs.Association.{heartbeats}
 use Rattle.spec_endpoint.specs.Heartbeats.{restart_interval}
@@ -113,7 +113,7 @@ module _ {P : Type 0} (pack : Packing P) where
   receives_ack : (a b : Stream) → give (init_ack_packet a b) (waiting a) ≡ emitting (packet_event pack (cookie_echo_packet a b) ∷ []) (echoed a b)
   unfolding be16 be32 be64 padded_item inner_items parameter_value chunk_bytes chunks_bytes chunk_value init_fields cookie_bytes capability_bytes
   receives_ack a b =
-      ap (λ (r : Option (List ℕ)). packet_if r (tag_of a) (init_ack_packet a b).chunks (count_packet_at (waiting a)))
+      ap (λ (r : Option (List ℕ)). packet_unless r (tag_of a) (init_ack_packet a b).chunks (count_packet_at (waiting a)))
       (own_taken (init_ack_chunk (init_ack_of defaults (init_tree a) (tag_of b) (first_of b) 0)) (tag_of a) (waiting a).endpoint_state.state refl refl refl refl (tag_some a) refl)
 
   pub echoes : (a b : Stream) → echoing pack a b ≡ emitting (packet_event pack (cookie_echo_packet a b) ∷ []) (echoed a b)
@@ -157,7 +157,7 @@ module _ {P : Type 0} (pack : Packing P) where
   receives_cookie_ack : (a b : Stream) → give (cookie_ack_packet a) (echoed a b) ≡ emitting (OnConnected ∷ []) (opened_a a b)
   unfolding chunks_bytes
   receives_cookie_ack a b =
-      ap (λ (r : Option (List ℕ)). packet_if r (tag_of a) (cookie_ack_chunk ∷ []) (count_packet_at (echoed a b)))
+      ap (λ (r : Option (List ℕ)). packet_unless r (tag_of a) (cookie_ack_chunk ∷ []) (count_packet_at (echoed a b)))
       (own_taken cookie_ack_chunk (tag_of a) (echoed a b).endpoint_state.state refl refl refl refl (tag_some a) refl)
 
   pub opens : (a b : Stream) → opening pack a b ≡ emitting (OnConnected ∷ []) (opened_a a b)

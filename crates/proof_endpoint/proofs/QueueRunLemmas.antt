@@ -7,11 +7,11 @@ use Rattle.sctp_serial.specs.Messages.{Message}
 use Rattle.sctp_state.specs.Options.{SendOptions, defaults}
 use Rattle.sctp_stream_scheduler.specs.StreamScheduler.{scheduler}
 use Rattle.sctp_tx_queue.specs.SendQueue.{Queued, Stream, Queue, queue, no_streams, blank, add, expiry_of}
-use Rattle.sctp_tx_queue.specs.Produced.{Produced, is_expired, produce, took}
+use Rattle.sctp_tx_queue.specs.Produced.{Produced, is_expired, produce, took, fully_sent}
 use Rattle.sctp_serial.specs.Time.{later}
 use Rattle.sctp_state.specs.Numbers.{ms}
 use Rattle.sctp_state.specs.Events.{Emitted, emit_events, OnBufferedAmountLow}
-use Rattle.proof_endpoint.specs.FirstRun.{fragment, fully_sent}
+use Rattle.proof_endpoint.specs.FirstRun.{fragment}
 use Rattle.spec_endpoint.specs.Calls.{queue_entry}
 use Rattle.sctp_serial.proofs.NumberLemmas.{is_itself}
 

@@ -4,7 +4,7 @@ use Rattle.std.proofs.lemmas.Bool.{lt-ltb}
 use Rattle.sctp_serial.specs.declared.api.StreamId.{StreamId}
 use Rattle.sctp_rx.specs.DataTracker.{number_of}
 use Rattle.spec_endpoint.specs.ResetRequests.{is_final, is_last_request, is_next_request}
-use Rattle.spec_endpoint.specs.StreamReset.{Handling, is_ahead, resets_if, outgoing_by}
+use Rattle.spec_endpoint.specs.StreamReset.{Handling, is_ahead, resets_unless, outgoing_by}
 use Rattle.spec_endpoint.specs.ResetLaws.{DoneRequestsAreAnswered, IsNotPerformed, ResetsWait, RequestsFit}
 use Rattle.proof_endpoint.proofs.RequestSizeLemmas.{request_fits}
 use Rattle.sctp_serial.proofs.NumberLemmas.{is_itself}
@@ -13,7 +13,7 @@ pub done_are_answered : DoneRequestsAreAnswered
 done_are_answered number last_tsn streams x e f =
     rw (e, is_itself x.tcb.requests.last, f) refl
 
-waits_if : (b : Bool) (number last_tsn : ℕ) (streams : List StreamId) (x : Handling (List ℕ)) → b ≡ true → IsNotPerformed x (resets_if b number last_tsn streams x)
+waits_if : (b : Bool) (number last_tsn : ℕ) (streams : List StreamId) (x : Handling (List ℕ)) → b ≡ true → IsNotPerformed x (resets_unless b number last_tsn streams x)
 waits_if true number last_tsn streams x e = record { context = refl; streams = refl }
 waits_if false number last_tsn streams x e = absurd (cc)
 

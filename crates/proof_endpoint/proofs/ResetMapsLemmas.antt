@@ -13,7 +13,7 @@ use Rattle.sctp_tx_queue.specs.Resets.{is_partly, emit_unsent, prepare_reset, co
 use Rattle.spec_endpoint.specs.Association.{Tcb, Phase, Context, EndpointState, open_as, with_context, where_open}
 use Rattle.spec_endpoint.specs.ResetRequests.{is_final, Outcome, Unsettled, Done, Denied, outcome, is_last_request, is_next_request, is_known_request}
 use Rattle.spec_endpoint.specs.Sending.{AfterSending, is_before_cookie_ack, open_with, send_buffered, send_in}
-use Rattle.spec_endpoint.specs.StreamReset.{Handling, handling, performs, is_ahead, resets_if, resets, outgoing_by, incoming_if, on_outcome, on_response, is_outgoing, on_parameter, HandledParameters, handle_next, handle_all, send_responses, finish_reconfig_if, finish_reconfig, on_reconfig, reset_refusal, prepare_all, reset_if, reset_streams}
+use Rattle.spec_endpoint.specs.StreamReset.{Handling, handling, performs, is_ahead, resets_unless, resets, outgoing_by, incoming_if, on_outcome, on_response, is_outgoing, on_parameter, HandledParameters, handle_next, handle_all, send_responses, finish_reconfig_if, finish_reconfig, on_reconfig, reset_refusal, prepare_all, streams_reset_unless, reset_streams}
 use Rattle.spec_endpoint.specs.StreamReset as rows
 use Rattle.proof_endpoint.specs.Mapped.{Mapping, map_context, map_emitted, map_endpoint_state}
 use Rattle.proof_endpoint.proofs.EmittedMapsLemmas.{map_changed, maps_cond, maps_expiry, maps_emit_event_all}
@@ -62,14 +62,14 @@ module _ {P Q : Type 0} (f : Mapping P Q) where
       let y : Handling P = performs number streams x in
       ap (λ (c : Context Q). handling_with y.tcb y.responses c) (maps_say f (OnIncomingStreamReset (numbers_of streams)) x.context)
 
-  maps_resets_if : (b : Bool) (number last_tsn : ℕ) (streams : List StreamId) (x : Handling P)
-      → resets_if b number last_tsn streams (map_handling f x) ≡ map_handling f (resets_if b number last_tsn streams x)
-  maps_resets_if true number last_tsn streams x = refl
-  maps_resets_if false number last_tsn streams x = maps_performs number streams x
+  maps_resets_unless : (b : Bool) (number last_tsn : ℕ) (streams : List StreamId) (x : Handling P)
+      → resets_unless b number last_tsn streams (map_handling f x) ≡ map_handling f (resets_unless b number last_tsn streams x)
+  maps_resets_unless true number last_tsn streams x = refl
+  maps_resets_unless false number last_tsn streams x = maps_performs number streams x
 
   maps_resets : (number last_tsn : ℕ) (streams : List StreamId) (x : Handling P)
       → resets number last_tsn streams (map_handling f x) ≡ map_handling f (resets number last_tsn streams x)
-  maps_resets number last_tsn streams x = maps_resets_if (is_ahead last_tsn x.tcb) number last_tsn streams x
+  maps_resets number last_tsn streams x = maps_resets_unless (is_ahead last_tsn x.tcb) number last_tsn streams x
 
   maps_outgoing_by : (a b d : Bool) (number last_tsn : ℕ) (streams : List StreamId) (x : Handling P)
       → outgoing_by a b d number last_tsn streams (map_handling f x) ≡ map_handling f (outgoing_by a b d number last_tsn streams x)
@@ -140,12 +140,12 @@ module _ {P Q : Type 0} (f : Mapping P Q) where
   maps_prepare_all (id ∷ ids) c =
       ap (λ (d : Context Q). prepare_all ids d) (maps_prepared id c) ∙ maps_prepare_all ids (rows.prepare_reset_stream id c)
 
-  maps_reset_if : (o : Option ResetStreamsError) (ids : List ℕ) (s : EndpointState P) → reset_if o ids (map_endpoint_state f s) ≡ map_endpoint_state f (reset_if o ids s)
-  maps_reset_if None ids s =
+  maps_streams_reset_unless : (o : Option ResetStreamsError) (ids : List ℕ) (s : EndpointState P) → streams_reset_unless o ids (map_endpoint_state f s) ≡ map_endpoint_state f (streams_reset_unless o ids s)
+  maps_streams_reset_unless None ids s =
       let d : Context P = prepare_all ids s.context in
       ap (λ (e : Context Q). where_open send_in (with_context (map_endpoint_state f s) e)) (maps_prepare_all ids s.context)
       ∙ maps_where_open f send_in send_in (with_context s d) (maps_send_in f)
-  maps_reset_if (Some e) ids s = refl
+  maps_streams_reset_unless (Some e) ids s = refl
 
   pub maps_reset_streams : (ids : List ℕ) (s : EndpointState P) → reset_streams ids (map_endpoint_state f s) ≡ map_endpoint_state f (reset_streams ids s)
-  maps_reset_streams ids s = maps_reset_if (reset_refusal s.state) ids s
+  maps_reset_streams ids s = maps_streams_reset_unless (reset_refusal s.state) ids s

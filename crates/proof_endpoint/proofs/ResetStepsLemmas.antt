@@ -12,7 +12,7 @@ use Rattle.sctp_tx_queue.specs.Resets.{is_partly, emit_unsent, prepare_reset}
 use Rattle.spec_endpoint.specs.Association.{Tcb, Phase, Open, Context, EndpointState, with_context, Packing}
 use Rattle.spec_endpoint.specs.ResetRequests.{is_final, Outcome, Unsettled, Done, Denied, outcome, is_last_request, is_next_request, is_known_request}
 use Rattle.spec_endpoint.specs.Sending.{is_before_cookie_ack, send_in}
-use Rattle.spec_endpoint.specs.StreamReset.{Handling, handling, performs, is_ahead, resets_if, resets, outgoing_by, incoming_if, on_outcome, is_outgoing, on_parameter, HandledParameters, handle_next, handle_all, send_responses, finish_reconfig_if, on_reconfig, reset_refusal, prepare_reset_stream, prepare_all, reset_if, reset_streams}
+use Rattle.spec_endpoint.specs.StreamReset.{Handling, handling, performs, is_ahead, resets_unless, resets, outgoing_by, incoming_if, on_outcome, is_outgoing, on_parameter, HandledParameters, handle_next, handle_all, send_responses, finish_reconfig_if, on_reconfig, reset_refusal, prepare_reset_stream, prepare_all, streams_reset_unless, reset_streams}
 use Rattle.proof_endpoint.proofs.StepsLemmas.{Emits, most_bytes, Goes, Steps}
 use Rattle.proof_endpoint.proofs.EmitsLemmas.{quiet_expiry, emits_nothing, emits_given_up, emits_all, emits_then}
 use Rattle.proof_endpoint.proofs.GoesLemmas.{goes_by, goes_same, goes_then, goes_said, goes_emit_error, goes_emit_chunk}
@@ -47,12 +47,12 @@ module _ {P : Type 0} where
   goes_performs number streams x =
       goes_said 0 x.context (performs number streams x).context (OnIncomingStreamReset (numbers_of streams)) refl refl refl tt refl
 
-  goes_resets_if : (b : Bool) (number last_tsn : ℕ) (streams : List StreamId) (x : Handling P) → Goes 0 x.context (resets_if b number last_tsn streams x).context
-  goes_resets_if true number last_tsn streams x = goes_same x.context
-  goes_resets_if false number last_tsn streams x = goes_performs number streams x
+  goes_resets_unless : (b : Bool) (number last_tsn : ℕ) (streams : List StreamId) (x : Handling P) → Goes 0 x.context (resets_unless b number last_tsn streams x).context
+  goes_resets_unless true number last_tsn streams x = goes_same x.context
+  goes_resets_unless false number last_tsn streams x = goes_performs number streams x
 
   goes_resets : (number last_tsn : ℕ) (streams : List StreamId) (x : Handling P) → Goes 0 x.context (resets number last_tsn streams x).context
-  goes_resets number last_tsn streams x = goes_resets_if (is_ahead last_tsn x.tcb) number last_tsn streams x
+  goes_resets number last_tsn streams x = goes_resets_unless (is_ahead last_tsn x.tcb) number last_tsn streams x
 
   goes_outgoing_by : (a b d : Bool) (number last_tsn : ℕ) (streams : List StreamId) (x : Handling P)
       → Goes 0 x.context (outgoing_by a b d number last_tsn streams x).context
@@ -121,11 +121,11 @@ module _ {P : Type 0} where
       let d : Context P = prepare_reset_stream id c in
       goes_then 0 c d (prepare_all ids d) (goes_by 0 c d refl refl (emits_prepared c.pack (most_bytes c) id c.queue c.emitted)) (goes_prepare_all ids d)
 
-  steps_reset_if : (o : Option ResetStreamsError) (ids : List ℕ) (s : EndpointState P) → Steps s (reset_if o ids s)
-  steps_reset_if None ids s =
+  steps_streams_reset_unless : (o : Option ResetStreamsError) (ids : List ℕ) (s : EndpointState P) → Steps s (streams_reset_unless o ids s)
+  steps_streams_reset_unless None ids s =
       let d : Context P = prepare_all ids s.context in
-      steps_then s d (reset_if None ids s) (goes_prepare_all ids s.context) (steps_where_open send_in (with_context s d) steps_send_in)
-  steps_reset_if (Some e) ids s = steps_same s
+      steps_then s d (streams_reset_unless None ids s) (goes_prepare_all ids s.context) (steps_where_open send_in (with_context s d) steps_send_in)
+  steps_streams_reset_unless (Some e) ids s = steps_same s
 
   pub steps_reset_streams : (ids : List ℕ) (s : EndpointState P) → Steps s (reset_streams ids s)
-  steps_reset_streams ids s = steps_reset_if (reset_refusal s.state) ids s
+  steps_reset_streams ids s = steps_streams_reset_unless (reset_refusal s.state) ids s

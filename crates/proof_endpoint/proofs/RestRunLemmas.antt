@@ -13,9 +13,9 @@ use Rattle.sctp_tx.specs.RetransmissionQueue.{Sender, handle_sack}
 use Rattle.spec_endpoint.specs.Association.{Tcb, Established, Open, Context, EndpointState, Endpoint, where_open, Packing}
 use Rattle.spec_endpoint.specs.Packets.{has_chunks, new_packet}
 use Rattle.spec_endpoint.specs.Sending.{Filling, burst_step_if, continue_burst, burst, sent_by, open_with}
-use Rattle.spec_endpoint.specs.Sack.{errors_unless_progress, sample_rtt, on_clean_sack, send_after_sack}
-use Rattle.spec_endpoint.specs.Shutdown.{phase_step}
-use Rattle.spec_endpoint.specs.Input.{count_packet_at, on_packet_end, packet_if}
+use Rattle.spec_endpoint.specs.Sack.{sample_rtt, on_clean_sack, send_after_sack}
+use Rattle.spec_endpoint.specs.Shutdown.{cleared_if, phase_step}
+use Rattle.spec_endpoint.specs.Input.{count_packet_at, on_packet_end, packet_unless}
 use Rattle.proof_endpoint.specs.FirstRun.{first_of, tag_of, sack_packet, delivered_events, give, drained, resting, IsSmall}
 use Rattle.proof_endpoint.proofs.OpeningRunLemmas.{emitting, first_small, tag_some, own_taken, drawn, open_a}
 use Rattle.proof_endpoint.proofs.QueueRunLemmas.{emptied}
@@ -24,7 +24,7 @@ use Rattle.proof_endpoint.proofs.SendRunLemmas.{sent_tcb, sent_end, sends}
 use Rattle.proof_endpoint.proofs.TakeRunLemmas.{near_first}
 
 -- where there were no errors, there are none
-none_again : (is_progress : Bool) (limit : Option ℕ) → errors_unless_progress is_progress (no_errors limit) ≡ no_errors limit
+none_again : (is_progress : Bool) (limit : Option ℕ) → cleared_if is_progress (no_errors limit) ≡ no_errors limit
 none_again true limit = refl
 none_again false limit = refl
 
@@ -74,7 +74,7 @@ module _ {P : Type 0} (pack : Packing P) (a b : rng.Stream) (m : Message) (lifet
     receives_by : on_clean_sack 4294967296 window [] Established tcb received_context ≡ send_after_sack rested_tcb (phase_step Established emitted_context)
         → give (sack_packet a m) (sent_end pack a b m o) ≡ emitting (delivered_events lifecycle) rested_end
     receives_by acked =
-        ap (λ (r : Option (List ℕ)). packet_if r (tag_of a) (sack_chunk k ∷ []) (count_packet_at (sent_end pack a b m o)))
+        ap (λ (r : Option (List ℕ)). packet_unless r (tag_of a) (sack_chunk k ∷ []) (count_packet_at (sent_end pack a b m o)))
         (own_taken (sack_chunk k) (tag_of a) (sent_end pack a b m o).endpoint_state.state refl refl refl refl (tag_some a) refl)
         ∙ ap (λ (n : ℕ). record (sent_end pack a b m o) { endpoint_state = where_open on_packet_end (on_clean_sack n window [] Established tcb received_context) }) (near_first (first_of a) (first_small a))
         ∙ ap (λ (s : EndpointState P). record (sent_end pack a b m o) { endpoint_state = where_open on_packet_end s }) acked

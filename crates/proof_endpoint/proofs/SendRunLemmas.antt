@@ -19,7 +19,7 @@ use Rattle.sctp_tx_outstanding.specs.Item.{Item, size_of}
 use Rattle.sctp_tx_outstanding.specs.OutstandingData.{first_sent}
 use Rattle.sctp_tx_outstanding.specs.Resending.{resend, empty_packet}
 use Rattle.sctp_tx_queue.specs.SendQueue.{Queue, expiry_of}
-use Rattle.sctp_tx_queue.specs.Produced.{Turn}
+use Rattle.sctp_tx_queue.specs.Produced.{Turn, fully_sent}
 use Rattle.sctp_tx.specs.Windows.{Windows, at_first, consume_rwnd}
 use Rattle.sctp_tx.specs.RetransmissionQueue.{Sender}
 use Rattle.sctp_tx.specs.Sending as fragments
@@ -27,9 +27,9 @@ use Rattle.sctp_tx.specs.Sending.{filling, fill, take_turn, timed_filling}
 use Rattle.spec_endpoint.specs.Association.{Tcb, Established, Open, Context, EndpointState, Endpoint, with_context, where_open, Packing}
 use Rattle.spec_endpoint.specs.Packets.{PacketDraft, fits, added_if, room, has_chunks, new_packet}
 use Rattle.spec_endpoint.specs.Sending.{Filling, with_fragments, emit_packet, burst_step_if, continue_burst, burst, sent_by, open_with, send_in}
-use Rattle.spec_endpoint.specs.Calls.{send_refusal, offered, sent_if, send}
+use Rattle.spec_endpoint.specs.Calls.{send_refusal, offered, sent_unless, send}
 use Rattle.spec_endpoint.specs.Input.{in_endpoint_state}
-use Rattle.proof_endpoint.specs.FirstRun.{first_of, tag_of, fragment, fully_sent, data_packet, packet_event, drained, sending, IsSmall}
+use Rattle.proof_endpoint.specs.FirstRun.{first_of, tag_of, fragment, data_packet, packet_event, drained, sending, IsSmall}
 use Rattle.proof_endpoint.proofs.OpeningRunLemmas.{emitting, first_small, drawn, block, open_a, opened_a, opens}
 use Rattle.proof_endpoint.proofs.QueueRunLemmas.{holding, emptied, queues, produces}
 use Rattle.proof_endpoint.proofs.IdleRunLemmas.{fill_idle, burst_ends}
@@ -78,7 +78,7 @@ module _ {P : Type 0} (pack : Packing P) (a b : rng.Stream) (m : Message) (o : S
 
   offers : IsSmall m → send m o (opened_a pack a b).endpoint_state ≡ where_open send_in (with_context (opened_a pack a b).endpoint_state (holding_context (holding m o)))
   offers small =
-      ap (λ (r : Option SendError). sent_if r (with_context (opened_a pack a b).endpoint_state (offered r m o (open_a pack 2 2)))) (accepts_message pack m small)
+      ap (λ (r : Option SendError). sent_unless r (with_context (opened_a pack a b).endpoint_state (offered r m o (open_a pack 2 2)))) (accepts_message pack m small)
       ∙ ap (λ (q : Queue). where_open send_in (with_context (opened_a pack a b).endpoint_state (holding_context q))) (queues m o small.some)
 
   -- ---- its fragment

@@ -10,12 +10,12 @@ use Rattle.sctp_state.specs.declared.api.ErrorKind.TheVariants.{ParseFailed}
 use Rattle.sctp_state.specs.Options.{Options}
 use Rattle.sctp_state.specs.Events.{Event, SendPacket}
 use Rattle.spec_endpoint.specs.Association.{State, Closed, CookieWait, Open, Context, Endpoint, fresh, Packing}
-use Rattle.spec_endpoint.specs.Input.{packet_refusal, AfterChunk, in_endpoint_state, receive, receive_rest, receive_all, has_data_chunk, repeats_if, on_packet_end, count_packet_at as counts_row, packet_if, on_packet}
+use Rattle.spec_endpoint.specs.Input.{packet_refusal, AfterChunk, in_endpoint_state, receive, receive_rest, receive_all, has_data_chunk, repeats_if, on_packet_end, count_packet_at as counts_row, packet_unless, on_packet}
 use Rattle.spec_endpoint.specs.Laws.{Call, Connect, ReceivePacket, ReceiveNoPacket, called}
 use Rattle.proof_endpoint.specs.Sound.{OptionsFit, FitsPacket, IsSound, ArgumentFits}
 use Rattle.proof_endpoint.specs.Fair.{FitsReceived}
-use Rattle.proof_endpoint.specs.ReadBack.{ReadsBack, CanBeRead, EmitsWhatCanBeRead, as_carried, ReadsBackIn, EmitsWhatReadsBack}
-use Rattle.proof_endpoint.specs.Mapped.{Carried}
+use Rattle.proof_endpoint.specs.ReadBack.{ReadsBack, CanBeRead, EmitsWhatCanBeRead, ReadsBackIn, EmitsWhatReadsBack}
+use Rattle.proof_endpoint.specs.Mapped.{Carried, as_carried}
 use Rattle.proof_endpoint.specs.Acts.{EndWithPacket, no_packet, calm, BringsChunk, HasRequest, for_outgoing, for_incoming, counts, Preserves}
 use Rattle.proof_endpoint.proofs.ReceivedLemmas.{received_all}
 use Rattle.proof_endpoint.proofs.GoesLemmas.{small_empty}
@@ -120,7 +120,7 @@ module _ {P : Type 0} (g : Start P) where
       (one_by (is_reconfig chunk) p chunk s refl small f.0 h)
 
   taken : (o : Option (List ℕ)) (p : PacketTree) (s : Endpoint P) → FitsPacket p → SoundAt g (calm s)
-      → SoundAt g (calm (packet_if o p.header.verification_tag p.chunks s))
+      → SoundAt g (calm (packet_unless o p.header.verification_tag p.chunks s))
   taken (Some text) p s f h = does_emit_error k ParseFailed text s.endpoint_state.state s.endpoint_state.context s.draws h
   taken None p s f h =
       let first : Endpoint P = in_endpoint_state (repeats_if (has_data_chunk p.chunks)) s in
@@ -135,7 +135,7 @@ module _ {P : Type 0} (g : Start P) where
 
   -- whatever is in it
   of_refused : (o : Option (List ℕ)) (text : List ℕ) (p : PacketTree) (s : Endpoint P) → o ≡ Some text → SoundAt g (calm s)
-      → SoundAt g (calm (packet_if o p.header.verification_tag p.chunks s))
+      → SoundAt g (calm (packet_unless o p.header.verification_tag p.chunks s))
   of_refused None text p s e h = cc
   of_refused (Some reason) text p s e h = does_emit_error k ParseFailed reason s.endpoint_state.state s.endpoint_state.context s.draws h
 

@@ -5,7 +5,7 @@ use Rattle.std.proofs.lemmas.Bool.{and_parts}
 use Rattle.sctp_serial.specs.declared.api.StreamId.{StreamId}
 use Rattle.sctp_wire.specs.Parameter.{ParameterTree, state_cookie, outgoing_reset_request}
 use Rattle.sctp_wire.specs.Serialize.{is_encodable}
-use Rattle.sctp_packet.specs.Chunk.{ChunkTree, FragmentTree, InitTree, init_chunk, init_ack_chunk, cookie_echo_chunk, cookie_ack_chunk, re_config_chunk}
+use Rattle.sctp_packet.specs.Chunk.{ChunkTree, FragmentTree, InitTree, init_chunk, init_ack_chunk, cookie_echo_chunk, cookie_ack_chunk, re_config_chunk, fragment_chunk}
 use Rattle.sctp_packet.specs.Grammar.{Each, FitsChunk}
 use Rattle.sctp_packet.specs.Written.{chunk_item, chunk_is_whole, chunk_bytes}
 use Rattle.sctp_packet.specs.ReadBack.{ChunkReadsBack}
@@ -18,7 +18,7 @@ use Rattle.sctp_tx.specs.ForwardPoints.{chunk_if, forward_chunk}
 use Rattle.spec_endpoint.specs.Association.{Tcb}
 use Rattle.spec_endpoint.specs.ResetRequests.{Request, ids, request_chunk}
 use Rattle.spec_endpoint.specs.Packets.{PacketDraft, room, fits, added_if, add, add_all}
-use Rattle.spec_endpoint.specs.Sending.{selective_ack, data_chunk_of, data_chunks}
+use Rattle.spec_endpoint.specs.Sending.{selective_ack, data_chunks}
 use Rattle.spec_endpoint.specs.Opening.{init_of, cookie_for, agreed_by, init_ack_of}
 use Rattle.proof_endpoint.specs.Sound.{OptionsFit, FitsRequest, FitsTcb, HasSomeCookie}
 use Rattle.proof_endpoint.specs.Fair.{IsFairParameter, IsFair}
@@ -108,11 +108,11 @@ own_request r h =
     let p : ParameterTree = outgoing_reset_request r.number r.number (record { 0 = r.last_tsn }) (ids r.streams) in
     own_responses (p ∷ []) (record { fits = (h.number, h.number, h.last_tsn, ids_fit r.streams h.streams); of_its_variant = tt }, tt)
 
-own_datum : (b is_immediate : Bool) (c : ℕ × FragmentTree) → FitsSent c → IsOwnChunk (data_chunk_of b is_immediate c)
+own_datum : (b is_immediate : Bool) (c : ℕ × FragmentTree) → FitsSent c → IsOwnChunk (fragment_chunk b is_immediate c)
 own_datum true is_immediate c h = record { fair = record { fits = (h.0, h.1); inside = tt }; cookie = tt }
 own_datum false is_immediate c h = record { fair = record { fits = (h.0, h.1); inside = tt }; cookie = tt }
 
-own_data : (b is_immediate : Bool) (cs : List (ℕ × FragmentTree)) → Each FitsSent cs → Each IsOwnChunk (map (data_chunk_of b is_immediate) cs)
+own_data : (b is_immediate : Bool) (cs : List (ℕ × FragmentTree)) → Each FitsSent cs → Each IsOwnChunk (map (fragment_chunk b is_immediate) cs)
 own_data b is_immediate [] h = tt
 own_data b is_immediate (c ∷ cs) h = (own_datum b is_immediate c h.0, own_data b is_immediate cs h.1)
 

@@ -13,10 +13,10 @@ use Rattle.spec_endpoint.specs.Input.{on_packet}
 use Rattle.spec_endpoint.specs.Wire.{field_of, writing, AreBytes}
 use Rattle.spec_endpoint.specs.Receiving.{Receives}
 use Rattle.spec_endpoint.specs.Laws.{Call, called}
-use Rattle.proof_endpoint.specs.Mapped.{Carried, as_written}
+use Rattle.proof_endpoint.specs.Mapped.{Carried, as_written, as_carried}
 use Rattle.proof_endpoint.specs.ReceivedBack.{IsReceivable, as_received}
 use Rattle.proof_endpoint.specs.Sound.{IsSound, ArgumentFits, HasSomeCookie}
-use Rattle.proof_endpoint.specs.ReadBack.{ReadsBack, CanBeRead, EmitsWhatCanBeRead, LetsThrough, IsReceivedAs, CanBeReceived, EmitsWhatCanBeReceived, as_carried, ReadsBackIn, EmitsWhatReadsBack, IsReceivedAsWritten, EmitsWhatIsReceived, AcceptedPacketsFit, EmittedPacketsFit}
+use Rattle.proof_endpoint.specs.ReadBack.{ReadsBack, CanBeRead, EmitsWhatCanBeRead, LetsThrough, IsReceivedAs, CanBeReceived, EmitsWhatCanBeReceived, ReadsBackIn, EmitsWhatReadsBack, IsReceivedAsWritten, EmitsWhatIsReceived, AcceptedPacketsFit, EmittedPacketsFit}
 use Rattle.proof_endpoint.proofs.ReceivedBackLemmas.{is_accepted, written_received, written_alone, length_written}
 use Rattle.proof_endpoint.proofs.ReceivedLemmas.{IsByte, each_back, each_of_all}
 use Rattle.proof_endpoint.proofs.SoundLawsLemmas.{can_be_read, chunks_read_back}

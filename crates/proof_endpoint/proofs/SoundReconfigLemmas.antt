@@ -13,7 +13,7 @@ use Rattle.spec_endpoint.specs.Association.{Tcb, Phase, Open, Context}
 use Rattle.spec_endpoint.specs.Packets.{PacketDraft, add, new_packet, emit_event_in}
 use Rattle.spec_endpoint.specs.ResetRequests.{is_final, in_progress, performed, nothing_to_do, bad_number, outcome, is_last_request, is_next_request, is_known_request}
 use Rattle.spec_endpoint.specs.Sending.{is_before_cookie_ack}
-use Rattle.spec_endpoint.specs.StreamReset.{Handling, handling, respond, process, is_ahead, resets_if, outgoing_by, incoming_if, is_outgoing, on_parameter, HandledParameters, handle_next, handle_all, send_responses, finish_reconfig_if, on_reconfig}
+use Rattle.spec_endpoint.specs.StreamReset.{Handling, handling, respond, process, is_ahead, resets_unless, outgoing_by, incoming_if, is_outgoing, on_parameter, HandledParameters, handle_next, handle_all, send_responses, finish_reconfig_if, on_reconfig}
 use Rattle.spec_endpoint.specs.Laws.{Call}
 use Rattle.proof_endpoint.specs.Acts.{EndWithPacket, idle, all_along, Preserves}
 use Rattle.proof_endpoint.specs.Fair.{IsFairParameter}
@@ -45,7 +45,7 @@ module _ {P : Type 0} (g : Start P) (phase : Phase) (w : Stream) where
         responses = each_push IsFairParameter x.responses _ h.responses (response_fits number result n r);
       }
 
-  resets_by : (b : Bool) (number last_tsn : ℕ) (streams : List StreamId) (x : Handling P) → number < 2 ^ 32 → Done x → Done (resets_if b number last_tsn streams x)
+  resets_by : (b : Bool) (number last_tsn : ℕ) (streams : List StreamId) (x : Handling P) → number < 2 ^ 32 → Done x → Done (resets_unless b number last_tsn streams x)
   resets_by true number last_tsn streams x n h =
       let s = h.sound.state in
       let six : in_progress ≤ 6 = omega arith in

@@ -127,7 +127,7 @@ module _ {P : Type 0} (pack : Packing P) (a b : rng.Stream) (m : Message) (o : S
 
   receives : IsSmall m → give (data_packet a b m o) (opened_b pack a b) ≡ emitting (packet_event pack (sack_packet a m) ∷ []) taken_end
   receives small =
-      ap (λ (r : Option (List ℕ)). input.packet_if r (tag_of b) (data_packet a b m o).chunks (count_packet_at (opened_b pack a b)))
+      ap (λ (r : Option (List ℕ)). input.packet_unless r (tag_of b) (data_packet a b m o).chunks (count_packet_at (opened_b pack a b)))
       (own_taken (data_chunk first false (fragment m o)) (tag_of b) (opened_b pack a b).endpoint_state.state refl refl refl refl (tag_some b) refl)
       ∙ ap (λ (s : EndpointState P). record (opened_b pack a b) { endpoint_state = where_open on_packet_end s }) (receives_data small)
       ∙ ap (λ (s : EndpointState P). record (opened_b pack a b) { endpoint_state = s }) acknowledges

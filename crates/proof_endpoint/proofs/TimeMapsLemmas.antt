@@ -13,7 +13,7 @@ use Rattle.spec_endpoint.specs.Sending.{AfterSending, add_request, send_cookie}
 use Rattle.spec_endpoint.specs.Shutdown.{over, send_shutdown, send_shutdown_ack, too_many}
 use Rattle.spec_endpoint.specs.Opening.{send_init}
 use Rattle.spec_endpoint.specs.Heartbeats.{counted_on, heartbeat_chunk, send_heartbeat_if, heartbeat_timeout_if}
-use Rattle.spec_endpoint.specs.Timers.{Ticking, tick_ack, timed_out, t3_if, tick_t3, tick_interval, tick_timeout, request_again, errs_if, requests_again, reconfig_timeout, requests_if, tick_requests, ticking, tick_timers, TimerOutcome, timer_outcome, closed_if, after_timers, abort_if, abort_if_exhausted, abort_or_send_if, abort_or_send, after_ticks_if, after_ticks, t2_expired, t2_if, tick_t2, waits_if, echoed_again, t1_expired, t1_if, tick_cookie, InitOutcome, init_outcome, waiting_if, after_init_timer, init_expired, init_if, tick_init, tick_open, tick_in, advance_unless, advance, is_owed}
+use Rattle.spec_endpoint.specs.Timers.{Ticking, tick_ack, timed_out, t3_if, tick_t3, tick_interval, tick_timeout, request_again, errs_if, requests_again, reconfig_timeout, requests_if, tick_requests, ticking, tick_timers, TimerOutcome, timer_outcome, closed_if, after_timers, abort_if, abort_if_exhausted, abort_or_send_if, abort_or_send, after_ticks_if, after_ticks, t2_expired, t2_if, tick_t2, waits_unless, echoed_again, t1_expired, t1_if, tick_cookie, InitOutcome, init_outcome, waiting_unless, after_init_timer, init_expired, init_if, tick_init, tick_open, tick_in, advance_unless, advance, is_owed}
 use Rattle.proof_endpoint.specs.Mapped.{Mapping, map_context, map_endpoint_state}
 use Rattle.proof_endpoint.proofs.EmittedMapsLemmas.{maps_nack_all}
 use Rattle.proof_endpoint.proofs.SendingMapsLemmas.{maps_emit, maps_emit_chunk, maps_send_buffered, maps_send_cookie}
@@ -149,9 +149,9 @@ module _ {P Q : Type 0} (f : Mapping P Q) where
 
   -- ---- T1-cookie
 
-  maps_waits_if : (b : Bool) (t : Tcb) (c : Context P) → waits_if b t (map_context f c) ≡ map_left f (waits_if b t c)
-  maps_waits_if true t c = maps_abort_if_exhausted t c
-  maps_waits_if false t c = refl
+  maps_waits_unless : (b : Bool) (t : Tcb) (c : Context P) → waits_unless b t (map_context f c) ≡ map_left f (waits_unless b t c)
+  maps_waits_unless true t c = maps_abort_if_exhausted t c
+  maps_waits_unless false t c = refl
 
   maps_t1_expired : (b : Bool) (cookie : List ℕ) (t : Tcb) (c : Context P) → t1_expired b cookie t (map_context f c) ≡ map_left f (t1_expired b cookie t c)
   maps_t1_expired true cookie t c =
@@ -163,7 +163,7 @@ module _ {P Q : Type 0} (f : Mapping P Q) where
 
   maps_t1_if : (b : Bool) (t1 : Timer) (cookie : List ℕ) (x : Ticking P) → t1_if b t1 cookie (map_ticking f x) ≡ map_left f (t1_if b t1 cookie x)
   maps_t1_if true t1 cookie x = maps_t1_expired (is_running (expire x.context.now t1)) cookie x.tcb x.context
-  maps_t1_if false t1 cookie x = maps_waits_if x.has_expired x.tcb x.context
+  maps_t1_if false t1 cookie x = maps_waits_unless x.has_expired x.tcb x.context
 
   maps_cookie : (t1 : Timer) (cookie : List ℕ) (t : Tcb) (c : Context P)
       → tick_cookie t1 cookie (tick_ack (ticking t (map_context f c))) ≡ map_left f (tick_cookie t1 cookie (tick_ack (ticking t c)))
@@ -184,9 +184,9 @@ module _ {P Q : Type 0} (f : Mapping P Q) where
   maps_init_if true tag first t1 c = maps_init_expired (is_running (expire c.now t1)) tag first c
   maps_init_if false tag first t1 c = refl
 
-  maps_waiting_if : (b : Bool) (tag first : ℕ) (t1 : Timer) (c : Context P) → waiting_if b tag first t1 (map_context f c) ≡ map_endpoint_state f (waiting_if b tag first t1 c)
-  maps_waiting_if true tag first t1 c = refl
-  maps_waiting_if false tag first t1 c = refl
+  maps_waiting_unless : (b : Bool) (tag first : ℕ) (t1 : Timer) (c : Context P) → waiting_unless b tag first t1 (map_context f c) ≡ map_endpoint_state f (waiting_unless b tag first t1 c)
+  maps_waiting_unless true tag first t1 c = refl
+  maps_waiting_unless false tag first t1 c = refl
 
   -- ---- by state
 
@@ -214,7 +214,7 @@ module _ {P Q : Type 0} (f : Mapping P Q) where
   maps_tick (CookieWait tag first t1) c =
       let x : InitOutcome P = tick_init tag first t1 c in
       ap (λ (y : InitOutcome Q). after_init_timer tag first (expire c.now t1) y) (maps_init_if (is_due c.now t1) tag first t1 c)
-      ∙ maps_waiting_if x.has_ended tag first (expire c.now t1) x.context
+      ∙ maps_waiting_unless x.has_ended tag first (expire c.now t1) x.context
   maps_tick (Open phase t) c = maps_tick_open phase t c
 
   maps_advance_if : (b : Bool) (now : ℕ) (s : EndpointState P) → advance_unless b now (map_endpoint_state f s) ≡ map_endpoint_state f (advance_unless b now s)

@@ -11,7 +11,7 @@ use Rattle.spec_endpoint.specs.ResetRequests.{lasting, expire_reconfig_timer, cl
 use Rattle.spec_endpoint.specs.Sending.{AfterSending, add_request, send_cookie}
 use Rattle.spec_endpoint.specs.Shutdown.{send_shutdown, send_shutdown_ack}
 use Rattle.spec_endpoint.specs.Heartbeats.{counted_on, heartbeat_chunk, send_heartbeat_if, heartbeat_timeout_if}
-use Rattle.spec_endpoint.specs.Timers.{Ticking, tick_ack, t3_if, tick_t3, tick_interval, tick_timeout, request_again, errs_if, requests_again, reconfig_timeout, requests_if, ticking, tick_timers, TimerOutcome, closed_if, after_timers, abort_if, abort_if_exhausted, abort_or_send_if, abort_or_send, after_ticks_if, after_ticks, t2_expired, t2_if, tick_t2, waits_if, echoed_again, t1_expired, t1_if, tick_cookie, InitOutcome, waiting_if, init_expired, init_if, tick_init, tick_open, tick_in, advance_unless, advance, is_owed}
+use Rattle.spec_endpoint.specs.Timers.{Ticking, tick_ack, t3_if, tick_t3, tick_interval, tick_timeout, request_again, errs_if, requests_again, reconfig_timeout, requests_if, ticking, tick_timers, TimerOutcome, closed_if, after_timers, abort_if, abort_if_exhausted, abort_or_send_if, abort_or_send, after_ticks_if, after_ticks, t2_expired, t2_if, tick_t2, waits_unless, echoed_again, t1_expired, t1_if, tick_cookie, InitOutcome, waiting_unless, init_expired, init_if, tick_init, tick_open, tick_in, advance_unless, advance, is_owed}
 use Rattle.spec_endpoint.specs.Laws.{ends}
 use Rattle.proof_endpoint.proofs.StepsLemmas.{most_bytes, Goes, Steps}
 use Rattle.proof_endpoint.proofs.EmitsLemmas.{emits_nack_all}
@@ -138,9 +138,9 @@ module _ {P : Type 0} where
 
   -- ---- T1-cookie
 
-  leaves_waits_if : (b : Bool) (t : Tcb) (c : Context P) → Leaves c (waits_if b t c)
-  leaves_waits_if true t c = leaves_abort_if_exhausted t c
-  leaves_waits_if false t c = goes_same c
+  leaves_waits_unless : (b : Bool) (t : Tcb) (c : Context P) → Leaves c (waits_unless b t c)
+  leaves_waits_unless true t c = leaves_abort_if_exhausted t c
+  leaves_waits_unless false t c = goes_same c
 
   leaves_t1_expired : (b : Bool) (cookie : List ℕ) (t : Tcb) (c : Context P) → Leaves c (t1_expired b cookie t c)
   leaves_t1_expired true cookie t c =
@@ -151,7 +151,7 @@ module _ {P : Type 0} where
 
   leaves_t1_if : (b : Bool) (t1 : Timer) (cookie : List ℕ) (x : Ticking P) → Leaves x.context (t1_if b t1 cookie x)
   leaves_t1_if true t1 cookie x = leaves_t1_expired (is_running (expire x.context.now t1)) cookie x.tcb x.context
-  leaves_t1_if false t1 cookie x = leaves_waits_if x.has_expired x.tcb x.context
+  leaves_t1_if false t1 cookie x = leaves_waits_unless x.has_expired x.tcb x.context
 
   leaves_cookie : (t1 : Timer) (cookie : List ℕ) (t : Tcb) (c : Context P) → Leaves c (tick_cookie t1 cookie (tick_ack (ticking t c)))
   leaves_cookie t1 cookie t c = leaves_t1_if (is_due c.now t1) t1 cookie (tick_ack (ticking t c))
@@ -167,10 +167,10 @@ module _ {P : Type 0} where
   goes_init_if true tag first t1 c = goes_init_expired (is_running (expire c.now t1)) tag first c
   goes_init_if false tag first t1 c = goes_same c
 
-  steps_waiting_if : (b : Bool) (tag first : ℕ) (old new : Timer) (c d : Context P) → Goes (once b) c d
-      → StepsFrom (CookieWait tag first old) c (waiting_if b tag first new d)
-  steps_waiting_if true tag first old new c d g = g
-  steps_waiting_if false tag first old new c d g = g
+  steps_waiting_unless : (b : Bool) (tag first : ℕ) (old new : Timer) (c d : Context P) → Goes (once b) c d
+      → StepsFrom (CookieWait tag first old) c (waiting_unless b tag first new d)
+  steps_waiting_unless true tag first old new c d g = g
+  steps_waiting_unless false tag first old new c d g = g
 
   -- ---- by state
 
@@ -190,7 +190,7 @@ module _ {P : Type 0} where
   steps_tick Closed c = goes_same c
   steps_tick (CookieWait tag first t1) c =
       let x : InitOutcome P = tick_init tag first t1 c in
-      steps_waiting_if x.has_ended tag first t1 (expire c.now t1) c x.context (goes_init_if (is_due c.now t1) tag first t1 c)
+      steps_waiting_unless x.has_ended tag first t1 (expire c.now t1) c x.context (goes_init_if (is_due c.now t1) tag first t1 c)
   steps_tick (Open phase t) c = steps_tick_open phase t c
 
   steps_advance_if : (is_back : Bool) (now : ℕ) (s : EndpointState P) → Steps s (advance_unless is_back now s)

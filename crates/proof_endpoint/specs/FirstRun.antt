@@ -7,7 +7,8 @@ use Rattle.sctp_packet.specs.Chunk.{ChunkTree, FragmentTree, InitTree, init_chun
 use Rattle.sctp_state.specs.Options.{SendOptions, defaults}
 use Rattle.sctp_capabilities.specs.Capabilities.{announced_parameters}
 use Rattle.sctp_capabilities.specs.StateCookie.{cookie_bytes}
-use Rattle.sctp_state.specs.Events.{Event, SendPacket, OnConnected, OnBufferedAmountLow, OnLifecycleMessageFullySent, OnLifecycleMessageDelivered, OnLifecycleEnd, nothing_emitted}
+use Rattle.sctp_state.specs.Events.{Event, SendPacket, OnConnected, OnBufferedAmountLow, OnLifecycleMessageDelivered, OnLifecycleEnd, nothing_emitted}
+use Rattle.sctp_tx_queue.specs.Produced.{fully_sent}
 use Rattle.spec_endpoint.specs.Association.{Endpoint, fresh, Packing}
 use Rattle.spec_endpoint.specs.Packets.{header_to}
 use Rattle.spec_endpoint.specs.Opening.{tsn_from, tag_from, init_of, cookie_for, init_ack_of, connect}
@@ -113,10 +114,6 @@ module _ {P : Type 0} (pack : Packing P) (a b : Stream) where
 
 abbrev pub packet_event : {P : Type 0} → Packing P → Carried → Event P
 packet_event pack p = SendPacket (pack.write p.header p.is_summed p.chunks)
-
-abbrev pub fully_sent : {P : Type 0} → Option ℕ → List (Event P)
-fully_sent None = []
-fully_sent (Some id) = OnLifecycleMessageFullySent id ∷ []
 
 abbrev pub delivered_events : {P : Type 0} → Option ℕ → List (Event P)
 delivered_events None = []

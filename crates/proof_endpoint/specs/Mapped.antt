@@ -3,7 +3,7 @@ use Rattle.std.specs.Prelude.{◌≡◌, ℕ, Bool, List, map}
 use Rattle.sctp_packet.specs.Chunk.{ChunkTree}
 use Rattle.sctp_packet.specs.Packet.{HeaderTree}
 use Rattle.sctp_state.specs.Events.{Event, SendPacket, OnConnected, OnClosed, OnConnectionRestarted, OnAborted, OnError, OnBufferedAmountLow, OnTotalBufferedAmountLow, OnStreamsResetFailed, OnStreamsResetPerformed, OnIncomingStreamReset, OnLifecycleMessageFullySent, OnLifecycleMessageMaybeExpired, OnLifecycleMessageExpired, OnLifecycleMessageDelivered, OnLifecycleEnd, Emitted}
-use Rattle.spec_endpoint.specs.Association.{Context, EndpointState, Endpoint}
+use Rattle.spec_endpoint.specs.Association.{Packing, Context, EndpointState, Endpoint}
 use Rattle.spec_endpoint.specs.Laws.{Call, called}
 use Rattle.spec_endpoint.specs.Wire.{written_bytes}
 
@@ -62,6 +62,9 @@ pub record Carried : Type 0 where
   pub header : HeaderTree
   pub is_summed : Bool
   pub chunks : List ChunkTree
+
+abbrev pub as_carried : Packing Carried
+as_carried = record { write = λ header is_summed chunks. record { header = header; is_summed = is_summed; chunks = chunks }; word_of = λ bytes. 0 }
 
 abbrev pub as_written : (word_of : List ℕ → ℕ) → Carried → List ℕ
 as_written word_of o = written_bytes word_of o.header o.is_summed o.chunks

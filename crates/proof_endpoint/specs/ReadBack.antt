@@ -13,7 +13,7 @@ use Rattle.spec_endpoint.specs.Input.{packet_refusal, on_packet}
 use Rattle.spec_endpoint.specs.Wire.{writing, AreBytes}
 use Rattle.spec_endpoint.specs.Receiving.{Receives}
 use Rattle.spec_endpoint.specs.Laws.{Call, ReceivePacket, called}
-use Rattle.proof_endpoint.specs.Mapped.{Carried, as_written}
+use Rattle.proof_endpoint.specs.Mapped.{Carried, as_carried, as_written}
 use Rattle.proof_endpoint.specs.ReceivedBack.{as_received}
 use Rattle.proof_endpoint.specs.Sound.{OptionsFit, IsSound, ArgumentFits, HasSomeCookie}
 
@@ -44,9 +44,6 @@ pub record EmitsWhatCanBeRead {P : Type 0} (before after : Context P) : Type 0 w
   pub can_be_read : All (CanBeRead before.pack before.options.mtu) events
 
 -- the same of packets that are lists of chunks
-abbrev pub as_carried : Packing Carried
-as_carried = record { write = λ header is_summed chunks. record { header = header; is_summed = is_summed; chunks = chunks }; word_of = λ bytes. 0 }
-
 abbrev pub ReadsBackIn : (most : ℕ) → Event Carried → Type 0
 ReadsBackIn most (SendPacket p) = ReadsBack most p
 ReadsBackIn most e = Unit {0}

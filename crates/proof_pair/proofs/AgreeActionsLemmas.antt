@@ -12,11 +12,11 @@ use Rattle.sctp_state.specs.Events.{Event}
 use Rattle.sctp_state.specs.Options.{Options}
 use Rattle.spec_endpoint.specs.Association.{State, Closed, CookieWait, Open, Endpoint}
 use Rattle.spec_endpoint.specs.Opening.{emit_parse_error}
-use Rattle.spec_endpoint.specs.Input.{packet_refusal, count_packet_at, packet_if, on_accepted_packet, receive, misuse, violation, in_endpoint_state, repeats_if, has_data_chunk}
+use Rattle.spec_endpoint.specs.Input.{packet_refusal, count_packet_at, packet_unless, on_accepted_packet, receive, misuse, violation, in_endpoint_state, repeats_if, has_data_chunk}
 use Rattle.spec_endpoint.specs.Laws.{Call, Connect, ReceivePacket, ReceiveNoPacket, called}
-use Rattle.proof_endpoint.specs.Mapped.{Carried}
+use Rattle.proof_endpoint.specs.Mapped.{Carried, as_carried}
 use Rattle.proof_endpoint.specs.Acts.{calm, is_opened, BringsChunk}
-use Rattle.proof_pair.specs.Trace.{Side, Pair, as_carried, new_side, packets_in, emitted_packets, has_connected, EndAction, Calls, Gives, Refuses, drain, as_received, give_carried, foreign_if, act, goes, AreValidOptions, start, state_of}
+use Rattle.proof_pair.specs.Trace.{Side, Pair, new_side, packets_in, emitted_packets, has_connected, EndAction, Calls, Gives, Refuses, drain, as_received, give_carried, foreign_if, act, goes, AreValidOptions, start, state_of}
 use Rattle.proof_pair.specs.Agreement.{Draw, Association, mirrored, Has, History, association_of, held_in, drawn_in, history_after, Histories, no_history, no_histories, histories_after, histories_along, AreDistinct, AreDistinctPerEnd, IsPlainCall, IsAllowed, AreAllowed, emitted_since, Agrees, AgreesAlong, EndsAgree}
 use Rattle.proof_endpoint.proofs.PacketActsLemmas.{does_emit_error}
 use Rattle.proof_endpoint.proofs.ActsLemmas.{keeps_call, does_receive, does_repeats_if}
@@ -129,7 +129,7 @@ module _ (o q : Options) (x : Side) (own : AreValidOptions o) (other : AreValidO
   negotiated_foreign None p is k = k
   negotiated_foreign (Some text) p is k =
       let e : Endpoint Carried = called (ReceivePacket p) x.end in
-      let here : e ≡ emit_parse_error text (count_packet_at x.end) = ap (λ (r : Option (List ℕ)). packet_if r p.header.verification_tag p.chunks (count_packet_at x.end)) is in
+      let here : e ≡ emit_parse_error text (count_packet_at x.end) = ap (λ (r : Option (List ℕ)). packet_unless r p.header.verification_tag p.chunks (count_packet_at x.end)) is in
       negotiated_ends o q x e x.got_init (subst (λ (z : Endpoint Carried). InvAt g (calm z)) (sym here) (emitted_error text k))
 
   negotiated_given : (p : Option Carried) (checksum which : ℕ) (ps : List Carried) → All (EmitsAll q o) ps → slice_get ps which ≡ p → Negotiated o q x
@@ -193,11 +193,11 @@ module _ (o q : Options) (x y : Side) (own : AreValidOptions o) (other : AreVali
   holds_foreign None p is n = holds_same x n
   holds_foreign (Some text) p is n =
       let e : Endpoint Carried = called (ReceivePacket p) x.end in
-      let here : e ≡ emit_parse_error text (count_packet_at x.end) = ap (λ (r : Option (List ℕ)). packet_if r p.header.verification_tag p.chunks (count_packet_at x.end)) is in
+      let here : e ≡ emit_parse_error text (count_packet_at x.end) = ap (λ (r : Option (List ℕ)). packet_unless r p.header.verification_tag p.chunks (count_packet_at x.end)) is in
       holds_if_rests x n n e x.got_init refl k.quiet (subst (λ (z : Endpoint Carried). RestsAt (calm x.end) (calm z)) (sym here) (refused_packet_rests text))
 
   holds_taken : (r : Option (List ℕ)) (p : PacketTree) (asked : Bool) → Shape p.chunks → All (Emits q o) p.chunks → (n : History)
-      → Holds x (record (drain (packet_if r p.header.verification_tag p.chunks (count_packet_at x.end)) x) { got_init = asked }) n (noted_taking r p x.end n)
+      → Holds x (record (drain (packet_unless r p.header.verification_tag p.chunks (count_packet_at x.end)) x) { got_init = asked }) n (noted_taking r p x.end n)
   holds_taken (Some text) p asked shape said n = holds_if_rests x n n (emit_parse_error text (count_packet_at x.end)) asked refl k.quiet (refused_packet_rests text)
   holds_taken None p asked shape said n =
       let tag : ℕ = p.header.verification_tag in

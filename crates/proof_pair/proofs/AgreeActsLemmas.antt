@@ -3,15 +3,15 @@ use Rattle.std.proofs.Common.{◌≡◌, ℕ, ◌||◌, Bool, true, false, List,
 use Rattle.std.specs.List.{list_all}
 use Rattle.std.proofs.lemmas.List.Elements.{All-nil, All-push, All-weaker}
 use Rattle.std.proofs.Math.Bool.{or-false}
-use Rattle.sctp_packet.specs.Chunk.{ChunkTree, FragmentTree, init_chunk, init_ack_chunk, cookie_echo_chunk, cookie_ack_chunk}
+use Rattle.sctp_packet.specs.Chunk.{ChunkTree, FragmentTree, init_chunk, init_ack_chunk, cookie_echo_chunk, cookie_ack_chunk, fragment_chunk}
 use Rattle.sctp_state.specs.Options.{Options}
 use Rattle.sctp_state.specs.Events.{Event, SendPacket}
 use Rattle.spec_endpoint.specs.Packets.{PacketDraft, fits, added_if, add, add_all, header_to}
 use Rattle.spec_endpoint.specs.Association.{Tcb, Packing}
-use Rattle.spec_endpoint.specs.Sending.{data_chunk_of, data_chunks}
-use Rattle.proof_endpoint.specs.Mapped.{Carried}
+use Rattle.spec_endpoint.specs.Sending.{data_chunks}
+use Rattle.proof_endpoint.specs.Mapped.{Carried, as_carried}
 use Rattle.proof_endpoint.specs.Acts.{EndWithPacket, is_plain}
-use Rattle.proof_pair.specs.Trace.{as_carried, packets_in, has_connected}
+use Rattle.proof_pair.specs.Trace.{packets_in, has_connected}
 use Rattle.proof_pair.proofs.EmittedLemmas.{is_no_packet_or_status}
 use Rattle.proof_pair.proofs.JoinActsLemmas.{no_packet_or_status_has_no_packets, no_packet_or_status_not_connected, connected_both, packets_now}
 use Rattle.proof_pair.proofs.AgreeLemmas.{Past, View, view_of, Says, says_later, Shape, is_load, shape_with, shape_plain, Stands, stands_later, Agreed, Bound, Tagged, Later, later_same, Said, said_later}
@@ -164,15 +164,15 @@ module _ (g : Setting) (x y : Past) (v : View) (o : Options) (pack : Packing Car
   pub adds_load : (p : PacketDraft) (c : ChunkTree) → Inv g x y v o pack es p.tag p.chunks → IsLoad c → Inv g x y v o pack es (add c p).tag (add c p).chunks
   adds_load p c i l = adds p c i (l.says p.tag) (shape_with p.chunks c i.shape l.load)
 
-  data_load : (is_interleaved is_immediate : Bool) (c : ℕ × FragmentTree) → IsLoad (data_chunk_of is_interleaved is_immediate c)
+  data_load : (is_interleaved is_immediate : Bool) (c : ℕ × FragmentTree) → IsLoad (fragment_chunk is_interleaved is_immediate c)
   data_load true is_immediate c = record { says = λ tag. tt; load = refl }
   data_load false is_immediate c = record { says = λ tag. tt; load = refl }
 
   adds_data_by : (is_interleaved is_immediate : Bool) (cs : List (ℕ × FragmentTree)) (p : PacketDraft) → Inv g x y v o pack es p.tag p.chunks
-      → Inv g x y v o pack es (add_all (map (data_chunk_of is_interleaved is_immediate) cs) p).tag (add_all (map (data_chunk_of is_interleaved is_immediate) cs) p).chunks
+      → Inv g x y v o pack es (add_all (map (fragment_chunk is_interleaved is_immediate) cs) p).tag (add_all (map (fragment_chunk is_interleaved is_immediate) cs) p).chunks
   adds_data_by is_interleaved is_immediate [] p i = i
   adds_data_by is_interleaved is_immediate (c ∷ cs) p i =
-      let d : ChunkTree = data_chunk_of is_interleaved is_immediate c in
+      let d : ChunkTree = fragment_chunk is_interleaved is_immediate c in
       adds_data_by is_interleaved is_immediate cs (add d p) (adds_load p d i (data_load is_interleaved is_immediate c))
 
   pub adds_data : (t : Tcb) (is_immediate : Bool) (cs : List (ℕ × FragmentTree)) (p : PacketDraft) → Inv g x y v o pack es p.tag p.chunks

@@ -12,12 +12,12 @@ use Rattle.sctp_state.specs.Options.{Options}
 use Rattle.sctp_state.specs.Events.{Event}
 use Rattle.spec_endpoint.specs.Association.{State, Closed, CookieWait, Open, Context, Endpoint}
 use Rattle.spec_endpoint.specs.Opening.{connect, emit_parse_error}
-use Rattle.spec_endpoint.specs.Input.{packet_refusal, count_packet_at, packet_if, on_accepted_packet}
+use Rattle.spec_endpoint.specs.Input.{packet_refusal, count_packet_at, packet_unless, on_accepted_packet}
 use Rattle.spec_endpoint.specs.Laws.{Call, Connect, Restore, ReceivePacket, called}
-use Rattle.proof_endpoint.specs.Mapped.{Carried}
+use Rattle.proof_endpoint.specs.Mapped.{Carried, as_carried}
 use Rattle.proof_endpoint.proofs.OpeningStepsLemmas.{end_in}
 use Rattle.proof_endpoint.specs.Acts.{calm, no_packet}
-use Rattle.proof_pair.specs.Trace.{Side, as_carried, new_side, packets_in, emitted_packets, has_connected, EndAction, Calls, Gives, Refuses, drain, as_received, give_carried, foreign_if, act, AreValidOptions, state_of}
+use Rattle.proof_pair.specs.Trace.{Side, new_side, packets_in, emitted_packets, has_connected, EndAction, Calls, Gives, Refuses, drain, as_received, give_carried, foreign_if, act, AreValidOptions, state_of}
 use Rattle.proof_pair.specs.Agreement.{Association, mirrored, Has, History, held_in, drawn_to_connect, no_history, AreDistinct, IsAllowed, emitted_since}
 use Rattle.proof_endpoint.proofs.PacketActsLemmas.{does_emit_error}
 use Rattle.proof_endpoint.proofs.ActsLemmas.{keeps_call}
@@ -183,7 +183,7 @@ module _ (o : Options) (x : Side) (y : Past) (fine : AreValidOptions o) (n : His
   foreign None p is = same o x y n e1 k
   foreign (Some text) p is =
       let e : Endpoint Carried = called (ReceivePacket p) x.end in
-      let here : e ≡ emit_parse_error text (count_packet_at x.end) = ap (λ (r : Option (List ℕ)). packet_if r p.header.verification_tag p.chunks (count_packet_at x.end)) is in
+      let here : e ≡ emit_parse_error text (count_packet_at x.end) = ap (λ (r : Option (List ℕ)). packet_unless r p.header.verification_tag p.chunks (count_packet_at x.end)) is in
       ends o x y None n (noted [] e.endpoint_state.state n) e1 x.got_init e
       (goes_held g y n e1 e k.known (subst (λ (z : Endpoint Carried). InvAt g (past_of n e1) y (calm z)) (sym here) (refuses text)))
 
@@ -198,8 +198,8 @@ module _ (o : Options) (x : Side) (y : Past) (fine : AreValidOptions o) (n : His
     q = as_received p checksum
 
     taken_by : (r : Option (List ℕ)) → packet_refusal q.header.verification_tag q.chunks (state_of x) ≡ r → AreDistinct (noted_taking r q x.end n).drawn
-        → Turned o x (record (drain (packet_if r q.header.verification_tag q.chunks (count_packet_at x.end)) x) { got_init = asked }) n e1
-        (noted [] (packet_if r q.header.verification_tag q.chunks (count_packet_at x.end)).endpoint_state.state (noted_taking r q x.end n)) y
+        → Turned o x (record (drain (packet_unless r q.header.verification_tag q.chunks (count_packet_at x.end)) x) { got_init = asked }) n e1
+        (noted [] (packet_unless r q.header.verification_tag q.chunks (count_packet_at x.end)).endpoint_state.state (noted_taking r q x.end n)) y
     taken_by None is mine =
         let tag : ℕ = q.header.verification_tag in
         let may : Admitted tag q.chunks (state_of x) = admitted tag q.chunks (state_of x) (shape_carried p.chunks said.shape) is in

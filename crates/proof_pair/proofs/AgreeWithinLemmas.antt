@@ -20,7 +20,7 @@ use Rattle.spec_endpoint.specs.StreamReset.{Handling, finish_reconfig_if}
 use Rattle.spec_endpoint.specs.Opening.{CookieResolution, EstablishNew, RestartDetected, SimultaneousInit, MaintainExisting, Discard, InvalidTag, new_if, resolve_by_tags, cookie_in, echo_or_abort, on_resolution, on_read_cookie, new_unless}
 use Rattle.sctp_rx.specs.DataTracker.{is_ack_due}
 use Rattle.spec_endpoint.specs.Sending.{take_due_ack}
-use Rattle.spec_endpoint.specs.Input.{AfterChunk, receive, received_if, receive_all, receive_rest, violation, on_chunk, in_endpoint_state, ack_if_due, at_end, packet_acked, shut_waiting, shut_if, on_packet_end}
+use Rattle.spec_endpoint.specs.Input.{AfterChunk, receive, received_unless, receive_all, receive_rest, violation, on_chunk, in_endpoint_state, ack_if_due, at_end, packet_acked, shut_waiting, shut_if, on_packet_end}
 use Rattle.spec_endpoint.specs.Laws.{ReceivePacket as Given, ReceiveNoPacket}
 use Rattle.proof_endpoint.specs.Mapped.{Carried}
 use Rattle.proof_endpoint.proofs.OpeningStepsLemmas.{end_in}
@@ -163,7 +163,7 @@ module _ (p : PacketTree) where
   load_on c phase t s is = cc
 
   load_received : (v : Option (List ℕ)) (c : ChunkTree) (phase : Phase) (t : Tcb) (s : Endpoint Carried) → v ≡ None → is_load c ≡ true
-      → is_opened (received_if v tag c (end_in (Open phase t) s)).end.endpoint_state.state ≡ true
+      → is_opened (received_unless v tag c (end_in (Open phase t) s)).end.endpoint_state.state ≡ true
   load_received None c phase t s e is = load_on c phase t s is
   load_received (Some text) c phase t s e is = cc
 

@@ -13,7 +13,7 @@ use Rattle.sctp_tx_queue.specs.SendQueue.{Queued, Queue}
 use Rattle.sctp_tx_queue.proofs.InOrderLemmas.{new_in_order}
 use Rattle.sctp_tx_queue.proofs.RestLemmas.{calls_leave_rests}
 use Rattle.spec_endpoint.specs.Association.{Context, EndpointState, with_context, Endpoint, fresh}
-use Rattle.spec_endpoint.specs.Calls.{shown_state, send_refusal, send_refusal_of, queue_entry, offered, offer, offer_all, sent_if}
+use Rattle.spec_endpoint.specs.Calls.{shown_state, send_refusal, send_refusal_of, queue_entry, offered, offer, offer_all, sent_unless}
 use Rattle.spec_endpoint.specs.Handover.{restore_refusal_in, restored_as, restored_unless}
 use Rattle.spec_endpoint.specs.Laws.{Call, Connect, Close, Shutdown, Send, SendMany, ResetStreams, TakeMessage, SetLowThreshold, SetPriority, SetMaxMessageSize, Advance, HandOver, Restore, ReceivePacket, ReceiveNoPacket, called}
 use Rattle.proof_endpoint.specs.HandoverRoundTrip.{IsNumberedOnce, established_state, HandoverGoesOn, MadeConnected, CallsNumberOnce}
@@ -141,16 +141,16 @@ module _ (once : CallsNumberOnce) (made : MadeConnected) where
   abbrev with_offers : Endpoint (List ℕ) → Context (List ℕ) → Endpoint (List ℕ)
   with_offers e d = record e { endpoint_state = with_context e.endpoint_state d }
 
-  numbers_sent_if : (r : Option SendError) (o : SendOptions) (c : Context (List ℕ)) (e : Endpoint (List ℕ)) → NumbersOn 1 c.queue e.endpoint_state.context.queue
-      → NumbersOn 1 c.queue (sent_if r e.endpoint_state).context.queue
-  numbers_sent_if None o c e h = numbers_sent 1 o c e h
-  numbers_sent_if (Some x) o c e h = h
+  numbers_sent_unless : (r : Option SendError) (o : SendOptions) (c : Context (List ℕ)) (e : Endpoint (List ℕ)) → NumbersOn 1 c.queue e.endpoint_state.context.queue
+      → NumbersOn 1 c.queue (sent_unless r e.endpoint_state).context.queue
+  numbers_sent_unless None o c e h = numbers_sent 1 o c e h
+  numbers_sent_unless (Some x) o c e h = h
 
   pub each_call_numbers : EachCallNumbersOnce
   each_call_numbers (Send m o) e fits a none small h =
       let c : Context (List ℕ) = e.endpoint_state.context in
       let d : Context (List ℕ) = offer m o (shown_state e.endpoint_state.state) c in
-      numbers_sent_if (send_refusal_of m e.endpoint_state) o c (with_offers e d) (numbers_offered (send_refusal_of m e.endpoint_state) m o c small h)
+      numbers_sent_unless (send_refusal_of m e.endpoint_state) o c (with_offers e d) (numbers_offered (send_refusal_of m e.endpoint_state) m o c small h)
   each_call_numbers (SendMany ms o) e fits a none small h =
       let c : Context (List ℕ) = e.endpoint_state.context in
       let d : Context (List ℕ) = offer_all ms o (shown_state e.endpoint_state.state) c in

@@ -14,7 +14,7 @@ use Rattle.spec_endpoint.specs.Association.{Tcb, Phase, State, Closed, CookieWai
 use Rattle.spec_endpoint.specs.Shown.{Association, association_in}
 use Rattle.spec_endpoint.specs.Calls.{ready_in, without_first_message, opens_window, told_if, message_taken_in}
 use Rattle.spec_endpoint.specs.Opening.{emit_parse_error}
-use Rattle.spec_endpoint.specs.Input.{packet_refusal, count_packet_at, packet_if}
+use Rattle.spec_endpoint.specs.Input.{packet_refusal, count_packet_at, packet_unless}
 use Rattle.spec_endpoint.specs.Laws.{Call, TakeMessage, ReceivePacket, called, endings}
 use Rattle.proof_endpoint.specs.Mapped.{Carried}
 use Rattle.proof_pair.specs.Trace.{Side, Pair, emitted_packets, EndAction, Calls, Gives, Refuses, as_received, give_carried, foreign_if, act, goes, run, MayCall, MayAct, side_of, KeepsRules, NoAssociationHasEnded, AreValidOptions, start, state_of}
@@ -101,7 +101,7 @@ module _ (o q : Options) (x y : Side) (own : AreValidOptions o) (other : AreVali
   hands_refused (Some text) p is =
       let s : Endpoint Carried = x.end in
       let same : called (ReceivePacket p) s ≡ emit_parse_error text (count_packet_at s) =
-      ap (λ (r : Option (List ℕ)). packet_if r p.header.verification_tag p.chunks (count_packet_at s)) is in
+      ap (λ (r : Option (List ℕ)). packet_unless r p.header.verification_tag p.chunks (count_packet_at s)) is in
       subst (λ (t : State). Hands [] (state_of x) t) (sym (ap (λ (e : Endpoint Carried). e.endpoint_state.state) same)) (hands_still (state_of x))
 
   pub hands : (t : EndAction) → MayAct t x → endings (act t x y).emitted ≡ 0 → Hands (handed_by t x) (state_of x) (state_of (act t x y))

@@ -4,16 +4,16 @@ use Rattle.std.specs.List.{list_all}
 use Rattle.std.proofs.lemmas.List.Elements.{All-nil, All-cons, All-push, All-weaker}
 use Rattle.std.proofs.lemmas.Bool.{and_parts}
 use Rattle.std.proofs.Math.Bool.{or-false}
-use Rattle.sctp_packet.specs.Chunk.{ChunkTree, FragmentTree, init_chunk, init_ack_chunk, cookie_echo_chunk, cookie_ack_chunk}
+use Rattle.sctp_packet.specs.Chunk.{ChunkTree, FragmentTree, init_chunk, init_ack_chunk, cookie_echo_chunk, cookie_ack_chunk, fragment_chunk}
 use Rattle.sctp_state.specs.Options.{Options}
 use Rattle.sctp_state.specs.Events.{Event, SendPacket, OnConnected}
 use Rattle.spec_endpoint.specs.Association.{Tcb, State, Packing}
 use Rattle.spec_endpoint.specs.Packets.{header_to}
-use Rattle.spec_endpoint.specs.Sending.{data_chunk_of, data_chunks}
+use Rattle.spec_endpoint.specs.Sending.{data_chunks}
 use Rattle.spec_endpoint.specs.Laws.{ending}
-use Rattle.proof_endpoint.specs.Mapped.{Carried}
+use Rattle.proof_endpoint.specs.Mapped.{Carried, as_carried}
 use Rattle.proof_endpoint.specs.Acts.{EndWithPacket, is_plain}
-use Rattle.proof_pair.specs.Trace.{as_carried, packets_in, has_connected}
+use Rattle.proof_pair.specs.Trace.{packets_in, has_connected}
 use Rattle.proof_pair.proofs.EmittedLemmas.{is_no_packet_or_status}
 use Rattle.proof_pair.proofs.JoinLemmas.{View, view_of, Says, Leads, says_leads, received_leads, Stands}
 
@@ -191,15 +191,15 @@ module _ (g : Setting) (v : View) (tag : ℕ) where
   own_says_plain cookie_ack_chunk e = cc
   own_says_plain chunk e = tt
 
-  own_says_data_of : (is_interleaved is_immediate : Bool) (c : ℕ × FragmentTree) → OwnSays g v tag (data_chunk_of is_interleaved is_immediate c)
+  own_says_data_of : (is_interleaved is_immediate : Bool) (c : ℕ × FragmentTree) → OwnSays g v tag (fragment_chunk is_interleaved is_immediate c)
   own_says_data_of true is_immediate c = tt
   own_says_data_of false is_immediate c = tt
 
   own_says_data_by : (is_interleaved is_immediate : Bool) (cs : List (ℕ × FragmentTree))
-      → All (OwnSays g v tag) (map (data_chunk_of is_interleaved is_immediate) cs)
+      → All (OwnSays g v tag) (map (fragment_chunk is_interleaved is_immediate) cs)
   own_says_data_by is_interleaved is_immediate [] = All-nil (OwnSays g v tag)
   own_says_data_by is_interleaved is_immediate (c ∷ cs) =
-      All-cons (OwnSays g v tag) (data_chunk_of is_interleaved is_immediate c) (map (data_chunk_of is_interleaved is_immediate) cs)
+      All-cons (OwnSays g v tag) (fragment_chunk is_interleaved is_immediate c) (map (fragment_chunk is_interleaved is_immediate) cs)
       (own_says_data_of is_interleaved is_immediate c) (own_says_data_by is_interleaved is_immediate cs)
 
   pub own_says_data : (t : Tcb) (is_immediate : Bool) (cs : List (ℕ × FragmentTree)) → All (OwnSays g v tag) (data_chunks t is_immediate cs)

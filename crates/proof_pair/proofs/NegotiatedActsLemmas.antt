@@ -2,7 +2,7 @@
 use Rattle.std.proofs.Common.{◌≡◌, ℕ, zero, suc, Bool, true, false, cond, Option, Some, None, List, [], ◌∷◌, ◌++◌, map, All, refl, sym, ap, subst, ◌∙◌, append_assoc, append-nil}
 use Rattle.std.proofs.lemmas.Bool.{and_parts}
 use Rattle.std.proofs.lemmas.List.Elements.{All-nil, All-cons, All-push}
-use Rattle.sctp_packet.specs.Chunk.{ChunkTree, FragmentTree, InitTree, data_chunk, init_chunk, init_ack_chunk, cookie_echo_chunk, cookie_ack_chunk, idata_chunk, re_config_chunk, forward_tsn_chunk, i_forward_tsn_chunk}
+use Rattle.sctp_packet.specs.Chunk.{ChunkTree, FragmentTree, InitTree, data_chunk, init_chunk, init_ack_chunk, cookie_echo_chunk, cookie_ack_chunk, idata_chunk, re_config_chunk, forward_tsn_chunk, i_forward_tsn_chunk, fragment_chunk}
 use Rattle.sctp_capabilities.specs.Capabilities.{Capabilities, announced_parameters, negotiate, agreed}
 use Rattle.sctp_capabilities.specs.StateCookie.{Cookie}
 use Rattle.sctp_state.specs.Events.{Event, SendPacket, OnConnected, OnConnectionRestarted, OnError, OnClosed, Emitted}
@@ -20,15 +20,15 @@ use Rattle.spec_endpoint.specs.Association.{Tcb, tcb, Phase, CookieEchoed, Estab
 use Rattle.spec_endpoint.specs.Packets.{PacketDraft, add, add_all, header_to, room}
 use Rattle.spec_endpoint.specs.ResetRequests.{Outcome, Unsettled, Done, Denied, outcome, request_chunk}
 use Rattle.spec_endpoint.specs.StreamReset.{on_outcome}
-use Rattle.spec_endpoint.specs.Sending.{asks_at_once, selective_ack, data_chunk_of, data_chunks, fast_most}
+use Rattle.spec_endpoint.specs.Sending.{asks_at_once, selective_ack, data_chunks, fast_most}
 use Rattle.spec_endpoint.specs.Sack.{clean_blocks}
 use Rattle.spec_endpoint.specs.Shutdown.{ended, over}
 use Rattle.spec_endpoint.specs.Opening.{init_of, init_ack_of, agreed_by, identity_of_init_ack, long_word, tcb_by}
 use Rattle.spec_endpoint.specs.Input.{misuse}
 use Rattle.spec_endpoint.specs.Laws.{Call, Restore}
-use Rattle.proof_endpoint.specs.Mapped.{Carried}
+use Rattle.proof_endpoint.specs.Mapped.{Carried, as_carried}
 use Rattle.proof_endpoint.specs.Acts.{EndWithPacket, in_state, with_context, in_open, end_of, is_plain, may_shut, point_of, BringsChunk, IsEchoed, fragments_of, PacketAct, begins, adds_plain, emits, emits_error, counts, before_packets, after_packets, OpeningAct, connects, adds_init, answers_new, answers_waiting, answers_echoed, answers_again, echoes, adds_cookie, establishes, opens, restarts, opens_again, maintains, adds_cookie_ack, before_opening, after_opening, ClosingAct, closes, shuts, shuts_on, before_closing, after_closing, DataAct, takes_data, takes_idata, takes_forward, takes_iforward, before_data, after_data, SackAct, takes_sack, samples, counts_errors, before_sack, after_sack, SendingAct, asks, forces_ack, adds_ack, expires, adds_forward, forwards_later, asks_no_reset, asks_reset, adds_request, sends, sends_fast, before_sending, after_sending, TimeAct, advances, delay_ends, times_out, beats, times_init, times_cookie, times_request, times_items, wakes_request, before_time, timeout_of, after_time, CallAct, accepts, refuses, takes_message, sets_low_threshold, sets_priority, sets_max_message_size, before_call, after_call, ResetAct, prepares, defers, performs, processes, takes_response, adds_responses, before_reset, after_reset, HandoverAct, leaves, takes_up, before_handover, after_handover, InputAct, ends_packet, before_input, after_input, Preserves}
-use Rattle.proof_pair.specs.Trace.{as_carried, packets_in, AreValidOptions}
+use Rattle.proof_pair.specs.Trace.{packets_in, AreValidOptions}
 use Rattle.proof_pair.proofs.EmittedLemmas.{EmitsNoPacketOrStatus}
 use Rattle.proof_pair.proofs.UntilLemmas.{over_gives_up, sack_act_emits_no_packet_or_status, sending_act_emits_no_packet_or_status, time_act_emits_no_packet_or_status, call_act_emits_no_packet_or_status, reset_act_emits_no_packet_or_status}
 use Rattle.proof_pair.proofs.AddedLemmas.{holds_added, holds_all_added}
@@ -143,14 +143,14 @@ module _ (o q : Options) where
   plain_right (i_forward_tsn_chunk tsn skipped) e = cc
   plain_right c e = refl
 
-  data_right : (b is_immediate : Bool) (c : ℕ × FragmentTree) → (agreed q o).message_interleaving ≡ b → Emits o q (data_chunk_of b is_immediate c)
+  data_right : (b is_immediate : Bool) (c : ℕ × FragmentTree) → (agreed q o).message_interleaving ≡ b → Emits o q (fragment_chunk b is_immediate c)
   data_right true is_immediate c e = rw e refl
   data_right false is_immediate c e = rw e refl
 
-  data_all : (b is_immediate : Bool) (cs : List (ℕ × FragmentTree)) → (agreed q o).message_interleaving ≡ b → All (Emits o q) (map (data_chunk_of b is_immediate) cs)
+  data_all : (b is_immediate : Bool) (cs : List (ℕ × FragmentTree)) → (agreed q o).message_interleaving ≡ b → All (Emits o q) (map (fragment_chunk b is_immediate) cs)
   data_all b is_immediate [] e = All-nil (Emits o q)
   data_all b is_immediate (c ∷ cs) e =
-      All-cons (Emits o q) (data_chunk_of b is_immediate c) (map (data_chunk_of b is_immediate) cs) (data_right b is_immediate c e) (data_all b is_immediate cs e)
+      All-cons (Emits o q) (fragment_chunk b is_immediate c) (map (fragment_chunk b is_immediate) cs) (data_right b is_immediate c e) (data_all b is_immediate cs e)
 
 able_on : (o q : Options) (k : Capabilities) (a b c d : Bool) (kept : Option (List ℕ)) → c ≡ a → d ≡ b → IsAble o q k a b kept → IsAble o q k c d kept
 able_on o q k a b c d kept e f h = record { agrees = h.agrees; partial = e ∙ h.partial; mode = f ∙ h.mode; is_kept = h.is_kept }

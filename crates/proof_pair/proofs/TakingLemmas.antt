@@ -1,5 +1,5 @@
 -- Data and forward points: refused ones change nothing, new ones are added, and points reach reassembly.
-use Rattle.std.proofs.Common.{◌≡◌, ℕ, ◌==◌, ◌||◌, ◌&&◌, not, Bool, true, false, cond, Option, None, List, length, refl, ap, ◌∙◌}
+use Rattle.std.proofs.Common.{◌≡◌, ℕ, ◌==◌, ◌||◌, not, Bool, true, false, cond, Option, None, List, length, refl, ap, ◌∙◌}
 use Rattle.std.proofs.lemmas.Bool.{and_parts}
 use Rattle.sctp_state.specs.Options.{Options}
 use Rattle.sctp_chunk.specs.declared.forward_tsn.SkippedStream.{SkippedStream}
@@ -8,7 +8,7 @@ use Rattle.sctp_rx.specs.DataTracker.{number_of, is_valid, has_seen, moves_on}
 use Rattle.sctp_rx.specs.ReassemblyQueue.{Reassembly, add, forward, admits_fragment}
 use Rattle.spec_endpoint.specs.Association.{Tcb, Phase, Open, Context, EndpointState, Endpoint}
 use Rattle.spec_endpoint.specs.Data.{has_room, accepts_tsn, accepts_fragment, told_of_drop, added_unless, take_fragment, fragment_if, on_data_if, on_data, skipped_if, handle_forward_tsn, handle_forward_tsn_if, handle_forward_tsn_in}
-use Rattle.spec_endpoint.specs.Input.{misuse, received_if, receive}
+use Rattle.spec_endpoint.specs.Input.{misuse, received_unless, receive}
 use Rattle.proof_pair.specs.Taking.{opened, fragment_chunk, point_chunk, IsLeft, IsTaken, IsPassed, RefusedDataChangesNothing, NewDataIsAdded, RefusedPointsChangeNothing, PointsReachReassembly}
 
 -- ---- by tests
@@ -91,14 +91,14 @@ module _ {P : Type 0} (tag tsn : ℕ) (is_immediate : Bool) (f : FragmentTree) (
   data_row : (is_interleaved : Bool) → misuse t.capabilities (fragment_chunk is_interleaved tsn is_immediate f) ≡ None
       → (receive tag (fragment_chunk is_interleaved tsn is_immediate f) (opened phase t e)).end.endpoint_state.state
       ≡ (on_data tsn is_immediate f (record { state = Open phase t; context = e.endpoint_state.context })).state
-  data_row true right = ap (λ (v : Option (List ℕ)). (received_if v tag (fragment_chunk true tsn is_immediate f) (opened phase t e)).end.endpoint_state.state) right
-  data_row false right = ap (λ (v : Option (List ℕ)). (received_if v tag (fragment_chunk false tsn is_immediate f) (opened phase t e)).end.endpoint_state.state) right
+  data_row true right = ap (λ (v : Option (List ℕ)). (received_unless v tag (fragment_chunk true tsn is_immediate f) (opened phase t e)).end.endpoint_state.state) right
+  data_row false right = ap (λ (v : Option (List ℕ)). (received_unless v tag (fragment_chunk false tsn is_immediate f) (opened phase t e)).end.endpoint_state.state) right
 
 module _ {P : Type 0} (tag tsn : ℕ) (skipped : List SkippedStream) (phase : Phase) (t : Tcb) (e : Endpoint P) where
   point_row : (is_interleaved : Bool) → misuse t.capabilities (point_chunk is_interleaved tsn skipped) ≡ None
       → (receive tag (point_chunk is_interleaved tsn skipped) (opened phase t e)).end.endpoint_state.state ≡ handle_forward_tsn_in (Open phase t) tsn skipped
-  point_row true right = ap (λ (v : Option (List ℕ)). (received_if v tag (point_chunk true tsn skipped) (opened phase t e)).end.endpoint_state.state) right
-  point_row false right = ap (λ (v : Option (List ℕ)). (received_if v tag (point_chunk false tsn skipped) (opened phase t e)).end.endpoint_state.state) right
+  point_row true right = ap (λ (v : Option (List ℕ)). (received_unless v tag (point_chunk true tsn skipped) (opened phase t e)).end.endpoint_state.state) right
+  point_row false right = ap (λ (v : Option (List ℕ)). (received_unless v tag (point_chunk false tsn skipped) (opened phase t e)).end.endpoint_state.state) right
 
   is_passed : IsPassed tsn skipped t (handle_forward_tsn tsn skipped t)
   is_passed = record {

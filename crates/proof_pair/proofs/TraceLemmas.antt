@@ -14,12 +14,12 @@ use Rattle.sctp_capabilities.proofs.CapabilitiesLemmas.{agreed_exchanged}
 use Rattle.sctp_state.specs.Events.{Event, OnError}
 use Rattle.spec_endpoint.specs.Association.{State, Endpoint}
 use Rattle.spec_endpoint.specs.Opening.{emit_parse_error}
-use Rattle.spec_endpoint.specs.Input.{packet_refusal, count_packet_at, packet_if}
+use Rattle.spec_endpoint.specs.Input.{packet_refusal, count_packet_at, packet_unless}
 use Rattle.spec_endpoint.specs.Laws.{Call, ReceivePacket, called, endings}
-use Rattle.proof_endpoint.specs.Mapped.{Carried}
+use Rattle.proof_endpoint.specs.Mapped.{Carried, as_carried}
 use Rattle.proof_endpoint.proofs.EmitsLemmas.{endings_append}
 use Rattle.proof_endpoint.specs.Acts.{calm, no_packet, BringsChunk}
-use Rattle.proof_pair.specs.Trace.{Side, Pair, as_carried, new_side, packets_in, emitted_packets, has_connected, EndAction, Calls, Gives, Refuses, drain, as_received, give_carried, foreign_if, act, goes, run, MayCall, MayAct, side_of, KeepsRules, NoAssociationHasEnded, AreValidOptions, start, state_of, AreConsistent}
+use Rattle.proof_pair.specs.Trace.{Side, Pair, new_side, packets_in, emitted_packets, has_connected, EndAction, Calls, Gives, Refuses, drain, as_received, give_carried, foreign_if, act, goes, run, MayCall, MayAct, side_of, KeepsRules, NoAssociationHasEnded, AreValidOptions, start, state_of, AreConsistent}
 use Rattle.proof_pair.proofs.UntilLemmas.{until_end}
 use Rattle.proof_pair.proofs.AddedLemmas.{all_at, all_get}
 use Rattle.proof_pair.proofs.JoinLemmas.{Draw, View, own_draw, peer_draw, view_of, Says, says_carried, Faces, Can, Stands}
@@ -247,7 +247,7 @@ module _ (o q : Options) (x y : Side) (own : AreValidOptions o) (other : AreVali
       let g : Setting = setting o q x y x.got_init in
       let s : Endpoint Carried = x.end in
       let same : called (ReceivePacket p) s ≡ emit_parse_error text (count_packet_at s) =
-      ap (λ (r : Option (List ℕ)). packet_if r p.header.verification_tag p.chunks (count_packet_at s)) is in
+      ap (λ (r : Option (List ℕ)). packet_unless r p.header.verification_tag p.chunks (count_packet_at s)) is in
       let inv : InvAt g (calm s) = begins o q x y x.got_init (λ z. z) h.own h.other in
       let there : InvAt g (calm (emit_parse_error text (count_packet_at s))) =
       inv_no_packet_or_status g (seen x) s.endpoint_state.context.options s.endpoint_state.context.pack s.endpoint_state.context.emitted.events no_packet.tag [] inv (OnError ParseFailed text ∷ [])

@@ -7,10 +7,10 @@ use Rattle.sctp_packet.specs.Packet.{PacketTree}
 use Rattle.sctp_state.specs.Options.{Options, IsValid}
 use Rattle.sctp_capabilities.specs.Capabilities.{agreed, mirrored_capabilities}
 use Rattle.sctp_state.specs.Events.{Event, SendPacket, OnConnected, nothing_emitted}
-use Rattle.spec_endpoint.specs.Association.{Identity, Tcb, Phase, State, Open, Packing, Endpoint, fresh}
+use Rattle.spec_endpoint.specs.Association.{Identity, Tcb, Phase, State, Open, Endpoint, fresh}
 use Rattle.spec_endpoint.specs.Input.{packet_refusal}
 use Rattle.spec_endpoint.specs.Laws.{Call, Connect, Shutdown, Restore, ReceivePacket, called, endings}
-use Rattle.proof_endpoint.specs.Mapped.{Carried}
+use Rattle.proof_endpoint.specs.Mapped.{Carried, as_carried}
 
 -- ---- an end, and what it emitted
 
@@ -22,9 +22,6 @@ pub record Side : Type 0 where
 pub record Pair : Type 0 where
   pub a : Side
   pub b : Side
-
-abbrev pub as_carried : Packing Carried
-as_carried = record { write = λ header is_summed chunks. record { header = header; is_summed = is_summed; chunks = chunks }; word_of = λ bytes. 0 }
 
 abbrev pub new_side : Options → Stream → Side
 new_side o draws = record { end = fresh o as_carried draws; emitted = []; got_init = false }

@@ -20,10 +20,10 @@ use Rattle.spec_endpoint.specs.Laws.{Call, ReceivePacket, ReceiveNoPacket, calle
 use Rattle.spec_endpoint.specs.Receiving.{Receives, read, not_read, Judges, taken, refused, unread, policy_of}
 use Rattle.spec_endpoint.specs.Wire.{field_of, word_at, AreBytes}
 use Rattle.proof_endpoint.proofs.LawsLemmas.{stays_within}
-use Rattle.proof_endpoint.specs.Mapped.{Mapping, Carried, map_end, as_written, as_bytes}
+use Rattle.proof_endpoint.specs.Mapped.{Mapping, Carried, map_end, as_written, as_bytes, as_carried}
 use Rattle.proof_endpoint.specs.ReceivedBack.{IsReceivable}
 use Rattle.proof_endpoint.specs.Sound.{IsSound, ArgumentFits}
-use Rattle.proof_endpoint.specs.ReadBack.{EmitsWhatCanBeRead, as_carried}
+use Rattle.proof_endpoint.specs.ReadBack.{EmitsWhatCanBeRead}
 use Rattle.proof_endpoint.proofs.MappedLemmas.{maps_called}
 use Rattle.proof_endpoint.proofs.ReceivedBackLemmas.{is_accepted}
 use Rattle.proof_endpoint.proofs.SoundLawsLemmas.{stays_sound, can_be_read, stays_sound_refused, can_be_read_refused}

@@ -21,7 +21,7 @@ use Rattle.proof_pair.proofs.AgreeTraceLemmas.{drop_emitted}
 use Rattle.proof_pair.proofs.AgreeWithinLemmas.{has_either}
 use Rattle.proof_pair.proofs.AgreeActionsLemmas.{ends_agree}
 use Rattle.spec_world.specs.Observations.{End, A, B, same_end, none_unless, same_association, Entry, Associated, EmittedPacket, EmittedEvent, GaveUp, BecameReady, Call, Connect, Shutdown, Close, Send, SendMany, TakeMessage, Reset, SetPriority, SetMaxMessageSize, SetLowThreshold, HandOver, connected_by, times_connected, held_after, held_from, held}
-use Rattle.spec_world.specs.World.{Side, World, Action, CallOf, Give, GiveForeign, AdvanceTime, MeetsForeignAt, given, withheld, Happens, Runs, side_of, other, packets_in, news_of, emitted_entries, given_up_entries, ready_entries, ready_before, ready_at, association, associated_if, association_entries, call_entry, after_call, time_entry, after_time, table_call}
+use Rattle.spec_world.specs.World.{Side, World, Action, CallOf, Give, GiveForeign, AdvanceTime, MeetsForeignAt, given, withheld, Happens, Runs, side_of, other, packets_in, news_of, emitted_entries, given_up_entries, ready_entries, ready_before, ready_at, association, associated_unless, association_entries, call_entry, after_call, time_entry, after_time, table_call}
 use Rattle.proof_world.specs.Reachable.{ActionFits, IsInBytes, initial_world}
 use Rattle.proof_world.specs.Traces.{is_a, end_of, give_action, IsForeign, IsActionOf, AreActionsOf, emitted_in}
 use Rattle.proof_world.specs.Agreed.{IsAgreed, WorldAgrees, EachEndDrawsDistinctTags, WorldsAgree}
@@ -82,7 +82,7 @@ plain_from x h [] p = refl
 plain_from x h (e ∷ l) p =
     ap (λ (o : Option Association). held_from x o l) (plain_after x h e (All-head Plain e l p)) ∙ plain_from x h l (All-tail Plain e l p)
 
-mute_associated : (b : Bool) (y : End) (a : Option Association) → All Mute (associated_if b y a)
+mute_associated : (b : Bool) (y : End) (a : Option Association) → All Mute (associated_unless b y a)
 mute_associated true y a = All-nil Mute
 mute_associated false y a = All-cons Mute (Associated y a) [] refl (All-nil Mute)
 

@@ -19,13 +19,13 @@ use Rattle.spec_endpoint.specs.Shutdown.{ended, over}
 use Rattle.spec_endpoint.specs.StreamReset.{on_outcome}
 use Rattle.spec_endpoint.specs.Input.{packet_refusal}
 use Rattle.spec_endpoint.specs.Laws.{Call, ReceivePacket, called, IsShort, ending}
-use Rattle.proof_endpoint.specs.Mapped.{Carried}
+use Rattle.proof_endpoint.specs.Mapped.{Carried, as_carried}
 use Rattle.proof_endpoint.specs.Acts.{EndWithPacket, in_open, with_context, opened_by, point_of, IsBundled, PacketAct, emits, emits_error, before_packets, after_packets, OpeningAct, establishes, opens, restarts, opens_again, maintains, before_opening, after_opening, ClosingAct, closes, before_closing, after_closing, DataAct, takes_data, before_data, after_data, SackAct, takes_sack, before_sack, after_sack, SendingAct, expires, sends, before_sending, after_sending, TimeAct, times_out, before_time, after_time, CallAct, refuses, sets_low_threshold, before_call, after_call, ResetAct, prepares, performs, takes_response, before_reset, after_reset, HandoverAct, leaves, takes_up, before_handover, after_handover, InputAct, ends_packet, before_input, after_input, Preserves}
 use Rattle.proof_endpoint.proofs.ActsLemmas.{keeps_call}
 use Rattle.proof_endpoint.proofs.StepsLemmas.{Emits}
 use Rattle.proof_endpoint.proofs.EmptiedLemmas.{emits_emptied}
 use Rattle.proof_endpoint.proofs.EmitsLemmas.{quiet_both, quiet_expiry, quiet_end, quiet_refusal, emits_nothing, emits_given_up, emits_all, emits_then, emits_sack, emits_expired, emits_sent, emits_nack_all, emits_threshold}
-use Rattle.proof_pair.specs.Trace.{Side, as_carried, new_side, packets_in, emitted_packets, EndAction, Calls, Gives, Refuses, drain, as_received, give_carried, foreign_if, act}
+use Rattle.proof_pair.specs.Trace.{Side, new_side, packets_in, emitted_packets, EndAction, Calls, Gives, Refuses, drain, as_received, give_carried, foreign_if, act}
 use Rattle.proof_pair.proofs.JoinActsLemmas.{packets_both}
 
 abbrev EventIsBundled : Event Carried → Type 0

@@ -22,7 +22,7 @@ use Rattle.proof_delivery.specs.Justified.{reset_by}
 use Rattle.spec_world.specs.Observations as observations
 use Rattle.spec_world.specs.Observations.{End, A, B, Entry, Given, Foreign, Call, ready_by, handed_out_by, given_up_by}
 use Rattle.spec_world.specs.World as worlds
-use Rattle.spec_world.specs.World.{Side, World, Action, CallOf, Give, GiveForeign, AdvanceTime, MeetsForeignAt, given, withheld, Happens, side_of, other, news_of, association, associated_if, association_entries, emitted_entries, given_up_entries, ready_entries, ready_before, call_socket, call_entry, after_call, advance_time, time_entry, after_time, clock, table_call}
+use Rattle.spec_world.specs.World.{Side, World, Action, CallOf, Give, GiveForeign, AdvanceTime, MeetsForeignAt, given, withheld, Happens, side_of, other, news_of, association, associated_unless, association_entries, emitted_entries, given_up_entries, ready_entries, ready_before, call_socket, call_entry, after_call, advance_time, time_entry, after_time, clock, table_call}
 use Rattle.proof_world.specs.Traces.{is_a, end_of, IsActionOf}
 use Rattle.proof_world.specs.Delivered.{accepted_messages_by, emitted_events_by, reported_by}
 use Rattle.proof_world.specs.Consistent.{association_ends_by, times_ended, NoEndingIsLogged}
@@ -55,8 +55,8 @@ pub record IsParted (x : End) (turn : EndAction) (own : traces.Side) (log longer
   pub ended : (y : End) → flat_map (association_ends_by y) behind ≡ []
 
 none_front : {X : Type 0} (f : Entry → List X) (x : End) → IsQuietOnEmitted f x → (b : Bool) (a : Option Association) (n : ℕ) (es : List (Event (List ℕ)))
-    → flat_map f (associated_if b x a ++ emitted_entries x n es) ≡ []
-none_front f x q b a n es = behind_none f x (associated_if b x a) (emitted_entries x n es) (none_associated f x q b a) ∙ none_emitted f x q n es
+    → flat_map f (associated_unless b x a ++ emitted_entries x n es) ≡ []
+none_front f x q b a n es = behind_none f x (associated_unless b x a) (emitted_entries x n es) (none_associated f x q b a) ∙ none_emitted f x q n es
 
 none_over : (x y : End) (gs : List GivenUp) → flat_map (association_ends_by y) (given_up_entries x gs) ≡ []
 none_over x y [] = refl

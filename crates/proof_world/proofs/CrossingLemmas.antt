@@ -9,14 +9,15 @@ use Rattle.sctp_state.specs.Events.{Event, SendPacket, OnBufferedAmountLow}
 use Rattle.spec_endpoint.specs.Association.{Endpoint}
 use Rattle.spec_endpoint.specs.Calls.{send, send_refusal_of}
 use Rattle.spec_endpoint.specs.Input.{in_endpoint_state}
-use Rattle.proof_endpoint.specs.FirstRun.{init_packet, init_ack_packet, cookie_echo_packet, cookie_ack_packet, data_packet, sack_packet, drained, accepting, sending, taking, resting, fully_sent, association, IsSmall, LeadsOn}
+use Rattle.proof_endpoint.specs.FirstRun.{init_packet, init_ack_packet, cookie_echo_packet, cookie_ack_packet, data_packet, sack_packet, drained, accepting, sending, taking, resting, association, IsSmall, LeadsOn}
+use Rattle.sctp_tx_queue.specs.Produced.{fully_sent}
 use Rattle.proof_endpoint.proofs.OpeningRunLemmas.{emitting, opened_a, opened_b, opens, accepts}
 use Rattle.proof_endpoint.proofs.SendRunLemmas.{sent_end, sends, accepts_message}
 use Rattle.proof_endpoint.proofs.TakeRunLemmas.{taken_end, takes_it}
 use Rattle.proof_endpoint.proofs.RunPacketsLemmas.{leads_on}
 use Rattle.proof_endpoint.proofs.FirstRunLemmas.{it_rests}
 use Rattle.spec_world.specs.Observations.{A, B, Send, Sent, Entry, Called, Given, EmittedPacket, accepted, ready}
-use Rattle.spec_world.specs.World.{Action, World, Takes, Gives, Runs, record_news, call_socket, packets_in, emitted_entries, associated_if, ready_entries, ready_before, is_at_rest, fresh_world}
+use Rattle.spec_world.specs.World.{Action, World, Takes, Gives, Runs, record_news, call_socket, packets_in, emitted_entries, associated_unless, ready_entries, ready_before, is_at_rest, fresh_world}
 use Rattle.proof_world.specs.FirstRun.{opening, crossing, acknowledging, IsFresh, HasCrossed}
 use Rattle.proof_world.proofs.FirstRunLemmas.{given_to_a, given_to_b, takes_on, same_self, pack, bytes_of, opened, opened_then, opened_log}
 
@@ -37,7 +38,7 @@ module _ (a b : Stream) (f : List ℕ → ℕ) (m : Message) (o : SendOptions) w
 
   abbrev sent_log : Option SendError → Bool → List Entry
   sent_log refused t =
-      opened_log a b f ++ Called A 0 (Send m o) (Sent refused) ∷ (associated_if t A (Some (association a b))
+      opened_log a b f ++ Called A 0 (Send m o) (Sent refused) ∷ (associated_unless t A (Some (association a b))
       ++ (emitted_entries A 2 events ++ ready_entries A (ready_before t 0) []))
 
   abbrev pub sent_world : Option SendError → Bool → World
@@ -51,7 +52,7 @@ module _ (a b : Stream) (f : List ℕ → ℕ) (m : Message) (o : SendOptions) w
 
   abbrev taken_log : Bool → List Entry
   taken_log t =
-      sent_log None true ++ Given B 0 2 ∷ (associated_if t B (Some (association b a)) ++ (EmittedPacket B 2 ∷ ready_entries B (ready_before t 0) (m ∷ [])))
+      sent_log None true ++ Given B 0 2 ∷ (associated_unless t B (Some (association b a)) ++ (EmittedPacket B 2 ∷ ready_entries B (ready_before t 0) (m ∷ [])))
 
   abbrev pub taken_world : Bool → World
   taken_world t = record (sent_world None true) {

@@ -7,7 +7,7 @@ use Rattle.rand_core.specs.Stream.{Stream}
 use Rattle.sctp_packet.specs.Chunk.{ChunkTree, InitTree, data_chunk, idata_chunk, init_chunk, init_ack_chunk}
 use Rattle.sctp_packet.specs.Grammar.{carried}
 use Rattle.spec_endpoint.specs.Association.{Tcb, Phase, CookieEchoed, Established, ShutdownPending, ShutdownSent, ShutdownReceived, ShutdownAckSent, State, Closed, CookieWait, Open, Context, Endpoint}
-use Rattle.spec_endpoint.specs.Input.{AfterChunk, packet_refusal, packet_if, on_accepted_packet, count_packet_at, in_endpoint_state, repeats_if, has_data_chunk, receive}
+use Rattle.spec_endpoint.specs.Input.{AfterChunk, packet_refusal, packet_unless, on_accepted_packet, count_packet_at, in_endpoint_state, repeats_if, has_data_chunk, receive}
 use Rattle.spec_endpoint.specs.Laws.{Connect, called}
 use Rattle.proof_endpoint.specs.Mapped.{Carried}
 use Rattle.proof_endpoint.specs.Acts.{goes_along, goes_first, takes_more, IsBundled, an_init_alone, an_init_ack_alone, all_along}
@@ -122,7 +122,7 @@ module _ (tag : ℕ) (e : Endpoint Carried) where
 given_so : (p : Carried) (checksum : ℕ) (x : Side) → IsBundled p.chunks → DrawsSo (drawn_given (Some p) checksum x) x.end.draws (give_carried (Some p) checksum x).end.draws
 given_so p checksum x h = go (packet_refusal p.header.verification_tag (map carried p.chunks) (state_of x))
   where
-    go : (r : Option (List ℕ)) → DrawsSo (drawn_taking r (as_received p checksum) x.end) x.end.draws (packet_if r p.header.verification_tag (map carried p.chunks) (count_packet_at x.end)).draws
+    go : (r : Option (List ℕ)) → DrawsSo (drawn_taking r (as_received p checksum) x.end) x.end.draws (packet_unless r p.header.verification_tag (map carried p.chunks) (count_packet_at x.end)).draws
     go (Some text) = tt
     go None = bundle_so p.header.verification_tag (count_packet_at x.end) p.chunks h
 

@@ -12,7 +12,7 @@ use Rattle.sctp_state.specs.Options.{Options}
 use Rattle.spec_endpoint.specs.Association.{State, Closed, CookieWait, Open, Context, Endpoint, where_open}
 use Rattle.spec_endpoint.specs.Calls.{ready_in}
 use Rattle.spec_endpoint.specs.Data.{on_data_if}
-use Rattle.spec_endpoint.specs.Input.{packet_refusal, is_reported, on_unknown_if, in_endpoint_state, receive, receive_rest, receive_all, has_data_chunk, repeats_if, on_packet_end, count_packet_at, packet_if}
+use Rattle.spec_endpoint.specs.Input.{packet_refusal, is_reported, on_unknown_if, in_endpoint_state, receive, receive_rest, receive_all, has_data_chunk, repeats_if, on_packet_end, count_packet_at, packet_unless}
 use Rattle.spec_endpoint.specs.Laws.{Call, Connect, ReceivePacket, called, endings, is_closed, ends, endings_after, endings_by, endings_unless, endings_in_call, EmitsEndings}
 use Rattle.proof_endpoint.specs.Mapped.{Carried}
 use Rattle.proof_endpoint.proofs.LawsLemmas.{emits_endings}
@@ -133,7 +133,7 @@ module _ {P : Type 0} where
   end_closed (CookieWait tag first t1) c h = cc
   end_closed (Open phase t) c h = cc
 
-  taken_or : (r : Option (List ℕ)) (tag : ℕ) (cs : List ChunkTree) (e : Endpoint P) → NoneBehind cs → (endings_unless r tag cs e ≡ 0) ⊎ (is_closed (packet_if r tag cs e).endpoint_state.state ≡ true)
+  taken_or : (r : Option (List ℕ)) (tag : ℕ) (cs : List ChunkTree) (e : Endpoint P) → NoneBehind cs → (endings_unless r tag cs e ≡ 0) ⊎ (is_closed (packet_unless r tag cs e).endpoint_state.state ≡ true)
   taken_or (Some text) tag cs e h = inl refl
   taken_or None tag cs e h =
       let begun : Endpoint P = in_endpoint_state (repeats_if (has_data_chunk cs)) e in

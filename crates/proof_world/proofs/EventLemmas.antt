@@ -6,8 +6,8 @@ use Rattle.std.proofs.lemmas.List.Elements.{All-nil, All-cons, All-head, All-tai
 use Rattle.sctp_state.specs.Events.{Event, SendPacket, OnConnected, OnClosed, OnConnectionRestarted, OnAborted, OnError, OnBufferedAmountLow, OnTotalBufferedAmountLow, OnStreamsResetFailed, OnStreamsResetPerformed, OnIncomingStreamReset, OnLifecycleMessageFullySent, OnLifecycleMessageMaybeExpired, OnLifecycleMessageExpired, OnLifecycleMessageDelivered, OnLifecycleEnd}
 use Rattle.spec_endpoint.specs.Association.{Packing}
 use Rattle.spec_endpoint.specs.Laws.{endings}
-use Rattle.proof_endpoint.specs.Mapped.{Mapping, Carried, map_event}
-use Rattle.proof_endpoint.specs.ReadBack.{ReadsBack, CanBeRead, as_carried}
+use Rattle.proof_endpoint.specs.Mapped.{Mapping, Carried, map_event, as_carried}
+use Rattle.proof_endpoint.specs.ReadBack.{ReadsBack, CanBeRead}
 use Rattle.proof_pair.specs.Trace as traces
 use Rattle.proof_pair.specs.Trace.{has_connected}
 use Rattle.spec_world.specs.Observations.{End, A, B, same_end, none_unless, Entry, EmittedPacket, EmittedEvent, connected_by}

@@ -15,7 +15,7 @@ use Rattle.proof_endpoint.specs.FirstRun.{init_packet, init_ack_packet, cookie_e
 use Rattle.proof_endpoint.proofs.OpeningRunLemmas.{waiting, answered, echoed, opened_a, opened_b, asks, answers, echoes, accepts, opens}
 use Rattle.proof_endpoint.proofs.RunPacketsLemmas.{leads_on}
 use Rattle.spec_world.specs.Observations.{A, B, same_association, Connect, Done, Entry, Called, Given, Associated, EmittedPacket, EmittedEvent}
-use Rattle.spec_world.specs.World.{Action, Side, World, Takes, Gives, Runs, record_news, take_emitted, news_of, clock, call_socket, associated_if, ready_entries, ready_before, fresh_side, fresh_world}
+use Rattle.spec_world.specs.World.{Action, Side, World, Takes, Gives, Runs, record_news, take_emitted, news_of, clock, call_socket, associated_unless, ready_entries, ready_before, fresh_side, fresh_world}
 use Rattle.proof_world.specs.FirstRun as first_run
 use Rattle.proof_world.specs.FirstRun.{IsOpen, IsFresh}
 use Rattle.sctp_serial.proofs.NumberLemmas.{is_itself}
@@ -149,7 +149,7 @@ module _ (a b : Stream) (f : List ℕ → ℕ) where
       (subst (λ (s : Endpoint (List ℕ)). Takes (bytes_of (cookie_ack_packet a)) s t) (sym has_echoed) k) ∙ opens pack a b) g
       ∙ ap (λ (t : Bool). record fourth {
         a = record { socket = opened_a pack a b; packets = bytes_of (init_packet a) ∷ bytes_of (cookie_echo_packet a b) ∷ [] };
-        log = fourth_log ++ Given A 0 1 ∷ (associated_if t A (Some (association a b)) ++ (EmittedEvent A OnConnected ∷ ready_entries A (ready_before t 0) []));
+        log = fourth_log ++ Given A 0 1 ∷ (associated_unless t A (Some (association a b)) ++ (EmittedEvent A OnConnected ∷ ready_entries A (ready_before t 0) []));
       }) (same_self (association a b))
 
   pub opened_then : (rest : List Action) (v : World) → Runs (first_run.opening ++ rest) (fresh_world defaults defaults a b f f) v → Runs rest opened v

@@ -11,7 +11,7 @@ use Rattle.proof_pair.specs.Trace as traces
 use Rattle.proof_delivery.specs.Answered.{performed_in}
 use Rattle.proof_delivery.specs.StreamEpochs.{are_named, performed_of, resets_emitted, failed_in}
 use Rattle.spec_world.specs.Observations.{End, A, B, same_end, same_association, none_unless, Entry, Called, Given, Foreign, Timed, Associated, EmittedPacket, EmittedEvent, GaveUp, BecameReady, ready_by}
-use Rattle.spec_world.specs.World.{Side, association, ready_at, associated_if, emitted_entries, given_up_entries, ready_before, news}
+use Rattle.spec_world.specs.World.{Side, association, ready_at, associated_unless, emitted_entries, given_up_entries, ready_before, news}
 use Rattle.proof_world.specs.Traces.{emitted_by, emitted_in}
 use Rattle.proof_world.specs.Delivered.{emitted_events_by, emitted_events, reset_by, begins_event}
 use Rattle.proof_world.proofs.EventLemmas.{mapped, same_itself}
@@ -206,7 +206,7 @@ quiet_last x y (g ∷ gs) ms = quiet_last x y gs ms
 pub news_emitted_first : (x : End) (n ready : ℕ) (old : Option Association) (s : Endpoint (List ℕ)) → IsEmittedFirst (news x n ready old s)
 news_emitted_first x n ready old s =
     let same : Bool = same_association old (association s) in
-    let start : List Entry = associated_if same x (association s) in
+    let start : List Entry = associated_unless same x (association s) in
     let emitted_part : List Entry = emitted_entries x n s.endpoint_state.context.emitted.events in
     let given_up_part : List Entry = given_up_entries x s.endpoint_state.context.emitted.given_up in
     let ms : List Message = drop (ready_before same ready) (ready_at s) in

@@ -16,7 +16,7 @@ use Rattle.spec_endpoint.specs.Shown.{Association}
 use Rattle.proof_endpoint.specs.Mapped.{Carried}
 use Rattle.proof_delivery.specs.Accepted.{AcceptedMessage, unless_refused, accepted_of}
 use Rattle.spec_world.specs.Observations.{End, same_end, same_association, none_unless, some_unless, unrefused, Send, Sent, TookMessage, Entry, Associated, EmittedPacket, EmittedEvent, GaveUp, BecameReady, ready_by, handed_out_in, handed_out_by, given_up_by, given_up}
-use Rattle.spec_world.specs.World.{association, ready_at, associated_if, association_entries, ready_before, ready_entries, given_up_entries, emitted_entries, news}
+use Rattle.spec_world.specs.World.{association, ready_at, associated_unless, association_entries, ready_before, ready_entries, given_up_entries, emitted_entries, news}
 use Rattle.proof_world.specs.Delivered.{accepted_messages_in, accepted_messages_by, reported_by}
 
 -- ---- what an event adds behind its first entry
@@ -43,7 +43,7 @@ module _ {X : Type 0} (f : Entry → List X) (y : End) where
   none_ready h (m ∷ ms) = one_more (BecameReady y m) (map (BecameReady y) ms) (h m) (none_ready h ms)
 
 module _ {X : Type 0} (f : Entry → List X) (y : End) (q : IsQuietOnEmitted f y) where
-  pub none_associated : (b : Bool) (a : Option Association) → flat_map f (associated_if b y a) ≡ []
+  pub none_associated : (b : Bool) (a : Option Association) → flat_map f (associated_unless b y a) ≡ []
   none_associated true a = refl
   none_associated false a = one_more f y (Associated y a) [] (q.associated a) refl
 

@@ -8,7 +8,7 @@ use Rattle.sctp_state.specs.Events.{Event, GivenUp, SendPacket, OnConnected, OnC
 use Rattle.spec_endpoint.specs.Association.{Endpoint}
 use Rattle.spec_endpoint.specs.Shown.{Association}
 use Rattle.spec_world.specs.Observations.{End, A, B, same_end, same_association, none_unless, Entry, Called, Given, Foreign, Timed, Associated, EmittedPacket, EmittedEvent, GaveUp, BecameReady, newer, held_after, held_from, connected_by}
-use Rattle.spec_world.specs.World.{association, ready_at, associated_if, association_entries, ready_before, ready_entries, given_up_entries, emitted_entries, news}
+use Rattle.spec_world.specs.World.{association, ready_at, associated_unless, association_entries, ready_before, ready_entries, given_up_entries, emitted_entries, news}
 use Rattle.proof_world.specs.Traces.{emitted_by, emitted_in}
 use Rattle.proof_world.specs.Consistent.{association_ends_by}
 use Rattle.proof_world.proofs.EventLemmas.{emitted_own, emitted_other}
@@ -26,7 +26,7 @@ emitted_ready_all : (x y : End) (ms : List Message) → emitted_in x (map (Becam
 emitted_ready_all x y [] = refl
 emitted_ready_all x y (m ∷ ms) = emitted_ready_all x y ms
 
-emitted_associated : (x y : End) (b : Bool) (a : Option Association) → emitted_in x (associated_if b y a) ≡ []
+emitted_associated : (x y : End) (b : Bool) (a : Option Association) → emitted_in x (associated_unless b y a) ≡ []
 emitted_associated x y true a = refl
 emitted_associated x y false a = refl
 
@@ -126,11 +126,11 @@ newer_own B a h = refl
 newer_other : (x y : End) → same_end x y ≡ false → (a h : Option Association) → newer (same_end x y) a h ≡ h
 newer_other x y d a h = ap (λ (b : Bool). newer b a h) d
 
-associated_own : (x : End) (b : Bool) (old new : Option Association) → (b ≡ true → old ≡ new) → held_from x old (associated_if b x new) ≡ new
+associated_own : (x : End) (b : Bool) (old new : Option Association) → (b ≡ true → old ≡ new) → held_from x old (associated_unless b x new) ≡ new
 associated_own x true old new same = same refl
 associated_own x false old new same = newer_own x new old
 
-associated_other : (x y : End) → same_end x y ≡ false → (b : Bool) (h new : Option Association) → held_from x h (associated_if b y new) ≡ h
+associated_other : (x y : End) → same_end x y ≡ false → (b : Bool) (h new : Option Association) → held_from x h (associated_unless b y new) ≡ h
 associated_other x y d true h new = refl
 associated_other x y d false h new = newer_other x y d new h
 

@@ -7,9 +7,8 @@ use Rattle.std.proofs.lemmas.Bool.{false_from_ne_true}
 use Rattle.rand_core.specs.Stream.{Stream}
 use Rattle.sctp_state.specs.Options.{Options}
 use Rattle.spec_endpoint.specs.Association.{Endpoint}
-use Rattle.proof_endpoint.specs.Mapped.{as_bytes}
+use Rattle.proof_endpoint.specs.Mapped.{as_bytes, as_carried}
 use Rattle.proof_endpoint.specs.Sound.{OptionsFit}
-use Rattle.proof_endpoint.specs.ReadBack.{as_carried}
 use Rattle.proof_endpoint.proofs.SoundLawsLemmas.{is_new}
 use Rattle.proof_pair.specs.Trace as traces
 use Rattle.proof_pair.specs.Trace.{Pair, EndAction, has_connected, MayCall, MayAct, goes, run, start, new_side}

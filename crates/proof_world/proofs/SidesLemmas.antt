@@ -9,9 +9,8 @@ use Rattle.std.proofs.lemmas.Bool.{or_left}
 use Rattle.sctp_state.specs.Events.{Event, GivenUp}
 use Rattle.spec_endpoint.specs.Association.{Endpoint}
 use Rattle.spec_endpoint.specs.Shown.{Association}
-use Rattle.proof_endpoint.specs.Mapped.{Mapping, Carried, map_end, as_bytes}
+use Rattle.proof_endpoint.specs.Mapped.{Mapping, Carried, map_end, as_bytes, as_carried}
 use Rattle.proof_endpoint.specs.Sound.{IsSound}
-use Rattle.proof_endpoint.specs.ReadBack.{as_carried}
 use Rattle.proof_pair.specs.Trace as traces
 use Rattle.proof_pair.specs.Trace.{drain, emitted_packets}
 use Rattle.proof_pair.proofs.JoinActsLemmas.{packets_both}

@@ -17,7 +17,7 @@ use Rattle.spec_endpoint.specs.Receiving.{Receives, read, not_read}
 use Rattle.proof_endpoint.specs.Acts.{calm, Preserves}
 use Rattle.proof_endpoint.specs.Lifecycles.{is_restore}
 use Rattle.proof_endpoint.proofs.ActsLemmas.{keeps_call}
-use Rattle.proof_endpoint.proofs.CallActsLemmas.{does_send_in, does_sent_if}
+use Rattle.proof_endpoint.proofs.CallActsLemmas.{does_send_in, does_sent_unless}
 use Rattle.proof_endpoint.proofs.LivesLemmas.{offers, not_offered}
 use Rattle.proof_endpoint.proofs.RowActsLemmas.{does_where_open}
 use Rattle.proof_delivery.specs.Accepted.{AcceptedMessage}
@@ -177,7 +177,7 @@ call_within taken r (Send m o) s h =
     let e : EndpointState (List ℕ) = s.endpoint_state in
     let t : EndpointState (List ℕ) = with_context e (offer m o (shown_state e.state) e.context) in
     let bs : List AcceptedMessage = taken ++ accepted_messages_in (Send m o) (answer_to (Send m o) s) in
-    does_sent_if (acts bs r) s.draws (send_refusal_of m e) t (one_offered r e.state (send_refusal_of m e) m o taken e.context h)
+    does_sent_unless (acts bs r) s.draws (send_refusal_of m e) t (one_offered r e.state (send_refusal_of m e) m o taken e.context h)
 call_within taken r (SendMany ms o) s h =
     let e : EndpointState (List ℕ) = s.endpoint_state in
     let t : EndpointState (List ℕ) = with_context e (offer_all ms o (shown_state e.state) e.context) in

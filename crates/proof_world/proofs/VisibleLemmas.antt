@@ -7,7 +7,7 @@ use Rattle.spec_endpoint.specs.Shown.{Association}
 use Rattle.std.specs.Prelude.{Bool, true, false, Option}
 use Rattle.proof_draws.specs.Alike.{AreEventsAlike}
 use Rattle.spec_world.specs.Observations.{End, Entry, EmittedPacket, EmittedEvent}
-use Rattle.spec_world.specs.World.{packets_in, emitted_entries, associated_if}
+use Rattle.spec_world.specs.World.{packets_in, emitted_entries, associated_unless}
 use Rattle.proof_world.proofs.EventLemmas.{mapped}
 use Rattle.proof_world.specs.Visible.{shown_by, visible}
 
@@ -15,7 +15,7 @@ pub visible_both : (k l : List Entry) → visible (k ++ l) ≡ visible k ++ visi
 visible_both k l = flat_map-append shown_by k l
 
 -- an association is left out
-pub none_associated : (b : Bool) (x : End) (a : Option Association) → visible (associated_if b x a) ≡ []
+pub none_associated : (b : Bool) (x : End) (a : Option Association) → visible (associated_unless b x a) ≡ []
 none_associated true x a = refl
 none_associated false x a = refl
 

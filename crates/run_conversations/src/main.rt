@@ -1,11 +1,12 @@
 //! Conversations of two ends: runs each script of standard input in a world of its own, or in two whose ends draw other words, and prints
-//! what it answers, or what both worlds show and where they first show something else.
+//! what it answers, or what the first world shows and where the second first shows something else.
 //!
 //! A script is what stands behind a line that begins with `#`, which says what the script shows and is printed too. Where it has a line
 //! `two worlds`, it runs in two. Behind these words eight numbers may stand: state and stream of the generator of each end, of the first
-//! world and of the second. There lines up to an empty one are events of one run (`events`). `show` prints what the first world showed since,
-//! `ready X` the messages that became ready at an end, `exchange N L` runs N events more: each packet of either end is given to the other
-//! one, but each L-th, and where none is on its way half a second passes. The end of such a script says whether both showed the same.
+//! world and of the second. There lines up to an empty one, or one of the next three, are events of one run (`events`): `show` prints what the first
+//! world showed since, `ready X` the messages that became ready at an end, `exchange N L` runs N events more: each packet of either end is
+//! given to the other one, but each L-th, and where none is on its way half a second passes. The end of such a script says whether both
+//! showed the same.
 #![tactic(auto)]
 
 mod events;

@@ -131,13 +131,9 @@ pub record LeavesRestoring {R C : Type 0} (h : HandoverState) (before after : So
   pub association : (association_in after.state ≡ association_in before.state) ⊎ (association_in after.state ≡ Some (association_from h))
   pub ready : Extends (ready_in before.state) (ready_in after.state)
 
-abbrev pub refusal_in : Result (Unit {0}) SendError → Option SendError
+abbrev pub refusal_in : {E : Type 0} → Result (Unit {0}) E → Option E
 refusal_in (Ok done) = None
 refusal_in (Err e) = Some e
-
-abbrev pub reset_refusal_in : Result (Unit {0}) ResetStreamsError → Option ResetStreamsError
-reset_refusal_in (Ok done) = None
-reset_refusal_in (Err e) = Some e
 
 abbrev pub refusals_in : Result (Unit {0}) BatchFault → List (ℕ × SendError)
 refusals_in (Ok done) = []
@@ -151,7 +147,3 @@ readiness_in (Ok h) = 0
 readiness_in (Err (handovers.NotReady r)) = r.0
 readiness_in (Err handovers.Memory) = 0
 readiness_in (Err handovers.Failed) = 0
-
-abbrev pub restore_refusal_in : Result (Unit {0}) RestoreError → Option RestoreError
-restore_refusal_in (Ok done) = None
-restore_refusal_in (Err e) = Some e

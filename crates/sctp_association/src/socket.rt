@@ -10,7 +10,7 @@ ghost use Rattle.sctp_association.specs.Interrupted.{StopsIn};
 ghost use Rattle.spec_endpoint.specs.Association.{fresh, in_context};
 ghost use Rattle.spec_endpoint.specs.Input.{my_tag, in_endpoint_state};
 ghost use Rattle.sctp_calls.specs.Metrics.{metrics_in, metrics_of};
-ghost use Rattle.sctp_association.specs.Socket.{Ends, LeavesAtMemory, LeavesRestoring, RanOut, Worked, association_of, batch_ending, ending_of, endpoint, handover_ending, readiness_in, refusal_in, refusals_in, reset_refusal_in, resetting_ending, restore_ending, restore_refusal_in, sending_ending};
+ghost use Rattle.sctp_association.specs.Socket.{Ends, LeavesAtMemory, LeavesRestoring, RanOut, Worked, association_of, batch_ending, ending_of, endpoint, handover_ending, readiness_in, refusal_in, refusals_in, resetting_ending, restore_ending, sending_ending};
 ghost use Rattle.spec_endpoint.specs.Receiving.{Receives, Judges};
 ghost use Rattle.spec_endpoint.specs.Shown.{association_in, is_at_rest};
 ghost use Rattle.spec_endpoint.specs.Wire.{writing};
@@ -323,7 +323,7 @@ impl<R: Rng, C: Checksum> DcSctpSocket for Socket<R, C> {
     #[tactic(auto, using(crate::proofs::StandsLemmas::stands_same, crate::proofs::StandsLemmas::stands_by, crate::proofs::StandsLemmas::stands_on, crate::proofs::StandsLemmas::quiet_same, crate::proofs::StandsLemmas::quiet_by, crate::proofs::StandsLemmas::quiet_on))]
     fn reset_streams(&mut self, streams: &[StreamId]) -> Result<(), ResetStreamsError>
         ensures ends { Ends (resetting_ending result) self.old self.new }
-        ensures answer { resetting_ending result ≡ Worked → reset_refusal_in result ≡ resets.reset_refusal self.old.state }
+        ensures answer { resetting_ending result ≡ Worked → refusal_in result ≡ resets.reset_refusal self.old.state }
         ensures reset { resetting_ending result ≡ Worked
             → endpoint R.stream C.word_of self.new ≡ in_endpoint_state (resets.reset_streams (numbers_of streams.now)) (endpoint R.stream C.word_of self.old) }
         ensures allowed { resetting_ending result ≡ RanOut → resets.reset_refusal self.old.state ≡ None }
@@ -453,7 +453,7 @@ impl<R: Rng, C: Checksum> DcSctpSocket for Socket<R, C> {
     #[tactic(auto, using(crate::proofs::StandsLemmas::stands_same, crate::proofs::StandsLemmas::stands_with, crate::proofs::StandsLemmas::held_same, crate::proofs::StandsLemmas::held_with))]
     fn restore_from_state(&mut self, state: &SocketHandoverState) -> Result<(), RestoreError>
         ensures ends { Ends (restore_ending result) self.old self.new }
-        ensures answer { restore_ending result ≡ Worked → restore_refusal_in result ≡ handover.restore_refusal_in self.old.state (handover_state_of state.now) }
+        ensures answer { restore_ending result ≡ Worked → refusal_in result ≡ handover.restore_refusal_in self.old.state (handover_state_of state.now) }
         ensures restored { restore_ending result ≡ Worked
             → endpoint R.stream C.word_of self.new ≡ in_endpoint_state (handover.restore (handover_state_of state.now)) (endpoint R.stream C.word_of self.old) }
         ensures allowed { restore_ending result ≡ RanOut → handover.restore_refusal_in self.old.state (handover_state_of state.now) ≡ None }

@@ -86,7 +86,7 @@ pub extern "C" fn pigeon_buffered_amount(socket: &mut Handle, stream: u32, bytes
     }
 }
 
-/// Writes what is counted of the association and the socket, while there is an association.
+/// Writes what is counted of the association and the socket, while there is a control block.
 #[unsafe(no_mangle)]
 pub extern "C" fn pigeon_get_metrics_sized(socket: &mut Handle, metrics: &mut [u8]) -> u32
     ensures size { 96 < length metrics.old → (result ≡ 21) × (socket.new.held ≡ socket.old.held) }

@@ -35,7 +35,7 @@ pub extern "C" fn pigeon_shutdown(socket: &mut Handle) -> u32
     }
 }
 
-/// Ends the association at once, with an ABORT to the peer (RFC 9260 section 9.1).
+/// Ends the association at once, with an ABORT to the peer unless its INIT ACK is still waited for (RFC 9260 section 9.1).
 #[unsafe(no_mangle)]
 pub extern "C" fn pigeon_close(socket: &mut Handle) -> u32
     ensures { Makes (λ s f. f ≡ in_endpoint_state closing.close (end_of s)) socket.old.held result socket.new.held }

@@ -7,7 +7,7 @@ ghost use Rattle.sctp_c.specs.Lent.{PointsAt};
 ghost use Rattle.sctp_c_channels.specs.Answers.{IsClosed, Negotiated, Opened, Sent};
 ghost use Rattle.sctp_c_records.specs.Answers.{IsAmong, OnAnswer, OnOthers};
 ghost use Rattle.sctp_c_channels.specs.Events.{Shows, kind_at};
-ghost use Rattle.sctp_c_channels.specs.Records.{CopiesText, IsKnown, channel_bytes, channel_in, given_open, shown_channel, start_in, statistics_bytes};
+ghost use Rattle.sctp_c_channels.specs.Records.{CopiesText, IsKnown, channel_bytes, channel_in, given_open, shown_channel, shown_state, start_in, statistics_bytes};
 ghost use Rattle.sctp_channels.specs.Entries.{channel_at};
 ghost use Rattle.sctp_channels.specs.Steps.{Follows};
 
@@ -206,6 +206,21 @@ pub extern "C" fn pigeon_channels_borrow_event_sized(
             *bytes = end.lent.as_ptr();
             number
         }
+    }
+}
+
+/// Hands out the state of a channel: 0 closed, 1 connecting, 2 open, 3 closing.
+#[unsafe(no_mangle)]
+pub extern "C" fn pigeon_channel_state(socket: &mut Handle, channel: u32, state: &mut u32) -> u32
+    ensures stream { 65535 < channel → (result ≡ 6) × (socket.new.held ≡ socket.old.held) }
+    ensures call { channel ≤ 65535 → Answers (AsksChannel channel (λ c n. (n ≡ 0) × (state.new ≡ shown_state c))) socket.old.held result socket.new.held }
+{
+    let Some(id) = stream_of(channel) else {
+        return INVALID_STREAM;
+    };
+    match socket.as_mut() {
+        None => NO_SOCKET,
+        Some(end) => channels::tell_state(&end.channels, id, state),
     }
 }
 

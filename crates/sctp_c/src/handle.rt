@@ -1,4 +1,4 @@
-//! The handle that C holds, and the only code over its pointer.
+//! The handle that C holds: with `loose`, the only code over its pointer.
 
 ghost use Rattle.std.specs.Prelude.{◌≡◌, Option, Some, None, option_map};
 ghost use Rattle.sctp_c.specs.declared.endpoint.Endpoint.{Endpoint as EndpointValue};

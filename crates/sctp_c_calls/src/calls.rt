@@ -33,7 +33,7 @@ pub fn shutdown<R: Rng, C: Checksum>(socket: &mut Socket<R, C>) -> u32
     call_number(socket.shutdown())
 }
 
-/// Ends the association at once, with an ABORT to the peer (RFC 9260 section 9.1).
+/// Ends the association at once, with an ABORT to the peer unless its INIT ACK is still waited for (RFC 9260 section 9.1).
 pub fn close<R: Rng, C: Checksum>(socket: &mut Socket<R, C>) -> u32
     ensures answers { IsAmong (0 ∷ 1 ∷ 2 ∷ []) result }
     ensures ends { Ends (ending_at result) socket.old socket.new }

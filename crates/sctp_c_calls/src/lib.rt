@@ -1,4 +1,5 @@
-//! The calls of a socket as C has them: answers are numbers, what is handed out is copied into buffers, or lent. For every generator and checksum.
+//! The calls of a socket as C has them: answers are numbers, what is handed out is copied into buffers, or lent. For every generator and checksum;
+//! options are written with a `PacketChecksum` alone.
 #![tactic(auto)]
 
 mod asking;

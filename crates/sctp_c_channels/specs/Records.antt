@@ -3,7 +3,11 @@ use Rattle.std.specs.Prelude.{◌≡◌, ◌⊎◌, Option, Some, None, ℕ, ◌
 use Rattle.sctp_c_records.specs.Layout.{in_turn, put_u32, put_u64, u32_or}
 use Rattle.sctp_c_records.specs.Metrics.{one_if}
 use Rattle.sctp_channels.specs.declared.channel.Statistics.{Statistics}
+use Rattle.sctp_channels.specs.Channel.{Channel}
+use Rattle.sctp_channels.specs.Lifecycle.{state}
 use Rattle.sctp_channels.specs.Views.{Open}
+use Rattle.sctp_channels.specs.declared.lifecycle.ChannelState.{ChannelState}
+use Rattle.sctp_channels.specs.declared.lifecycle.ChannelState.TheVariants as states
 use Rattle.sctp_channels.specs.declared.reliability.Reliability.{Reliability}
 use Rattle.sctp_channels.specs.declared.reliability.Reliability.TheVariants.{Reliable, MaxRetransmissions, MaxLifetime}
 use Rattle.sctp_channels.specs.DataChannels.{DataChannels}
@@ -80,6 +84,17 @@ started r stream_count =
 abbrev pub IsStarted : StartRecord → Option DataChannels → Type 0
 IsStarted r None = ⊥
 IsStarted r (Some d) = (stream_count : ℕ) × (d ≡ started r stream_count)
+
+-- ---- how far a channel is
+
+abbrev pub state_number : ChannelState → ℕ
+state_number states.Closed = 0
+state_number states.Connecting = 1
+state_number states.Open = 2
+state_number states.Closing = 3
+
+abbrev pub shown_state : Channel → ℕ
+shown_state c = state_number (state c.lifecycle)
 
 -- ---- what a channel counts
 

@@ -4,14 +4,14 @@ ghost use Rattle.std.specs.Prelude.{◌≡◌, ◌<◌, ◌^◌, [], ◌∷◌};
 ghost use Rattle.sctp_channels.specs.Views.{open_of};
 ghost use Rattle.sctp_c_channels.specs.Answers.{Negotiated, OfChannelAt, OnChannels, Opened};
 ghost use Rattle.sctp_c_records.specs.Answers.{IsAmong, OnAnswer, OnOthers};
-ghost use Rattle.sctp_c_channels.specs.Records.{channel_bytes, given_open, shown_channel};
+ghost use Rattle.sctp_c_channels.specs.Records.{channel_bytes, given_open, shown_channel, shown_state, state_number};
 
 use crate::records::{ChannelRecord, DescriptionFault, GivenChannel};
 use sctp_c_records::answers::{
     MEMORY, NO_CHANNEL, NO_CHANNELS, NO_FREE_STREAM, NO_ROOM, NOT_TAKEN, NOT_UTF8, OK,
     STREAM_IN_USE, TEXT_TOO_LONG,
 };
-use sctp_channels::{DataChannelOpen, DataChannels, OpenError};
+use sctp_channels::{ChannelState, DataChannelOpen, DataChannels, OpenError};
 use sctp_serial::StreamId;
 use sctp_state::DcSctpSocket;
 use std::alloc::Global;
@@ -97,6 +97,31 @@ pub fn negotiate(
         Err(DescriptionFault::NotUtf8) => NOT_UTF8,
         Err(DescriptionFault::Memory) => NO_ROOM,
     }
+}
+
+fn number_of(state: ChannelState) -> u32
+    ensures { result ≡ state_number state }
+{
+    match state {
+        ChannelState::Closed => 0,
+        ChannelState::Connecting => 1,
+        ChannelState::Open => 2,
+        ChannelState::Closing => 3,
+    }
+}
+
+/// Hands out the state of a channel: 0 closed, 1 connecting, 2 open, 3 closing.
+pub fn tell_state(channels: &Option<DataChannels>, id: u16, state: &mut u32) -> u32
+    ensures { OfChannelAt id (λ c. (result ≡ 0) × (state.new ≡ shown_state c)) channels.now result }
+{
+    let Some(channels) = channels else {
+        return NO_CHANNELS;
+    };
+    let Some(channel) = channels.get(StreamId(id)) else {
+        return NO_CHANNEL;
+    };
+    *state = number_of(channel.lifecycle().state());
+    OK
 }
 
 /// Writes what a channel is beside its texts.

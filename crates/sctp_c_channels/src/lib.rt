@@ -8,7 +8,7 @@ mod sending;
 mod starting;
 mod statistics;
 
-pub use calls::{negotiate, open, write_options};
+pub use calls::{negotiate, open, tell_state, write_options};
 pub use events::{borrow_event, handle_input};
 pub use records::{CHANNEL_SIZE, ChannelRecord, GivenChannel};
 pub use sending::{GivenMessage, close, kind_of, send};

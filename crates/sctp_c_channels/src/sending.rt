@@ -1,6 +1,6 @@
 //! Messages are sent, and channels closed.
 
-ghost use Rattle.std.specs.Prelude.{◌≡◌, [], ◌∷◌, length, None};
+ghost use Rattle.std.specs.Prelude.{◌≡◌, [], ◌∷◌, length, None, IfOk};
 ghost use Rattle.sctp_channels.specs.Entries.{channel_at};
 ghost use Rattle.sctp_c_channels.specs.Answers.{IsClosed, OnChannels, Sent};
 ghost use Rattle.sctp_c_records.specs.Answers.{IsAmong, OnAnswer, OnOthers, by_test};
@@ -13,7 +13,7 @@ use sctp_c_records::answers::{
 use sctp_channels::{DataChannels, PayloadKind, SendRefusal};
 use sctp_serial::StreamId;
 use sctp_state::{CallError, DcSctpSocket};
-use std::alloc::Global;
+use std::alloc::{AllocError, Global};
 
 /// A message to be sent on a channel.
 #[derive(Clone, Copy)]
@@ -41,6 +41,15 @@ fn is_sendable(kind: PayloadKind, payload: &[u8]) -> bool
         PayloadKind::Text => str::from_utf8(payload).is_ok(),
         PayloadKind::Binary => true,
     }
+}
+
+/// A copy of a message's bytes, with room for the byte under which an empty one goes: so it is the copy alone that lacks memory.
+fn copy(alloc: Global, payload: &[u8]) -> Result<Vec<u8>, AllocError>
+    ensures { IfOk result (λ copy. copy.items ≡ payload.now) }
+{
+    let mut copy = Vec::with_capacity(alloc, payload.len().max(1))?;
+    copy.extend_from_slice(payload)?;
+    Ok(copy)
 }
 
 fn send_on<S: DcSctpSocket>(
@@ -84,7 +93,7 @@ pub fn send<S: DcSctpSocket>(
     if !is_sendable(message.kind, message.payload) {
         return NOT_UTF8;
     }
-    let Ok(payload) = Vec::from_slice(alloc, message.payload) else {
+    let Ok(payload) = copy(alloc, message.payload) else {
         return NO_ROOM;
     };
     send_on(socket, channels, id, message.kind, payload)

@@ -57,7 +57,7 @@ pub const NO_CHANNELS: u32 = 23;
 pub const HAS_CHANNELS: u32 = 24;
 /// There is no channel on the stream.
 pub const NO_CHANNEL: u32 = 25;
-/// The channel is being closed.
+/// The channel is being closed, or its number isn't free behind that.
 pub const CHANNEL_CLOSING: u32 = 26;
 /// The stream has a channel, or isn't free yet.
 pub const STREAM_IN_USE: u32 = 27;

@@ -1,6 +1,8 @@
 -- A channel between its opening and the moment when its stream is free: what it may do, and what each thing that happens makes of it (RFC 8831
 -- sections 6.6 and 6.7, RFC 8832 section 6).
 use Rattle.std.specs.Prelude.{ℕ, Bool, true, false, not, ◌&&◌, ◌==◌}
+use Rattle.sctp_channels.specs.declared.lifecycle.ChannelState.{ChannelState}
+use Rattle.sctp_channels.specs.declared.lifecycle.ChannelState.TheVariants as states
 use Rattle.sctp_channels.specs.declared.lifecycle.Lifecycle.{Lifecycle}
 use Rattle.sctp_channels.specs.declared.lifecycle.Opening.{Opening}
 use Rattle.sctp_channels.specs.declared.lifecycle.Opening.TheVariants.{Connecting, Established, Refused}
@@ -73,6 +75,20 @@ is_resetting _ = false
 -- a peer that has performed the reset may be ahead of its answer
 abbrev pub may_reopen : Lifecycle → Bool
 may_reopen l = is_resetting l.outgoing && (l.is_incoming_reset && not l.awaits_answer)
+
+-- what it is to its owner, where it is the first as long as messages are accepted
+abbrev pub state_by : ChannelState → Outgoing → ChannelState
+state_by sending Sending = sending
+state_by sending Denied = states.Closed
+state_by sending _ = states.Closing
+
+abbrev pub state_of : Opening → Outgoing → ChannelState
+state_of Connecting outgoing = state_by states.Connecting outgoing
+state_of Established outgoing = state_by states.Open outgoing
+state_of Refused outgoing = states.Closed
+
+abbrev pub state : Lifecycle → ChannelState
+state l = state_of l.opening l.outgoing
 
 -- ---- what happens to it
 

@@ -44,6 +44,16 @@ fn recounted(kept: u128, before: u128, after: u128) -> u128
     kept.saturating_sub(before).saturating_add(after)
 }
 
+/// The bytes that a channel kept, which goes.
+fn kept_of(channel: Option<Channel>) -> u128
+    ensures { result ≡ kept_at channel }
+{
+    match channel {
+        None => 0,
+        Some(channel) => channel.kept_bytes(),
+    }
+}
+
 fn stream_ids(alloc: Global, channels: &BTreeMap<u16, Channel>) -> Result<Vec<StreamId>, AllocError>
     ensures { IfOk result (λ ids. map (λ id. id.0) ids.items ≡ keys_of channels.now.entries) }
 {
@@ -130,10 +140,9 @@ impl ChannelMap {
     pub(crate) fn remove(&mut self, id: &u16)
         ensures { self.new ≡ forget id.now self.old }
     {
-        let before = self.kept_at(id);
         // (that the streams ascend is known once the map is read)
         let _count = self.entries.len();
-        self.entries.remove(id);
+        let before = kept_of(self.entries.remove(id));
         self.incoming.remove(id);
         self.kept = recounted(self.kept, before, 0);
     }

@@ -68,12 +68,7 @@ impl Closing {
         Ok(())
     }
 
-    /// Little of the stream waits: where its channel is closed it is to be looked at first.
-    pub fn on_low(&mut self, id: StreamId) -> Result<(), AllocError> {
-        self.insert_due_if_closing(id)
-    }
-
-    /// The former resets of these streams were answered: where a channel is closed meanwhile, its stream is to be looked at first.
+    /// The former resets of these streams were answered.
     pub fn on_answers(&mut self, ids: &[StreamId]) -> Result<(), AllocError> {
         for id in ids {
             self.insert_due_if_closing(*id)?;
@@ -81,7 +76,8 @@ impl Closing {
         Ok(())
     }
 
-    fn insert_due_if_closing(&mut self, id: StreamId) -> Result<(), AllocError> {
+    /// Little of the stream waits, or its former reset was answered: where its channel is closed it is to be looked at first.
+    pub fn insert_due_if_closing(&mut self, id: StreamId) -> Result<(), AllocError> {
         if !self.streams.contains(&id.0) {
             return Ok(());
         }

@@ -86,7 +86,7 @@ impl DataChannels {
         }
     }
 
-    /// The channel on a stream.
+    /// The channel on a stream: `lifecycle().state()` says how far it is.
     pub fn get(&self, id: StreamId) -> Option<&Channel>
         ensures { option_copied result ≡ channel_at id.0 self.now.channels.entries }
     {
@@ -488,7 +488,7 @@ impl DataChannels {
             SocketEvent::OnIncomingStreamReset(ids) => self.on_incoming_resets(ids),
             SocketEvent::OnStreamsResetPerformed(ids) => self.on_resets_performed(ids),
             SocketEvent::OnStreamsResetFailed(ids) => self.on_resets_denied(ids),
-            SocketEvent::OnBufferedAmountLow(id) => self.closing.on_low(*id),
+            SocketEvent::OnBufferedAmountLow(id) => self.closing.insert_due_if_closing(*id),
             SocketEvent::OnConnected() => self.channels.end_all_missing(),
             SocketEvent::OnClosed() => self.end(),
             SocketEvent::OnConnectionRestarted() => self.end(),
@@ -575,9 +575,21 @@ impl DataChannels {
         ensures done { OnOk result (self.new.channels.outputs ≡ []) }
         ensures told { StaysTold self.old self.new }
     {
-        self.settle_due(socket)?;
-        self.settle_in_turn(socket)?;
+        self.settle_closing(socket)?;
         self.carry_out(socket)
+    }
+
+    /// Asks for the resets that are due. Before there is an association they wait for that.
+    #[tactic(auto, using(crate::proofs::FollowsLemmas::follows_then, crate::proofs::FollowsLemmas::follows_same, crate::proofs::FollowsLemmas::told_then, crate::proofs::FollowsLemmas::told_same))]
+    fn settle_closing<S: DcSctpSocket>(&mut self, socket: &S) -> Result<(), AllocError>
+        ensures steps { OnOk result (Follows self.old self.new) }
+        ensures told { StaysTold self.old self.new }
+    {
+        if !has_association(socket) {
+            return Ok(());
+        }
+        self.settle_due(socket)?;
+        self.settle_in_turn(socket)
     }
 
     /// Asks for the resets of the streams that are to be looked at first, where they are due.
@@ -602,15 +614,12 @@ impl DataChannels {
         self.closing.next_due()
     }
 
-    /// Asks for the reset of the stream, where it is due. Before there is an association it waits for that.
+    /// Asks for the reset of the stream, where it is due.
     #[tactic(auto, using(crate::proofs::FollowsLemmas::follows_same, crate::proofs::FollowsLemmas::follows_drains, crate::proofs::FollowsLemmas::told_same))]
     fn settle_one<S: DcSctpSocket>(&mut self, socket: &S, id: StreamId) -> Result<(), AllocError>
         ensures steps { OnOk result (Follows self.old self.new) }
         ensures told { StaysTold self.old self.new }
     {
-        if !has_association(socket) {
-            return self.note_closing(id);
-        }
         if socket.buffered_amount(id) == 0 || self.is_incoming_reset(id) {
             return self.drain(id);
         }
@@ -645,8 +654,7 @@ impl DataChannels {
         Ok(self.closing.len() < before)
     }
 
-    /// Nothing of the stream waits in the socket that the peer would take. One whose reset was asked for isn't looked at again; one that waits for the
-    /// answer to the former reset is.
+    /// Nothing waits on the stream that the peer would take. Once its reset is asked for it isn't looked at again.
     fn drain(&mut self, id: StreamId) -> Result<(), AllocError>
         ensures row { OnOk result (self.new ≡ with_channels (drain id.0 0 self.old.channels) self.old) }
         ensures told { self.new.events ≡ self.old.events }

@@ -53,7 +53,7 @@ pub enum SendRefusal {
     /// There is no channel on the stream.
     #[error("no channel")]
     NoChannel,
-    /// The channel is being closed.
+    /// The channel is being closed, or its stream isn't free behind that.
     #[error("channel is closing")]
     Closing,
     /// The message is longer than the peer takes.
@@ -65,7 +65,7 @@ pub enum SendRefusal {
     /// The socket takes no message: its queue is full, it is shutting down, or `max_message_size` is exceeded.
     #[error("socket takes no message")]
     SocketRefused,
-    /// There was too little memory, now or before.
+    /// There was too little memory, now or before. Of an empty message it may be that for its byte: then the socket has not failed.
     #[error("out of memory")]
     Memory,
 }

@@ -35,7 +35,7 @@ pub use channels::Channels;
 pub use data_channels::DataChannels;
 pub use event::{ChannelEvent, OpenError, SendRefusal};
 pub use fault::ChannelMessageFault;
-pub use lifecycle::{Lifecycle, Opening, Outgoing};
+pub use lifecycle::{ChannelState, Lifecycle, Opening, Outgoing};
 pub use message::{ChannelMessage, DataChannelOpen};
 pub use message_laws::{one_answer, one_message, one_payload, read_back, written_alike};
 pub use output::{Output, Refusal};

@@ -1,7 +1,7 @@
 //! What a channel may do, and when its stream is free again.
 
 ghost use Rattle.std.specs.Prelude.{◌≡◌};
-ghost use Rattle.sctp_channels.specs.Lifecycle.{answer, asks_for_reset, close, confirm, deny, drain, finish, is_connecting, is_over, may_reopen, may_send, needs_answer, negotiated, opened, refused, reopened, stop_incoming, takes_data};
+ghost use Rattle.sctp_channels.specs.Lifecycle.{answer, asks_for_reset, close, confirm, deny, drain, finish, is_connecting, is_over, may_reopen, may_send, needs_answer, negotiated, opened, refused, reopened, state, stop_incoming, takes_data};
 
 /// Whether both ends have the channel.
 #[derive(Clone, Copy, Debug)]
@@ -27,6 +27,19 @@ pub enum Outgoing {
     Stopped,
     /// The reset was refused, by the peer or by the socket: the stream stays in use as long as the association.
     Denied,
+}
+
+/// What a channel is to its owner, in the words of W3C's `RTCDataChannel.readyState`.
+#[derive(Clone, Copy, Debug)]
+pub enum ChannelState {
+    /// This end opens it, and `Opened` is to come. Messages are accepted.
+    Connecting,
+    /// Both ends have it; one that was negotiated is so at once. Messages are accepted.
+    Open,
+    /// An end closes it, and `Closed` is to come. No message is accepted.
+    Closing,
+    /// The owner was told that it is closed, or never had it, and its stream isn't free.
+    Closed,
 }
 
 /// A channel between its opening and the moment when its stream is free for the next one.
@@ -100,6 +113,18 @@ impl Lifecycle {
         ensures { result ≡ may_send self.now }
     {
         matches!(self.outgoing, Outgoing::Sending)
+    }
+
+    /// What it is to its owner.
+    pub fn state(&self) -> ChannelState
+        ensures { result ≡ state self.now }
+    {
+        match (self.opening, self.outgoing) {
+            (Opening::Refused, _) | (_, Outgoing::Denied) => ChannelState::Closed,
+            (Opening::Connecting, Outgoing::Sending) => ChannelState::Connecting,
+            (_, Outgoing::Sending) => ChannelState::Open,
+            _ => ChannelState::Closing,
+        }
     }
 
     /// Whether what comes on the stream is of this channel.

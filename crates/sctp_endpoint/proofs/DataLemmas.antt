@@ -1,9 +1,9 @@
 -- Fragments that a packet takes one after the other, as they are sent.
-use Rattle.std.proofs.Common.{◌≡◌, ◌*◌, ◌<◌, ◌^◌, ℕ, zero, suc, Bool, true, List, [], ◌∷◌, map, refl, sym, ap, ◌∙◌, subst, arith}
+use Rattle.std.proofs.Common.{◌≡◌, ◌<◌, ◌^◌, ℕ, zero, suc, Bool, true, List, [], ◌∷◌, map, refl, sym, ap, ◌∙◌, subst, arith}
 use Rattle.std.specs.Prelude.{◌==◌, not, nat_lt, length}
 use Rattle.std.proofs.lemmas.Bool.Decides.{nat_tests}
 use Rattle.sctp_state.specs.Events.{Emitted}
-use Rattle.sctp_packet.specs.Chunk.{FragmentTree}
+use Rattle.sctp_packet.specs.Chunk.{FragmentTree, fragment_chunk}
 use Rattle.sctp_tx_queue.specs.SendQueue.{Queue}
 use Rattle.sctp_tx.specs.Taken.{taken_all}
 use Rattle.sctp_tx.specs.RetransmissionQueue.{Sender}
@@ -13,17 +13,17 @@ use Rattle.sctp_tx.proofs.IdleLemmas.{idle_send}
 use Rattle.spec_endpoint.specs.Association.{Context}
 use Rattle.spec_endpoint.specs.Heartbeats.{restart_interval_if}
 use Rattle.spec_endpoint.specs.Packets.{PacketDraft, add, add_all, room}
-use Rattle.spec_endpoint.specs.Sending.{Filling, data_chunk_of, asks_at_once, with_data, with_fragments}
+use Rattle.spec_endpoint.specs.Sending.{Filling, asks_at_once, with_data, with_fragments}
 use Rattle.sctp_endpoint.specs.declared.transmission_control_block.TransmissionControlBlock.{TransmissionControlBlock}
 use Rattle.sctp_endpoint.specs.Views.{ContextValue, filling_of}
 
 module _ (is_interleaved is_immediate : Bool) where
   abbrev pub taken : ℕ × FragmentTree → PacketDraft → PacketDraft
-  taken c p = add (data_chunk_of is_interleaved is_immediate c) p
+  taken c p = add (fragment_chunk is_interleaved is_immediate c) p
 
-  pub taken_are_added : (chunks : List (ℕ × FragmentTree)) (p : PacketDraft) → taken_all taken chunks p ≡ add_all (map (data_chunk_of is_interleaved is_immediate) chunks) p
+  pub taken_are_added : (chunks : List (ℕ × FragmentTree)) (p : PacketDraft) → taken_all taken chunks p ≡ add_all (map (fragment_chunk is_interleaved is_immediate) chunks) p
   taken_are_added [] p = refl
-  taken_are_added (c ∷ cs) p = taken_are_added cs (add (data_chunk_of is_interleaved is_immediate c) p)
+  taken_are_added (c ∷ cs) p = taken_are_added cs (add (fragment_chunk is_interleaved is_immediate c) p)
 
 pub some_or_none : (n : ℕ) → nat_lt 0 n ≡ not (n == 0)
 some_or_none zero = refl
@@ -55,7 +55,7 @@ module _ {P : Type 0} (x : Filling P) where
   packet_added : (is_immediate : Bool) → is_immediate ≡ asks_at_once x.context.options x.tcb.sender → packet_with is_immediate ≡ (with_data x).packet
   packet_added is_immediate small =
       taken_are_added x.tcb.capabilities.message_interleaving is_immediate (sent (room x.packet)).chunks x.packet
-      ∙ ap (λ (b : Bool). add_all (map (data_chunk_of x.tcb.capabilities.message_interleaving b) (sent (room x.packet)).chunks) x.packet) small
+      ∙ ap (λ (b : Bool). add_all (map (fragment_chunk x.tcb.capabilities.message_interleaving b) (sent (room x.packet)).chunks) x.packet) small
 
   all_added : (packet : PacketDraft) (s : Sender) (c : Context P) (queue : Queue) (emitted : Emitted P) (is_immediate is_sent : Bool)
       → packet ≡ packet_with is_immediate → is_immediate ≡ asks_at_once x.context.options x.tcb.sender

@@ -1,5 +1,5 @@
 -- What is ready stays ready where memory ran out in a chunk.
-use Rattle.std.proofs.Common.{◌≡◌, ◌⊎◌, ◌++◌, inl, inr, List, [], refl, ap, sym, subst, append-nil, Result, Ok, Err, OnErr}
+use Rattle.std.proofs.Common.{◌≡◌, ◌++◌, inl, List, [], ap, sym, subst, append-nil, Result, Ok, Err, OnErr}
 use Rattle.sctp_serial.specs.Messages.{Message}
 use Rattle.sctp_rx.specs.Delivery.{Extends}
 use Rattle.spec_endpoint.specs.Association.{State}

@@ -5,7 +5,7 @@ ghost use Rattle.sctp_wire.specs.Serialize.{IsEncodable, is_encodable, padded_it
 ghost use Rattle.sctp_packet.specs.ChunkView.{chunk_tree};
 ghost use Rattle.sctp_packet.specs.Written.{chunk_is_whole, chunk_item};
 ghost use Rattle.sctp_chunk.specs.Views.{fragment_tree, sack_chunk_tree};
-ghost use Rattle.spec_endpoint.specs.Sending.{data_chunk_of};
+ghost use Rattle.sctp_packet.specs.Chunk.{fragment_chunk};
 ghost use Rattle.spec_endpoint.specs.Packets.{add, added_if, clear_chunks, fits, has_chunks, packet_to, room};
 ghost use Rattle.sctp_endpoint.specs.WrittenChunks.{written_tree};
 ghost use Rattle.spec_endpoint.specs.Wire.{word_at, written_bytes};
@@ -195,9 +195,9 @@ impl OutgoingPacket {
 impl TakesFragments for OutgoingPacket {
     ghost use Rattle.sctp_tx.specs.declared.fragments.ChunkForm.{ChunkForm};
     ghost use Rattle.spec_endpoint.specs.Packets.{add};
-    ghost use Rattle.spec_endpoint.specs.Sending.{data_chunk_of};
+    ghost use Rattle.sctp_packet.specs.Chunk.{fragment_chunk};
 
-    ghost taken = { λ form c p. add (data_chunk_of form.is_interleaved form.is_immediate c) p };
+    ghost taken = { λ form c p. add (fragment_chunk form.is_interleaved form.is_immediate c) p };
 
     fn take(&mut self, form: ChunkForm, tsn: Tsn, fragment: &Data) -> Result<(), AllocError> {
         let chunk = FragmentChunk {
@@ -214,7 +214,7 @@ impl TakesFragments for OutgoingPacket {
 
 /// The chunk that carries the fragment in this form.
 pub fn data_chunk(form: ChunkForm, tsn: Tsn, fragment: Data) -> Chunk
-    ensures { chunk_tree result ≡ data_chunk_of form.is_interleaved form.is_immediate (tsn.0, fragment_tree fragment) }
+    ensures { chunk_tree result ≡ fragment_chunk form.is_interleaved form.is_immediate (tsn.0, fragment_tree fragment) }
 {
     if form.is_interleaved {
         Chunk::IData(IDataChunk {

@@ -5,7 +5,8 @@ ghost use Rattle.sctp_state.specs.Options.{IsValid, options_of};
 ghost use Rattle.sctp_capabilities.specs.Capabilities.{capabilities_of};
 ghost use Rattle.spec_endpoint.specs.Association.{tcb};
 ghost use Rattle.spec_endpoint.specs.Packets.{new_packet};
-ghost use Rattle.spec_endpoint.specs.Sending.{data_chunk_of, add_request, request_started};
+ghost use Rattle.spec_endpoint.specs.Sending.{add_request, request_started};
+ghost use Rattle.sctp_packet.specs.Chunk.{fragment_chunk};
 ghost use Rattle.sctp_endpoint.specs.Views.{identity_of, tcb_of};
 ghost use Rattle.sctp_packet.specs.Views.{fragment_tree};
 ghost use Rattle.sctp_packet.specs.ChunkView.{chunk_tree};
@@ -120,7 +121,7 @@ impl TransmissionControlBlock {
 
     /// The chunk of a fragment with this TSN: DATA, or I-DATA where messages are interleaved.
     pub fn make_data_chunk(&self, tsn: Tsn, fragment: Data, immediate_ack: bool) -> Chunk
-        ensures { chunk_tree result ≡ data_chunk_of self.now.capabilities.message_interleaving immediate_ack (tsn.0, fragment_tree fragment) }
+        ensures { chunk_tree result ≡ fragment_chunk self.now.capabilities.message_interleaving immediate_ack (tsn.0, fragment_tree fragment) }
     {
         let form = ChunkForm {
             is_interleaved: self.capabilities.message_interleaving,

@@ -1,17 +1,15 @@
-//! What becomes of an echoed cookie, the control block that it stands for, and the queue of an association that begins.
+//! What becomes of an echoed cookie, and the control block that it stands for.
 
-ghost use Rattle.std.specs.Prelude.{◌≡◌, ◌==◌, OnOk};
+ghost use Rattle.std.specs.Prelude.{◌≡◌, ◌==◌};
 ghost use Rattle.sctp_capabilities.specs.Capabilities.{capabilities_of, negotiate};
 ghost use Rattle.sctp_capabilities.specs.StateCookie.{cookie_of};
-ghost use Rattle.sctp_endpoint.specs.GoesOn.{GoesOn};
-ghost use Rattle.sctp_endpoint.specs.Views.{context_of, identity_of, state_of, tcb_of};
+ghost use Rattle.sctp_endpoint.specs.Views.{identity_of, state_of, tcb_of};
 ghost use Rattle.sctp_handshake.specs.ResolutionView.{resolution_of};
 ghost use Rattle.spec_endpoint.specs.Opening as table;
 
 use sctp_capabilities::{Capabilities, StateCookie};
 use sctp_endpoint::{Context, Identity, Phase, State, TransmissionControlBlock};
 use sctp_wire::Checksum;
-use std::alloc::AllocError;
 
 /// What becomes of an echoed cookie (RFC 9260 section 5.2.4).
 #[derive(Clone, Copy, Debug)]
@@ -156,21 +154,4 @@ pub fn agreed<C: Checksum>(context: &Context<C>, cookie: &StateCookie) -> Capabi
     ensures { capabilities_of result ≡ negotiate context.now.options (cookie_of cookie.now).peer_capabilities }
 {
     cookie.peer_capabilities.negotiate(&context.options)
-}
-
-/// The queue begins anew, for an association with or without interleaving.
-#[tactic(auto, using(sctp_endpoint::proofs::GoesOnLemmas::goes_on_same, sctp_endpoint::proofs::GoesOnLemmas::goes_on_through, sctp_endpoint::proofs::GoesOnLemmas::goes_on_as))]
-pub fn reset_queue<C: Checksum>(
-    context: &mut Context<C>,
-    is_interleaved: bool,
-) -> Result<(), AllocError>
-    ensures ok { let c = context_of C.word_of context.old in
-        OnOk result (context_of C.word_of context.new ≡ record c { queue = table.queue_anew is_interleaved c.queue }) }
-    ensures goes_on { GoesOn context.old context.new }
-{
-    context.send_queue.reset()?;
-    context
-        .send_queue
-        .enable_message_interleaving(is_interleaved);
-    Ok(())
 }

@@ -13,7 +13,7 @@ ghost use Rattle.sctp_endpoint.specs.GoesOn.{GoesOn};
 ghost use Rattle.sctp_endpoint.specs.Views.{context_of, endpoint_of, identity_of, opened_endpoint_of, phase_of, endpoint_state_of, tcb_of};
 ghost use Rattle.spec_endpoint.specs.Opening as table;
 
-use crate::cookies::reset_queue;
+use crate::cookie_echo::prepare_queue;
 use crate::draws::{tag_from, tsn_from};
 use crate::init_ack::{agreed_by, cookie_in, determine_sctp_implementation, send_init_ack};
 use rand_core::Rng;
@@ -275,7 +275,7 @@ fn echo<C: Checksum>(
         &init_ack.parameters,
     );
     context.peer_implementation = determine_sctp_implementation(cookie);
-    reset_queue(context, capabilities.message_interleaving)?;
+    prepare_queue(context, true, capabilities.message_interleaving)?;
     let echoed = CookieEchoedState {
         t1_cookie: t1_cookie(context),
         cookie: Vec::from_slice(context.alloc, cookie)?,

@@ -17,16 +17,9 @@ use std::mem;
 pub trait Receives {
     fn takes(&mut self, fragment: DataView<'_>) -> Result<(), AllocError>;
 
-    /// What room the copy of a fragment has.
-    fn room_for(&mut self, fragment: DataView<'_>) -> Result<usize, AllocError>;
-
-    fn lets_buffers_go(&mut self);
-
     fn passes(&mut self, tsn: Tsn, skipped: &[SkippedStream]) -> Result<(), AllocError>;
 
     fn defers(&mut self, tsn: Tsn, streams: &[StreamId]) -> Result<(), AllocError>;
-
-    fn admits(&self, tsn: Tsn, stream_key: StreamKey) -> bool;
 
     fn resets(&mut self, streams: &[StreamId]) -> Result<(), AllocError>;
 
@@ -87,24 +80,12 @@ impl Receives for ReassemblyQueue {
         self.add(fragment.tsn, data)
     }
 
-    fn room_for(&mut self, fragment: DataView<'_>) -> Result<usize, AllocError> {
-        Ok(self.copy_of(fragment)?.payload.capacity())
-    }
-
-    fn lets_buffers_go(&mut self) {
-        self.let_buffers_go();
-    }
-
     fn passes(&mut self, tsn: Tsn, skipped: &[SkippedStream]) -> Result<(), AllocError> {
         self.handle_forward_tsn(tsn, skipped)
     }
 
     fn defers(&mut self, tsn: Tsn, streams: &[StreamId]) -> Result<(), AllocError> {
         self.enter_deferred_reset(tsn, streams)
-    }
-
-    fn admits(&self, tsn: Tsn, stream_key: StreamKey) -> bool {
-        self.admits_fragment(tsn, stream_key)
     }
 
     fn resets(&mut self, streams: &[StreamId]) -> Result<(), AllocError> {

@@ -1,9 +1,8 @@
 //! Scenarios of a sender in which any allocation may be refused: each call answers as with ample memory, or that memory lacks. What it
 //! leaves then its contract says; the sender goes on until nothing is left.
 
-use crate::outstanding::sack;
 use Call::{Accept, BeginReset, Expire, Sack, Send, SendFast, TimeOut};
-use sctp_packet::{Data, SackChunk};
+use sctp_packet::{Data, GapAckBlock, SackChunk};
 use sctp_serial::{Message, PpId, SocketTime, StreamId, Tsn};
 use sctp_state::{Events, Options, SendOptions};
 use sctp_tx::{HandleSackResult, RetransmissionQueue, SendQueue};
@@ -25,9 +24,9 @@ enum Limit {
 enum Call {
     /// A message of so many bytes on a stream, accepted at moment 0: 1.
     Accept(u16, usize, Limit),
-    /// So many packets, each with 1,176 bytes of room: the TSN of the last one's only chunk, or 0 where it has none.
-    Send(u64, u32),
-    /// A packet that ignores the congestion window, the same.
+    /// A packet with 1,176 bytes of room: the TSN of its only chunk, or 0 where it has none.
+    Send(u64),
+    /// One that ignores the congestion window, the same.
     SendFast(u64),
     /// A SACK: its cumulative TSN and a block from one offset to another, none where they are 0. What it brings: a round trip 2, else
     /// something new 1.
@@ -47,7 +46,7 @@ trait Sends {
 
     fn sends_fast(&mut self, millis: u64) -> Result<u32, AllocError>;
 
-    fn hears(&mut self, millis: u64, sack: &SackChunk) -> Result<u32, AllocError>;
+    fn hears(&mut self, millis: u64, tsn: u32, block: (u16, u16)) -> Result<u32, AllocError>;
 
     fn times_out(&mut self, millis: u64) -> Result<u32, AllocError>;
 
@@ -109,6 +108,20 @@ fn only(chunks: Vec<(Tsn, Data)>) -> u32 {
     tsn
 }
 
+/// A SACK with this block, if it has a first offset.
+fn sack(alloc: Global, tsn: u32, block: (u16, u16)) -> Result<SackChunk, AllocError> {
+    let mut gap_ack_blocks = Vec::new(alloc);
+    if block.0 > 0 {
+        gap_ack_blocks.push(GapAckBlock::new(block.0, block.1))?;
+    }
+    Ok(SackChunk {
+        cumulative_tsn_ack: Tsn(tsn),
+        a_rwnd: 5_242_880,
+        gap_ack_blocks,
+        duplicate_tsns: Vec::new(alloc),
+    })
+}
+
 impl Sends for Sender {
     fn accepts(&mut self, stream: u16, size: usize, limit: Limit) -> Result<u32, AllocError> {
         if size == 0 || size > 12_000 || self.queue.total_buffered_amount() > 12_000 {
@@ -133,8 +146,9 @@ impl Sends for Sender {
         Ok(only(chunks))
     }
 
-    fn hears(&mut self, millis: u64, sack: &SackChunk) -> Result<u32, AllocError> {
-        let answer = self.items.handle_sack(at(millis), sack, &mut self.events)?;
+    fn hears(&mut self, millis: u64, tsn: u32, block: (u16, u16)) -> Result<u32, AllocError> {
+        let sack = sack(self.alloc, tsn, block)?;
+        let answer = self.items.handle_sack(at(millis), &sack, &mut self.events)?;
         Ok(match answer {
             HandleSackResult::Valid { rtt: Some(_), .. } => 2,
             HandleSackResult::Valid {
@@ -170,62 +184,36 @@ impl Sends for Sender {
     }
 }
 
-/// A SACK with this block, if it has a first offset.
-fn sack_of(alloc: Global, tsn: u32, first: u16, last: u16) -> Result<SackChunk, AllocError> {
-    if first > 0 {
-        return sack(alloc, tsn, &[(first, last)]);
-    }
-    sack(alloc, tsn, &[])
-}
-
-fn hears<S: Sends>(
-    sender: &mut S,
-    millis: u64,
-    sack: Result<SackChunk, AllocError>,
-) -> Result<u32, AllocError> {
-    sender.hears(millis, &sack?)
-}
-
-fn sends_each<S: Sends>(sender: &mut S, millis: u64, count: u32) -> Result<u32, AllocError> {
-    let mut last = 0;
-    for _ in 0..count {
-        last = sender.sends(millis)?;
-    }
-    Ok(last)
-}
-
-fn answer<S: Sends>(alloc: Global, sender: &mut S, call: Call) -> Result<u32, AllocError> {
+fn answer<S: Sends>(sender: &mut S, call: Call) -> Result<u32, AllocError> {
     match call {
         Accept(stream, size, limit) => sender.accepts(stream, size, limit),
-        Send(millis, count) => sends_each(sender, millis, count),
+        Send(millis) => sender.sends(millis),
         SendFast(millis) => sender.sends_fast(millis),
-        Sack(millis, tsn, first, last) => hears(sender, millis, sack_of(alloc, tsn, first, last)),
+        Sack(millis, tsn, first, last) => sender.hears(millis, tsn, (first, last)),
         TimeOut(millis) => sender.times_out(millis),
         Expire(millis) => sender.expires(millis),
         BeginReset => sender.begins_reset(),
     }
 }
 
-/// A turn of the sender, at a moment when t3-rtx has expired: what it sends comes. Where a call lacks memory the next turn makes it again.
-fn turn<S: Sends>(alloc: Global, sender: &mut S, millis: u64) {
-    let _ = sender.times_out(millis);
-    let _ = sender.expires(millis);
-    let _ = sender.sends(millis);
-    let sack = sack(alloc, sender.last_tsn(), &[]);
-    let _ = hears(sender, millis, sack);
-}
-
-fn comes_to_rest<S: Sends>(alloc: Global, sender: &mut S) -> bool {
+/// Whether nothing is left after some turns, each at a moment when t3-rtx has expired: what it sends comes. Where a call lacks memory the
+/// next turn makes it again.
+fn comes_to_rest<S: Sends>(sender: &mut S) -> bool {
     for i in 1..12 {
-        turn(alloc, sender, 100_000 * i);
+        let millis = 100_000 * i;
+        let _ = sender.times_out(millis);
+        let _ = sender.expires(millis);
+        let _ = sender.sends(millis);
+        let tsn = sender.last_tsn();
+        let _ = sender.hears(millis, tsn, (0, 0));
     }
     sender.rests()
 }
 
 /// Whether these answer so, up to the first that lacks memory, if one does.
-fn all_answer<S: Sends>(alloc: Global, sender: &mut S, calls: &[(Call, u32)]) -> bool {
+fn all_answer<S: Sends>(sender: &mut S, calls: &[(Call, u32)]) -> bool {
     for (call, want) in calls {
-        match answer(alloc, sender, *call) {
+        match answer(sender, *call) {
             Ok(number) => {
                 if number != *want {
                     return false;
@@ -234,64 +222,61 @@ fn all_answer<S: Sends>(alloc: Global, sender: &mut S, calls: &[(Call, u32)]) ->
             Err(_) => break,
         }
     }
-    comes_to_rest(alloc, sender)
+    comes_to_rest(sender)
 }
 
 fn hold(alloc: Global, calls: &[(Call, u32)]) -> bool {
     let mut sender = fresh(alloc);
-    let outcome = all_answer(alloc, &mut sender, calls);
+    let outcome = all_answer(&mut sender, calls);
     drop(sender);
     outcome
 }
 
 /// Three packets are lost; one goes again, and then the others.
-fn sends_again(alloc: Global) -> bool {
-    let calls = [
-        (Accept(1, 2500, Limit::None), 1),
-        (Send(0, 3), 12),
-        (TimeOut(500), 1),
-        (Send(500, 1), 10),
-        (Sack(700, 10, 0, 0), 1),
-        (Accept(2, 5, Limit::None), 1),
-        (Send(700, 1), 11),
-    ];
-    hold(alloc, &calls)
-}
+const SENDS_AGAIN: [(Call, u32); 9] = [
+    (Accept(1, 2500, Limit::None), 1),
+    (Send(0), 10),
+    (Send(0), 11),
+    (Send(0), 12),
+    (TimeOut(500), 1),
+    (Send(500), 10),
+    (Sack(700, 10, 0, 0), 1),
+    (Accept(2, 5, Limit::None), 1),
+    (Send(700), 11),
+];
 
 /// The third report has TSN 10 go again at once.
-fn recovers(alloc: Global) -> bool {
-    let calls = [
-        (Accept(1, 5800, Limit::None), 1),
-        (Send(0, 5), 14),
-        (Sack(100, 9, 2, 2), 1),
-        (Sack(101, 9, 2, 3), 1),
-        (Sack(102, 9, 2, 4), 1),
-        (SendFast(102), 10),
-        (Sack(150, 14, 0, 0), 2),
-    ];
-    hold(alloc, &calls)
-}
+const RECOVERS: [(Call, u32); 11] = [
+    (Accept(1, 5800, Limit::None), 1),
+    (Send(0), 10),
+    (Send(0), 11),
+    (Send(0), 12),
+    (Send(0), 13),
+    (Send(0), 14),
+    (Sack(100, 9, 2, 2), 1),
+    (Sack(101, 9, 2, 3), 1),
+    (Sack(102, 9, 2, 4), 1),
+    (SendFast(102), 10),
+    (Sack(150, 14, 0, 0), 2),
+];
 
 /// A message's lifetime ends, and the rest of another one leaves the queue; a reset holds the forward point before its end.
-fn gives_up(alloc: Global) -> bool {
-    let calls = [
-        (Accept(1, 20, Limit::Short), 1),
-        (Send(0, 1), 10),
-        (Accept(2, 1500, Limit::Once), 1),
-        (Send(0, 1), 11),
-        (BeginReset, 1),
-        (TimeOut(500), 1),
-        (Expire(500), 1),
-        (Send(500, 1), 0),
-        (Sack(600, 11, 0, 0), 2),
-        (Expire(600), 1),
-    ];
-    hold(alloc, &calls)
-}
+const GIVES_UP: [(Call, u32); 10] = [
+    (Accept(1, 20, Limit::Short), 1),
+    (Send(0), 10),
+    (Accept(2, 1500, Limit::Once), 1),
+    (Send(0), 11),
+    (BeginReset, 1),
+    (TimeOut(500), 1),
+    (Expire(500), 1),
+    (Send(500), 0),
+    (Sack(600, 11, 0, 0), 2),
+    (Expire(600), 1),
+];
 
 /// The test to run with a refused allocation.
 #[test]
 fn tells_want_of_memory(rt: HostRuntime) {
     let alloc = rt.alloc();
-    assert!(rt; sends_again(alloc) & recovers(alloc) & gives_up(alloc));
+    assert!(rt; hold(alloc, &SENDS_AGAIN) & hold(alloc, &RECOVERS) & hold(alloc, &GIVES_UP));
 }

@@ -3,7 +3,6 @@
 ghost use Rattle.std.specs.Prelude.{map, All};
 ghost use Rattle.sctp_packet.specs.Grammar.{Each};
 ghost use Rattle.proof_endpoint.specs.Sound.{ArgumentFits};
-ghost use Rattle.spec_endpoint.specs.Wire.{AreBytes};
 ghost use Rattle.spec_world.specs.World.{table_call};
 ghost use Rattle.sctp_network_side.specs.SideView.{action_of, call_tree};
 ghost use Rattle.sctp_network.specs.WorldView.{world_of};
@@ -14,12 +13,8 @@ ghost use Rattle.proof_world.specs.Readable.{GivesBytes};
 use crate::world::{Call, End, Event, World};
 use proof_endpoint::arguments::{a_message_fits, a_stream_fits, messages_fit, streams_fit};
 use rand_core::Rng;
+use sctp_network_side::side::bytes_fit;
 use sctp_wire::Checksum;
-
-/// Bytes are below 256.
-fn bytes_fit(bytes: &[u8])
-    ensures fit { AreBytes bytes.now }
-{}
 
 /// What a call hands in fits.
 pub fn a_call_fits(call: &Call)

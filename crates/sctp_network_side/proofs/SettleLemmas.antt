@@ -6,7 +6,7 @@ use Rattle.spec_endpoint.specs.Calls.{ready_in}
 use Rattle.spec_endpoint.specs.Shown.{Association, association_in}
 use Rattle.sctp_association.specs.Socket.{endpoint}
 use Rattle.spec_world.specs.Observations.{End, Entry, same_association}
-use Rattle.spec_world.specs.World.{news, associated_if, emitted_entries, given_up_entries, ready_entries, ready_before}
+use Rattle.spec_world.specs.World.{news, associated_unless, emitted_entries, given_up_entries, ready_entries, ready_before}
 use Rattle.sctp_network_side.specs.Interrupted.{IsCut}
 use Rattle.sctp_network_side.specs.SideView.{SideValue}
 use Rattle.sctp_network_side.proofs.CutLemmas.{cut_at_once, cut_behind, cut_before}
@@ -37,7 +37,7 @@ module _ (old : List Entry) (first : Entry) (associated emitted given_up ready :
 
 -- as what is new of an end
 abbrev part_associated : {R C : Type 0} → End → Option Association → SideValue R C → List Entry
-part_associated x held v = associated_if (same_association held (association_in v.socket.state)) x (association_in v.socket.state)
+part_associated x held v = associated_unless (same_association held (association_in v.socket.state)) x (association_in v.socket.state)
 
 abbrev part_emitted : {R C : Type 0} → End → SideValue R C → List Entry
 part_emitted x v = emitted_entries x (length v.packets) v.socket.context.emitted.events
@@ -62,9 +62,9 @@ module _ {R C : Type 0} (stream : R → Stream) (word_of : C → List ℕ → �
       seen (cut_in_associated old first (part_associated x held v) (part_emitted x v) (part_given_up x v) (part_ready x held ready v) l1 log e same)
 
   module _ (l1 l2 : List Entry) (same : Bool) (a : Option Association) (e : l1 ≡ old ++ first ∷ []) (tells : same ≡ same_association held a)
-      (holds : a ≡ association_in v.socket.state) (f : l2 ≡ l1 ++ associated_if same x a) where
+      (holds : a ≡ association_in v.socket.state) (f : l2 ≡ l1 ++ associated_unless same x a) where
     own : l2 ≡ l1 ++ part_associated x held v
-    own = f ∙ ap (λ (b : Bool). l1 ++ associated_if b x a) tells ∙ ap (λ (o : Option Association). l1 ++ associated_if (same_association held o) x o) holds
+    own = f ∙ ap (λ (b : Bool). l1 ++ associated_unless b x a) tells ∙ ap (λ (o : Option Association). l1 ++ associated_unless (same_association held o) x o) holds
 
     pub settles_emitted : (n : ℕ) → n ≡ length v.packets → IsCut l2 (l2 ++ emitted_entries x n v.socket.context.emitted.events) log
         → IsCut old (Whole stream word_of old first x ready held now) log

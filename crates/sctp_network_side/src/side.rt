@@ -10,7 +10,7 @@ ghost use Rattle.spec_endpoint.specs.Wire.{AreBytes};
 ghost use Rattle.sctp_association.specs.Socket.{association_of, endpoint};
 ghost use Rattle.spec_world.specs.Observations.{Given, Foreign, GaveUp, same_association};
 ghost use Rattle.spec_world.specs.World as table;
-ghost use Rattle.spec_world.specs.World.{fresh_side, associated_if, TakesBytes, take_emitted, news, packets_in, emitted_entries, given_up_entries, ready_entries, after_call, after_time, clock, call_entry};
+ghost use Rattle.spec_world.specs.World.{fresh_side, associated_unless, TakesBytes, take_emitted, news, packets_in, emitted_entries, given_up_entries, ready_entries, after_call, after_time, clock, call_entry};
 ghost use Rattle.sctp_network_side.specs.Interrupted.{IsCut, StopsWithin, TakesBytesSo, MeetsForeignSo};
 ghost use Rattle.sctp_network_side.specs.SideView.{call_tree, end_tree, entry_tree, ready_entry, side_in, without_events, without_records};
 
@@ -273,7 +273,7 @@ impl<R: Rng, C: Checksum> Side<R, C> {
 }
 
 /// Bytes are below 256.
-fn bytes_fit(bytes: &[u8])
+pub fn bytes_fit(bytes: &[u8])
     ensures fit { AreBytes bytes.now }
 {}
 
@@ -308,7 +308,7 @@ fn log_association(
     log: &mut Vec<Entry>,
 ) -> Result<(), AllocError>
     ensures log { OnOk result (map entry_tree log.new.items
-        ≡ map entry_tree log.old.items ++ associated_if is_same (end_tree end) (option_map association_of association)) }
+        ≡ map entry_tree log.old.items ++ associated_unless is_same (end_tree end) (option_map association_of association)) }
     ensures kept { OnErr result (map entry_tree log.new.items ≡ map entry_tree log.old.items) }
 {
     if !is_same {

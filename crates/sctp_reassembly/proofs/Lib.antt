@@ -9,7 +9,6 @@ pub mod InterruptedLemmas
 mod JoinedLemmas
 mod HolderLemmas
 mod InTurnLemmas
-mod KeyAtLemmas
 mod AtEndLemmas
 mod DroppedLemmas
 mod LowLemmas

@@ -6,13 +6,11 @@ use Rattle.sctp_fragments.specs.declared.interval.Entry.{Entry}
 use Rattle.sctp_fragments.specs.declared.interval.Interval.{Interval}
 use Rattle.sctp_fragments.specs.Interval.{held_of, run_of, entries_of}
 use Rattle.sctp_fragments.specs.Held.{Held, rank_of, intervals_of}
-use Rattle.sctp_fragments.specs.ReassemblyKey.{rank_at}
 use Rattle.sctp_fragments.specs.Runs.{is_held, put_in, with_item}
-use Rattle.sctp_fragments.proofs.PlaceLemmas.{cons, some_run}
+use Rattle.sctp_fragments.proofs.PlaceLemmas.{some_run}
 use Rattle.sctp_reassembly.specs.Places.{all_of, IsLed}
 use Rattle.sctp_reassembly.specs.Listed.{IsListed}
 use Rattle.sctp_reassembly.specs.ListState.{IsLone}
-use Rattle.sctp_reassembly.specs.KeyAt.{IsKeyAt}
 use Rattle.sctp_reassembly.proofs.ListLemmas.{intervals_flat}
 use Rattle.sctp_reassembly.proofs.CountLemmas.{put_length}
 
@@ -30,7 +28,7 @@ module _ {K : Type 0} (is_key : K → Type 0) (number index : K → ℕ) where
   nothing_listed later none = subst (λ (l : List (K × Interval K)). IsListed is_key number index None l 0 0) (sym none) (record { kept = record { runs = tt; named = tt; led = refl; counted = refl; small = tt }; counted = refl })
 
 module _ {K : Type 0} (number index : K → ℕ) where
-  -- the only interval of a single fragment, and its key
+  -- the only interval of a single fragment
   pub lone_is : (i : Interval K) → IsLone number index i → (front back : List (List Held)) (r : List Held) → intervals_of (entries_of (held_of number index) (i ∷ [])) ≡ front ++ r ∷ back → run_of (held_of number index) i ≡ r
   lone_is i lone front back r runs = go front (sym (intervals_flat (run_of (held_of number index) i ∷ []) lone.runs) ∙ runs)
     where
@@ -38,20 +36,6 @@ module _ {K : Type 0} (number index : K → ℕ) where
       go [] is = cc
       go (d ∷ []) is = absurd (cc)
       go (d ∷ (e ∷ ds)) is = absurd (cc)
-
-  pub lone_key : (i : Interval K) (e : Entry K) (place : ℕ) → IsLone number index i → place ≡ 0 → ((h : Held) (hs : List Held) → run_of (held_of number index) i ≡ h ∷ hs → held_of number index e ≡ h)
-      → IsKeyAt (rank_at number index e.key) place (intervals_of (entries_of (held_of number index) (i ∷ [])))
-  lone_key i e place lone at first =
-      let c = cons (run_of (held_of number index) i) (some_run (held_of number index) i) in
-      record {
-        front = [];
-        first = c.head;
-        others = c.tail;
-        back = [];
-        is = intervals_flat (run_of (held_of number index) i ∷ []) lone.runs ∙ ap (λ (r : List Held). r ∷ []) c.is;
-        at = sym at;
-        begins = ap rank_of (first c.head c.tail c.is);
-      }
 
 -- where a fragment comes, or fails to, none goes
 pub keeps_length : {T E : Type 0} (r : Result T E) (x : Held) (old new : List Held) → OnOk r (new ≡ with_item rank_of x old) → OnErr r (new ≡ old) → length old ≤ length new

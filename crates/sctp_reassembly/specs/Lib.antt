@@ -14,7 +14,6 @@ pub mod ListState
 pub mod Turns
 pub mod ReassemblyHandover
 pub mod UnorderedByTsn
-pub mod KeyAt
 pub mod Finished
 pub mod WireNumber
 pub mod NoneForwarded

@@ -142,7 +142,6 @@ impl<K: ReassemblyKey> IntervalList<K> {
     ghost use Rattle.sctp_fragments.specs.ReassemblyKey.{rank_at};
     ghost use Rattle.sctp_fragments.specs.Interval.{as_held, held_of, run_of};
     ghost use Rattle.sctp_reassembly.specs.UnorderedByTsn.{BeginsFrom};
-    ghost use Rattle.sctp_reassembly.specs.KeyAt.{IsKeyAt};
     ghost use Rattle.sctp_reassembly.specs.Finished.{BeginsAt, IsNumbered, NoneMissed, NoneEarlier};
 
     /// No fragments. Takes no memory.
@@ -204,23 +203,6 @@ impl<K: ReassemblyKey> IntervalList<K> {
             ListState::Empty => 0,
             ListState::Lone(_) => 1,
             ListState::Many(map) => map.len(),
-        }
-    }
-
-    /// The key of the first fragment of the interval at the place.
-    pub fn key_at(&self, place: usize) -> Option<K>
-        ensures some { IfSome result (λ k. IsKeyAt (rank_at K.number K.index k) place (intervals_of self.now)) }
-        ensures none { IfNone result (length (intervals_of self.now) ≤ place) }
-    {
-        match &self.state {
-            ListState::Empty => None,
-            ListState::Lone(interval) => {
-                if place > 0 {
-                    return None;
-                }
-                Some(interval.first().key)
-            }
-            ListState::Many(map) => map.key_at(place),
         }
     }
 

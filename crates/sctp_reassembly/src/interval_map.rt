@@ -2,7 +2,6 @@
 
 ghost use Rattle.std.specs.Prelude.{◌≡◌, ◌+◌, ◌<◌, ◌≤◌, ◌^◌, ◌++◌, ◌∷◌, Bool, [], not, List, true, false, length, option_map, IfOk, OnOk, OnErr, IfSome, IfNone};
 
-use crate::counted::key_at;
 use crate::dropped::{all_sums_of, ends_below, take_low};
 use crate::finished::{Finished, begin_of};
 use crate::interval_list::ListState;
@@ -49,7 +48,6 @@ impl<K: ReassemblyKey> IntervalMap<K> {
     ghost use Rattle.sctp_fragments.specs.ReassemblyKey.{rank_at};
     ghost use Rattle.sctp_fragments.specs.Interval.{as_held, held_of, run_of};
     ghost use Rattle.sctp_reassembly.specs.UnorderedByTsn.{BeginsFrom};
-    ghost use Rattle.sctp_reassembly.specs.KeyAt.{IsKeyAt};
     ghost use Rattle.sctp_reassembly.specs.Finished.{BeginsAt, IsNumbered, NoneMissed, NoneEarlier};
     ghost use Rattle.sctp_reassembly.specs.ListState.{held_in, IsListState};
 
@@ -127,14 +125,6 @@ impl<K: ReassemblyKey> IntervalMap<K> {
             return 0;
         }
         self.later.len() + 1
-    }
-
-    /// The key of the first fragment of the interval at the place.
-    pub fn key_at(&self, place: usize) -> Option<K>
-        ensures some { IfSome result (λ k. IsKeyAt (rank_at K.number K.index k) place (intervals_of self.now)) }
-        ensures none { IfNone result (length (intervals_of self.now) ≤ place) }
-    {
-        key_at(&self.first, &self.later, place)
     }
 
     /// Adds the fragment, and says whether it is new; where its key is held nothing changes. Without memory nothing changes

@@ -1,7 +1,6 @@
 //! Messages put together of their fragments (RFC 9260 section 6.9, RFC 8260 section 2.2).
 #![tactic(auto)]
 
-mod counted;
 mod dropped;
 mod finished;
 pub mod interval_list;

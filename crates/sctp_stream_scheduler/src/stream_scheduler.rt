@@ -130,7 +130,8 @@ impl StreamScheduler {
 
     /// The stream has nothing to send any more.
     pub fn leave(&mut self, id: StreamId)
-        ensures { self.new ≡ leave id.0 self.old }
+        ensures value { self.new ≡ leave id.0 self.old }
+        ensures inactive { is_active id.0 self.new ≡ false }
     {
         self.active.leave(id.0);
     }

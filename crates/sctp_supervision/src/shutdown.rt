@@ -175,18 +175,12 @@ pub fn handle_shutdown_ack<C: Checksum>(
     ensures err { OnErr result (state.new ≡ state.old) }
 {
     match state {
-        State::Closed | State::CookieWait(_) => answer_out_of_the_blue(context, tag),
-        State::Open(Phase::ShutdownSent(_), tcb) => {
+        State::Open(Phase::ShutdownSent(_) | Phase::ShutdownAckSent(_), tcb) => {
             complete_shutdown(context, tcb)?;
             state.enter(State::Closed);
             Ok(())
         }
-        State::Open(Phase::ShutdownAckSent(_), tcb) => {
-            complete_shutdown(context, tcb)?;
-            state.enter(State::Closed);
-            Ok(())
-        }
-        State::Open(_, _) => answer_out_of_the_blue(context, tag),
+        _ => answer_out_of_the_blue(context, tag),
     }
 }
 

@@ -265,7 +265,7 @@ fn end_if_expired<C: Checksum>(
     tcb: &TransmissionControlBlock,
     has_expired: bool,
 ) -> Result<bool, AllocError>
-    ensures ok { IfOk result (λ ended. timer_outcome_of C.word_of tcb.now context.new ended ≡ table.waits_if has_expired (tcb_of tcb.now) (context_of C.word_of context.old)) }
+    ensures ok { IfOk result (λ ended. timer_outcome_of C.word_of tcb.now context.new ended ≡ table.waits_unless has_expired (tcb_of tcb.now) (context_of C.word_of context.old)) }
     ensures goes_on { GoesOn context.old context.new }
 {
     if has_expired {

@@ -222,19 +222,11 @@ keeps_put id s log after q r h joins streams line begun =
     })
 
 -- a stream that is there from then on
-pub keeps_opened : (id : ℕ) (log after : Option (List ℕ)) (q r : Queue) → ResetKeeps log q → Joins true id log after → r.streams ≡ with_stream id q.streams → ((k : ℕ) → (k == id) ≡ false → is_active k r.scheduler ≡ is_active k q.scheduler)
-    → r.begun ≡ q.begun → ResetKeeps after r
-keeps_opened id log after q r h joins streams line begun =
-    keeps_beside id log after q r h joins (λ k d. record {
-      streams = ap (λ (ss : Streams). lookup (is_at (nat_cmp k)) ss.entries) streams ∙ opened_elsewhere k id q.streams d;
-      active = line k d;
-      begun = λ b. ap (is_begun k) begun ∙ b;
-    })
-
-pub keeps_set : (id : ℕ) (s : Stream) (log after : Option (List ℕ)) (q r : Queue) → ResetKeeps log q → Joins true id log after → r.streams ≡ put_stream id s (with_stream id q.streams) → r.scheduler ≡ q.scheduler → r.begun ≡ q.begun → ResetKeeps after r
+pub keeps_set : (id : ℕ) (s : Stream) (log after : Option (List ℕ)) (q r : Queue) → ResetKeeps log q → Joins true id log after → r.streams ≡ put_stream id s (with_stream id q.streams)
+    → ((k : ℕ) → (k == id) ≡ false → is_active k r.scheduler ≡ is_active k q.scheduler) → r.begun ≡ q.begun → ResetKeeps after r
 keeps_set id s log after q r h joins streams line begun =
     keeps_beside id log after q r h joins (λ k d. record {
       streams = ap (λ (ss : Streams). lookup (is_at (nat_cmp k)) ss.entries) streams ∙ written_elsewhere k id s (with_stream id q.streams).entries d ∙ opened_elsewhere k id q.streams d;
-      active = ap (is_active k) line;
+      active = line k d;
       begun = λ b. ap (is_begun k) begun ∙ b;
     })

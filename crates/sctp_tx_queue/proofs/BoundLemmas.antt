@@ -17,9 +17,9 @@ use Rattle.sctp_tx_queue.specs.declared.send_queue.message.MessageNumbers.{Messa
 use Rattle.sctp_tx_queue.specs.declared.send_queue.stream.ResetStep.{ResetStep}
 use Rattle.sctp_tx_queue.specs.declared.send_queue.stream.ResetStep.TheVariants.{Requested, Performed, Refused}
 use Rattle.sctp_tx_queue.specs.declared.send_queue.stream.StreamChange.{StreamChange}
-use Rattle.sctp_tx_queue.specs.declared.send_queue.stream.StreamChange.TheVariants.{Threshold, Priority, Discard, Prepare, Step, Restart, Empty}
+use Rattle.sctp_tx_queue.specs.declared.send_queue.stream.StreamChange.TheVariants.{Threshold, Priority, DropStale, Discard, Prepare, Step, Restart, Empty}
 use Rattle.sctp_tx_queue.specs.SendQueue.{Queued, Stream, Entries, remaining_bytes, amount_of, total_of, blank_stream, push, has_nothing}
-use Rattle.sctp_tx_queue.specs.Produced.{is_stale, fresh, moved_front, move_past, ends, pause_if_pending}
+use Rattle.sctp_tx_queue.specs.Produced.{is_stale, fresh, without_stale, moved_front, move_past, ends, pause_if_pending}
 use Rattle.sctp_tx_queue.specs.Settings.{without_front}
 use Rattle.sctp_tx_queue.specs.Resets.{is_partly, after_step}
 use Rattle.sctp_tx_queue.specs.Restored.{entries_from}
@@ -250,6 +250,16 @@ all_empty (s ∷ rest) h =
 pub total_nothing : (es : Entries) → AreFew es → (total_of es == 0) ≡ list_all has_nothing (values_of es)
 total_nothing es h = all_empty (values_of es) h.small
 
+-- where a stream's stale messages have all of its bytes, no other is there
+pub last_stale : (now id bytes : ℕ) (es : Entries) (s : Stream) → Some s ≡ lookup (is_at (nat_cmp id)) es → AreFew es → bytes + amount_of (without_stale now s) ≡ amount_of s → (bytes == amount_of s) ≡ has_nothing (without_stale now s)
+last_stale now id bytes es s at h whole = go bytes (amount_of (without_stale now s)) (amount_of s) (length (fresh now s.messages)) whole own.0 own.1
+  where
+    own : IsBetween (length (fresh now s.messages)) (sum_by remaining_bytes (fresh now s.messages))
+    own = stream_between (fresh now s.messages) ((keeps_fresh now s.messages).small (small_found (is_at (nat_cmp id)) es s at h.small))
+
+    go : (bytes left all count : ℕ) → bytes + left ≡ all → count ≤ left → left ≤ 4294967295 * count → (bytes == all) ≡ (count == 0)
+    go bytes left all count whole least most = grind (arith, nat_tests)
+
 -- the bytes fit
 pub total_fits : (es : Entries) → AreFew es → total_of es < 2 ^ 64
 total_fits es h = omega (arith, (all_between (values_of es) h.small).1, h.count)
@@ -276,6 +286,7 @@ few_first id es after w s m sorted is_after is_w none small room h =
 pub keeps_changed : (change : StreamChange) (s : Stream) → Keeps s.messages (changed change s).messages
 keeps_changed (Threshold bytes) s = keeps_same s.messages
 keeps_changed (Priority priority) s = keeps_same s.messages
+keeps_changed (DropStale now) s = keeps_fresh now s.messages
 keeps_changed (Discard message_id) s = keeps_without message_id.0 s.messages s refl
 keeps_changed Prepare s = keeps_partly s.messages
 keeps_changed (Step step) s = keeps_step step s

@@ -1,5 +1,5 @@
 -- Amounts that fall to their thresholds as messages are dropped.
-use Rattle.std.proofs.Common.{◌≡◌, ◌≤◌, ℕ, ◌-◌, Bool, false, List, Some, None, ap, sym, ◌∙◌, arith, append-nil}
+use Rattle.std.proofs.Common.{◌≡◌, ℕ, ◌+◌, ◌-◌, ◌==◌, Bool, true, false, cond, List, [], ◌∷◌, Some, None, refl, ap, sym, ◌∙◌, arith, append-nil}
 use Rattle.std.specs.Prelude.{◌&&◌}
 use Rattle.std.specs.Map.{lookup}
 use Rattle.std.specs.Ordering.{nat_cmp}
@@ -7,8 +7,9 @@ use Rattle.std.specs.BTreeMap.{is_at}
 use Rattle.std.proofs.lemmas.Bool.Decides.{nat_tests}
 use Rattle.sctp_state.specs.Events.{Event, Emitted, emit_events}
 use Rattle.sctp_state.specs.ThresholdWatcher.{Watched, crosses, lower}
-use Rattle.sctp_tx_queue.specs.SendQueue.{Stream, Streams, amount_of, total_of, watched_amount, watched_total, stream, put_stream}
-use Rattle.sctp_tx_queue.specs.Produced.{production, falls_low, total_falls_low, emit_fallen}
+use Rattle.sctp_tx_queue.specs.SendQueue.{Queued, Stream, Streams, amount_of, total_of, watched_amount, watched_total, stream, put_stream}
+use Rattle.sctp_tx_queue.specs.Produced.{production, falls_low, total_falls_low, emit_fallen, pause_if_pending}
+use Rattle.sctp_tx_queue.specs.Settings.{without_front}
 use Rattle.sctp_tx_queue.proofs.StreamLemmas.{crosses_same}
 use Rattle.sctp_tx_queue.proofs.StreamsLemmas.{put_nowhere, stream_there, changed_there, total_written, amount_at_most}
 
@@ -41,24 +42,33 @@ total_nowhere id t ss none = sym (ap (λ (x : Streams). total_falls_low ss x) (p
 
 -- ---- what is known of one stream says it of all
 
-pub low_there : (id : ℕ) (avoids : Bool) (f : Stream → Stream) (s : Stream) (ss : Streams) → Some s ≡ lookup (is_at (nat_cmp id)) ss.entries → avoids ≡ ss.avoids_stalls
-    → (avoids && crosses (watched_amount s) (watched_amount (f s))) ≡ falls_low id ss (put_stream id (f (stream id ss)) ss)
-low_there id avoids f s ss at avoiding =
-    ap (λ (b : Bool). b && crosses (watched_amount s) (watched_amount (f s))) avoiding
+-- these bytes are what the change takes off
+pub low_there : (id bytes : ℕ) (f : Stream → Stream) (s : Stream) (ss : Streams) → Some s ≡ lookup (is_at (nat_cmp id)) ss.entries → bytes + amount_of (f s) ≡ amount_of s → (f s).threshold ≡ s.threshold
+    → (ss.avoids_stalls && crosses (watched_amount s) (lower bytes (watched_amount s))) ≡ falls_low id ss (put_stream id (f (stream id ss)) ss)
+low_there id bytes f s ss at whole threshold =
+    ap (λ (b : Bool). ss.avoids_stalls && b) (crosses_same (watched_amount s) (lower bytes (watched_amount s)) (watched_amount s) (watched_amount (f s)) refl refl left (sym threshold))
     ∙ ap (λ (x : Stream). ss.avoids_stalls && crosses (watched_amount x) (watched_amount (f x))) (sym (stream_there id s ss at))
     ∙ ap (λ (y : Stream). ss.avoids_stalls && crosses (watched_amount (stream id ss)) (watched_amount y)) (sym (changed_there id s (f (stream id ss)) ss at))
+  where
+    left : amount_of s - bytes ≡ amount_of (f s)
+    left = omega (arith, whole)
 
-total_put : (id amount : ℕ) (f : Stream → Stream) (s : Stream) (ss : Streams) → Some s ≡ lookup (is_at (nat_cmp id)) ss.entries → amount_of (f s) ≤ amount_of s → amount ≡ total_of ss.entries
-    → amount - (amount_of s - amount_of (f s)) ≡ total_of (put_stream id (f (stream id ss)) ss).entries
-total_put id amount f s ss at less is =
-    let sums = total_written id ss.entries s (f (stream id ss)) at in
-    let same = ap (λ (t : Stream). amount_of (f t)) (stream_there id s ss at) in
-    omega (arith, sums, same, less, is, amount_at_most id ss.entries s at)
+pub total_there : (id bytes : ℕ) (f : Stream → Stream) (s : Stream) (ss : Streams) → Some s ≡ lookup (is_at (nat_cmp id)) ss.entries → bytes + amount_of (f s) ≡ amount_of s
+    → (ss.avoids_stalls && crosses (watched_total ss) (lower bytes (watched_total ss))) ≡ total_falls_low ss (put_stream id (f (stream id ss)) ss)
+total_there id bytes f s ss at whole =
+    ap (λ (b : Bool). ss.avoids_stalls && b) (crosses_same (watched_total ss) (lower bytes (watched_total ss)) (watched_total ss) (watched_total (put_stream id (f (stream id ss)) ss)) refl refl left refl)
+  where
+    left : total_of ss.entries - bytes ≡ total_of (put_stream id (f (stream id ss)) ss).entries
+    left =
+        let sums = total_written id ss.entries s (f (stream id ss)) at in
+        let same = ap (λ (t : Stream). amount_of (f t)) (stream_there id s ss at) in
+        omega (arith, sums, same, whole, amount_at_most id ss.entries s at)
 
-pub total_there : (id : ℕ) (avoids : Bool) (f : Stream → Stream) (s : Stream) (total : Watched) (ss : Streams) → Some s ≡ lookup (is_at (nat_cmp id)) ss.entries → amount_of (f s) ≤ amount_of s
-    → total.amount ≡ total_of ss.entries → total.low_threshold ≡ ss.total_threshold → avoids ≡ ss.avoids_stalls
-    → (avoids && crosses total (lower (amount_of s - amount_of (f s)) total)) ≡ total_falls_low ss (put_stream id (f (stream id ss)) ss)
-total_there id avoids f s total ss at less amount threshold avoiding =
-    ap (λ (b : Bool). b && crosses total (lower (amount_of s - amount_of (f s)) total)) avoiding
-    ∙ ap (λ (b : Bool). ss.avoids_stalls && b)
-    (crosses_same total (lower (amount_of s - amount_of (f s)) total) (watched_total ss) (watched_total (put_stream id (f (stream id ss)) ss)) amount threshold (total_put id total.amount f s ss at less amount) threshold)
+-- without the message at the front a stream has the same threshold
+pub without_threshold : (number : ℕ) (ms : List Queued) (s : Stream) → (without_front number ms s).threshold ≡ s.threshold
+without_threshold number [] s = refl
+without_threshold number (m ∷ rest) s = go (m.number == number)
+  where
+    go : (b : Bool) → (cond b (record s { messages = rest; pause = pause_if_pending s.pause }) s).threshold ≡ s.threshold
+    go true = refl
+    go false = refl

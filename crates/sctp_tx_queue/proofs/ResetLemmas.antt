@@ -57,12 +57,10 @@ without_priority number (m ∷ rest) s = go (m.number == number)
     go false = refl
 
 -- a stream is prepared once it is open and the scheduler knows what it has to send
-pub prepared_is : {P : Type 0} (id bytes : ℕ) (ss : Streams) (q mid : Queue) (after : Streams) (emitted : Emitted P) → ss ≡ q.streams → IsSome (lookup (is_at (nat_cmp id)) mid.streams.entries) → stream id mid.streams ≡ stream id q.streams
-    → mid ≡ (let p : ℕ = (stream id q.streams).priority in record q { streams = with_stream id q.streams; scheduler = set_bytes_remaining id bytes p q.scheduler })
-    → (inside : Streams) → after ≡ put_stream id (prepare_stream (stream id inside)) inside → inside ≡ mid.streams → bytes ≡ sendable (prepare_stream (stream id ss))
-    → (let p : ℕ = (stream id q.streams).priority in let r : Queue = record q { streams = after; scheduler = set_bytes_remaining id bytes p q.scheduler } in r) ≡ (prepare_reset id q emitted).queue
-prepared_is id bytes ss q mid after emitted is_streams there same is_mid inside is_after is_inside is_bytes =
-    ap (λ x. queue x (set_bytes_remaining id bytes (stream id q.streams).priority q.scheduler)) streams ∙ ap (λ x. queue done x) scheduled
+pub prepared_is : {P : Type 0} (id : ℕ) (q : Queue) (mid after : Streams) (line : Scheduler) (emitted : Emitted P) → mid ≡ with_stream id q.streams → IsSome (lookup (is_at (nat_cmp id)) mid.entries) → stream id mid ≡ stream id q.streams
+    → line ≡ set_bytes_remaining id (sendable (prepare_stream (stream id q.streams))) (stream id q.streams).priority q.scheduler → after ≡ put_stream id (prepare_stream (stream id mid)) mid
+    → (let r : Queue = record q { streams = after; scheduler = line } in r) ≡ (prepare_reset id q emitted).queue
+prepared_is id q mid after line emitted first there same is_line is_after = ap (λ x. queue x line) streams ∙ ap (λ x. queue done x) (is_line ∙ sym (ap (λ t. set_sendable id t q.scheduler) there_now))
   where
     queue : Streams → Scheduler → Queue
     queue x sch = record q { streams = x; scheduler = sch }
@@ -73,14 +71,8 @@ prepared_is id bytes ss q mid after emitted is_streams there same is_mid inside 
     done : Streams
     done = put_stream id s (with_stream id q.streams)
 
-    first : mid.streams ≡ with_stream id q.streams
-    first = ap (λ (x : Queue). x.streams) is_mid
-
     streams : after ≡ done
-    streams = is_after ∙ ap (λ x. put_stream id (prepare_stream (stream id x)) x) is_inside ∙ ap (λ t. put_stream id (prepare_stream t) mid.streams) same ∙ ap (λ x. put_stream id s x) first
+    streams = is_after ∙ ap (λ t. put_stream id (prepare_stream t) mid) same ∙ ap (λ x. put_stream id s x) first
 
     there_now : stream id done ≡ s
-    there_now = ap (λ x. stream id (put_stream id s x)) (sym first) ∙ stream_put id s mid.streams there
-
-    scheduled : set_bytes_remaining id bytes (stream id q.streams).priority q.scheduler ≡ set_sendable id (stream id done) q.scheduler
-    scheduled = ap (λ b. set_bytes_remaining id b (stream id q.streams).priority q.scheduler) (is_bytes ∙ ap (λ x. sendable (prepare_stream (stream id x))) is_streams) ∙ sym (ap (λ t. set_sendable id t q.scheduler) there_now)
+    there_now = ap (λ x. stream id (put_stream id s x)) (sym first) ∙ stream_put id s mid there

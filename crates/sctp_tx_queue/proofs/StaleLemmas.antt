@@ -1,5 +1,5 @@
 -- A stream whose messages all expired before they were begun.
-use Rattle.std.proofs.Common.{◌≡◌, ◌≤◌, ℕ, ◌-◌, ◌==◌, Bool, true, false, cond, List, [], ◌∷◌, length, Option, Some, None, refl, ap, sym, ◌∙◌, arith}
+use Rattle.std.proofs.Common.{◌≡◌, ℕ, ◌+◌, ◌==◌, Bool, true, false, cond, List, [], ◌∷◌, length, Option, Some, None, refl, ap, sym, ◌∙◌, arith}
 use Rattle.std.specs.Prelude.{is_some, ◌&&◌}
 use Rattle.std.specs.Map.{lookup}
 use Rattle.std.specs.Ordering.{nat_cmp}
@@ -7,13 +7,13 @@ use Rattle.std.specs.BTreeMap.{is_at}
 use Rattle.std.proofs.lemmas.Bool.{eqb-true}
 use Rattle.sctp_state.specs.Events.{Emitted, emit_events, emit_given_up, expired_events}
 use Rattle.sctp_state.specs.declared.api.GivenUpCause.TheVariants.{Lifetime}
-use Rattle.sctp_state.specs.ThresholdWatcher.{Watched, crosses, lower}
+use Rattle.sctp_state.specs.ThresholdWatcher.{crosses, lower}
 use Rattle.sctp_stream_scheduler.specs.StreamScheduler.{leave}
-use Rattle.sctp_tx_queue.specs.SendQueue.{Queued, Stream, Streams, Queue, amount_of, total_of, watched_amount, watched_total, stream, sendable}
+use Rattle.sctp_tx_queue.specs.SendQueue.{Queued, Stream, Streams, Queue, amount_of, watched_amount, watched_total, stream, sendable, has_nothing}
 use Rattle.sctp_tx_queue.specs.Produced.{Produced, is_front_stale, fresh, left_empty, without_stale, streams_without_stale, emit_expired, emit_fallen, emit_stale, production, falls_low, next_fragment, advance, streams_after, emitted_made, in_line, begun_by, turn}
 use Rattle.sctp_tx_queue.specs.Interrupted.{TurnOver}
 use Rattle.sctp_tx_queue.proofs.FallenLemmas.{nothing_falls, low_there, total_there}
-use Rattle.sctp_tx_queue.proofs.StreamsLemmas.{put_same, stream_there, stream_nowhere, lookup_written}
+use Rattle.sctp_tx_queue.proofs.StreamsLemmas.{put_same, stream_there, stream_nowhere, changed_there, lookup_written}
 use Rattle.sctp_tx_queue.proofs.WholeLemmas.{streams_fresh}
 
 -- no message expired where none was dropped
@@ -109,26 +109,32 @@ none_expired {P} now (m ∷ rest) t h = ap (λ (b : Bool). cond b (emit_expired 
     said : Emitted P
     said = emit_events (expired_events m.lifecycle) (emit_given_up m.number Lifetime t)
 
--- no stream, no message
-pub nowhere_dropped : {P : Type 0} (now id : ℕ) (ss : Streams) (t : Emitted P) → None ≡ lookup (is_at (nat_cmp id)) ss.entries → t ≡ emit_stale now id ss t
-nowhere_dropped now id ss t none =
+-- none is emitted where none expired
+pub fresh_dropped : {P : Type 0} (now id : ℕ) (ss : Streams) (t : Emitted P) → is_front_stale now (stream id ss).messages ≡ false → t ≡ emit_stale now id ss t
+fresh_dropped now id ss t fresh_front =
     sym (
     ap (λ u. emit_fallen id ss (streams_without_stale now id ss) u) (none_expired now (stream id ss).messages t fresh_front)
     ∙ ap (λ x. emit_fallen id ss x t) (sym (streams_fresh now id ss fresh_front))
     ∙ nothing_falls id ss t
     )
-  where
-    fresh_front : is_front_stale now (stream id ss).messages ≡ false
-    fresh_front = ap (λ (s : Stream). is_front_stale now s.messages) (stream_nowhere id ss none)
 
--- what a stream emits, among the others
-pub stale_emitted : {P : Type 0} (now id : ℕ) (avoids : Bool) (s : Stream) (total : Watched) (ss : Streams) (t : Emitted P) → Some s ≡ lookup (is_at (nat_cmp id)) ss.entries
-    → amount_of (without_stale now s) ≤ amount_of s → total.amount ≡ total_of ss.entries → total.low_threshold ≡ ss.total_threshold → avoids ≡ ss.avoids_stalls
-    → emit_events (production id (avoids && crosses (watched_amount s) (watched_amount (without_stale now s)))
-    (avoids && crosses total (lower (amount_of s - amount_of (without_stale now s)) total)) None) (emit_expired now s.messages t) ≡ emit_stale now id ss t
-stale_emitted now id avoids s total ss t at less amount threshold avoiding =
+-- no stream, no message
+pub nowhere_dropped : {P : Type 0} (now id : ℕ) (ss : Streams) (t : Emitted P) → None ≡ lookup (is_at (nat_cmp id)) ss.entries → t ≡ emit_stale now id ss t
+nowhere_dropped now id ss t none = fresh_dropped now id ss t (ap (λ (s : Stream). is_front_stale now s.messages) (stream_nowhere id ss none))
+
+-- what a stream emits, among the others: these bytes are dropped
+pub stale_emitted : {P : Type 0} (now id bytes : ℕ) (is_low is_total_low : Bool) (s : Stream) (ss : Streams) (t : Emitted P) → Some s ≡ lookup (is_at (nat_cmp id)) ss.entries → bytes + amount_of (without_stale now s) ≡ amount_of s
+    → is_low ≡ (ss.avoids_stalls && crosses (watched_amount s) (lower bytes (watched_amount s))) → is_total_low ≡ (ss.avoids_stalls && crosses (watched_total ss) (lower bytes (watched_total ss)))
+    → emit_events (production id is_low is_total_low None) (emit_expired now s.messages t) ≡ emit_stale now id ss t
+stale_emitted now id bytes is_low is_total_low s ss t at whole low total =
     let after = streams_without_stale now id ss in
-    let all = avoids && crosses total (lower (amount_of s - amount_of (without_stale now s)) total) in
-    ap (λ (b : Bool). emit_events (production id b all None) (emit_expired now s.messages t)) (low_there id avoids (λ x. without_stale now x) s ss at avoiding)
-    ∙ ap (λ (b : Bool). emit_events (production id (falls_low id ss after) b None) (emit_expired now s.messages t)) (total_there id avoids (λ x. without_stale now x) s total ss at less amount threshold avoiding)
+    ap (λ (b : Bool). emit_events (production id b is_total_low None) (emit_expired now s.messages t)) (low ∙ low_there id bytes (λ x. without_stale now x) s ss at whole refl)
+    ∙ ap (λ (b : Bool). emit_events (production id (falls_low id ss after) b None) (emit_expired now s.messages t)) (total ∙ total_there id bytes (λ x. without_stale now x) s ss at whole)
     ∙ ap (λ (x : Stream). emit_fallen id ss after (emit_expired now x.messages t)) (sym (stream_there id s ss at))
+
+-- whether no message is left
+pub left_nothing : (now id : ℕ) (s : Stream) (ss : Streams) → Some s ≡ lookup (is_at (nat_cmp id)) ss.entries → is_front_stale now s.messages ≡ true
+    → Some (has_nothing (without_stale now s)) ≡ left_empty now (stream id ss).messages
+left_nothing now id s ss at stale =
+    ap (λ (x : Stream). Some (has_nothing (without_stale now x))) (sym (stream_there id s ss at))
+    ∙ sym (ap (λ (b : Bool). cond b (Some (length (fresh now (stream id ss).messages) == 0)) None) (ap (λ (x : Stream). is_front_stale now x.messages) (stream_there id s ss at) ∙ stale))

@@ -10,10 +10,10 @@ ghost use Rattle.sctp_state.specs.Options.{options_of};
 ghost use Rattle.sctp_state.specs.Events.{Grown, expired_events, emit_events};
 ghost use Rattle.sctp_stream_scheduler.specs.StreamScheduler.{set_bytes_remaining};
 ghost use Rattle.sctp_tx_queue.specs.declared.send_queue.stream.ResetStep.TheVariants.{Requested, Performed, Refused};
-ghost use Rattle.sctp_tx_queue.specs.SendQueue.{amount_of, total_of, stream, with_stream, queue, add, is_empty, has_nothing};
+ghost use Rattle.sctp_tx_queue.specs.SendQueue.{amount_of, total_of, stream, with_stream, sendable, queue, add, is_empty, has_nothing};
 ghost use Rattle.sctp_tx_queue.specs.Produced.{begun_by, production, turn, turn_from, produce, next_stream};
 ghost use Rattle.sctp_tx_queue.specs.Settings.{set_low_threshold, set_priority, set_mode, discard, begun_without};
-ghost use Rattle.sctp_tx_queue.specs.Resets.{prepare_reset, emit_unsent, is_ready, streams_to_request, request_resets, commit_resets, roll_back_resets, apply_reset_step, each_stepped};
+ghost use Rattle.sctp_tx_queue.specs.Resets.{prepare_reset, prepare_stream, emit_unsent, is_ready, streams_to_request, request_resets, commit_resets, roll_back_resets, apply_reset_step, each_stepped};
 ghost use Rattle.sctp_tx_queue.specs.Begun.{Begins, GoesOn};
 ghost use Rattle.sctp_tx_queue.specs.Interrupted.{Same, Freed, TurnOver, Stopped, Interrupted, SomeStepped};
 ghost use Rattle.sctp_state.specs.Handover.{handover_state_of};
@@ -99,6 +99,31 @@ fn leave_line(
         return Err(AllocError);
     }
     Ok(())
+}
+
+/// Emits the events of the messages that a stream drops as it is to be reset, and sets what it has to send then. Where there is no
+/// such stream it is made.
+fn emit_and_open(
+    streams: &mut Streams,
+    scheduler: &mut StreamScheduler,
+    id: StreamId,
+    events: &mut Events,
+) -> Result<(), AllocError>
+    ensures streams { OnOk result (streams.new ≡ with_stream id.0 streams.old) }
+    ensures open { OnOk result (IsSome (lookup (is_at (nat_cmp id.0)) streams.new.entries)) }
+    ensures stream { OnOk result (stream id.0 streams.new ≡ stream id.0 streams.old) }
+    ensures line { OnOk result (scheduler.new ≡ set_bytes_remaining id.0 (sendable (prepare_stream (stream id.0 streams.old))) (stream id.0 streams.old).priority scheduler.old) }
+    ensures emitted { OnOk result (events.new ≡ emit_unsent (stream id.0 streams.old).messages events.old) }
+    ensures err { OnErr result (streams.new ≡ streams.old) }
+    ensures kept { OnErr result (scheduler.new ≡ scheduler.old) }
+    ensures grown { OnErr result (Grown events.old events.new) }
+{
+    let demand = streams.emit_waiting(id, events)?;
+    if demand.bytes == 0 {
+        scheduler.leave(id);
+        return Ok(());
+    }
+    scheduler.set_bytes_remaining(id, demand.bytes, demand.priority)
 }
 
 fn begun_by(id: StreamId, is_interleaved: bool, made: &Option<DataToSend>) -> Option<StreamId>
@@ -453,44 +478,13 @@ impl SendQueue {
         ensures emitted { OnOk result (events.new ≡ (prepare_reset id.0 self.old events.old).emitted) }
         ensures err { OnErr result (Same self.old events.old self.new events.new) }
     {
-        let mark = events.mark();
-        let bytes = self.streams.sendable_prepared(id);
-        match self.emit_and_open(id, bytes, events) {
-            Ok(()) => {
-                self.changed.add(id);
-                self.streams.change(id, StreamChange::Prepare);
-                Ok(())
-            }
-            Err(_) => {
-                events.roll_back(mark);
-                Err(AllocError)
-            }
-        }
-    }
-
-    /// Takes the memory for a stream that is to be reset, and emits the events of the messages that it drops.
-    fn emit_and_open(
-        &mut self,
-        id: StreamId,
-        bytes: usize,
-        events: &mut Events,
-    ) -> Result<(), AllocError>
-        requires there { 0 < bytes → IsSome (lookup (is_at (nat_cmp id.0)) self.old.streams.entries) }
-        ensures ok { OnOk result (self.new ≡ (let p : ℕ = (stream id.0 self.old.streams).priority in record self.old { streams = with_stream id.0 self.old.streams; scheduler = set_bytes_remaining id.0 bytes p self.old.scheduler })) }
-        ensures open { OnOk result (IsSome (lookup (is_at (nat_cmp id.0)) self.new.streams.entries)) }
-        ensures stream { OnOk result (stream id.0 self.new.streams ≡ stream id.0 self.old.streams) }
-        ensures emitted { OnOk result (events.new ≡ emit_unsent (stream id.0 self.old.streams).messages events.old) }
-        ensures err { OnErr result (self.new ≡ self.old) }
-        ensures grown { OnErr result (Grown events.old events.new) }
-    {
         self.changed.add(id);
-        self.streams.emit_waiting(id, events)?;
-        if bytes == 0 {
-            self.scheduler.leave(id);
-            return Ok(());
+        let mark = events.mark();
+        if emit_and_open(&mut self.streams, &mut self.scheduler, id, events).is_err() {
+            events.roll_back(mark);
+            return Err(AllocError);
         }
-        let priority = self.streams.priority(id);
-        self.scheduler.set_bytes_remaining(id, bytes, priority)?;
+        self.streams.change(id, StreamChange::Prepare);
         Ok(())
     }
 
@@ -560,7 +554,7 @@ impl SendQueue {
         ensures err { OnErr result (self.new ≡ self.old) }
     {
         if self.restart_idle(id) {
-            return Ok(so_far && !self.scheduler.is_active(id));
+            return Ok(so_far);
         }
         if self.is_kept(id) {
             return Ok(so_far);
@@ -573,6 +567,7 @@ impl SendQueue {
     fn restart_idle(&mut self, id: StreamId) -> bool
         ensures idle { result ≡ true → has_nothing (stream id.0 self.old.streams) ≡ true }
         ensures done { result ≡ true → self.new ≡ restarted_one id.0 self.old }
+        ensures settled { result ≡ true → is_settled id.0 self.new ≡ true }
         ensures same { result ≡ false → self.new ≡ self.old }
     {
         if !self.streams.restart_idle(id) {

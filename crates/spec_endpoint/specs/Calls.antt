@@ -104,12 +104,12 @@ offered (Some e) m o c = refuse e o.lifecycle_id c
 abbrev pub offer : {P : Type 0} → Message → SendOptions → SocketState → Context P → Context P
 offer m o shown c = offered (send_refusal m shown c) m o c
 
-abbrev pub sent_if : {P : Type 0} → (refusal : Option SendError) → EndpointState P → EndpointState P
-sent_if None s = where_open send_in s
-sent_if (Some e) s = s
+abbrev pub sent_unless : {P : Type 0} → (refusal : Option SendError) → EndpointState P → EndpointState P
+sent_unless None s = where_open send_in s
+sent_unless (Some e) s = s
 
 abbrev pub send : {P : Type 0} → Message → SendOptions → EndpointState P → EndpointState P
-send m o s = sent_if (send_refusal_of m s) (with_context s (offer m o (shown_state s.state) s.context))
+send m o s = sent_unless (send_refusal_of m s) (with_context s (offer m o (shown_state s.state) s.context))
 
 -- several: one sending at the end
 abbrev pub offer_all : {P : Type 0} → List Message → SendOptions → SocketState → Context P → Context P

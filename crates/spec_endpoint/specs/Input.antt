@@ -227,16 +227,16 @@ violation (Open phase t) chunk = misuse t.capabilities chunk
 abbrev pub abort_for_violation_in : {P : Type 0} → List ℕ → EndpointState P → EndpointState P
 abort_for_violation_in reason s = where_open (λ phase t c. abort_for_violation reason t c) s
 
-abbrev pub received_if : {P : Type 0} → (violation : Option (List ℕ)) → (tag : ℕ) → ChunkTree → Endpoint P → AfterChunk P
-received_if (Some reason) tag chunk s = record { end = in_endpoint_state (abort_for_violation_in reason) s; allows_next = false }
-received_if None tag chunk s = record {
+abbrev pub received_unless : {P : Type 0} → (violation : Option (List ℕ)) → (tag : ℕ) → ChunkTree → Endpoint P → AfterChunk P
+received_unless (Some reason) tag chunk s = record { end = in_endpoint_state (abort_for_violation_in reason) s; allows_next = false }
+received_unless None tag chunk s = record {
   end = on_chunk tag chunk s;
   allows_next = allows_next s.endpoint_state.context.options.avoid_stalls tag s.endpoint_state.state chunk;
 }
 
 -- one that what was negotiated forbids ends the association
 abbrev pub receive : {P : Type 0} → (tag : ℕ) → ChunkTree → Endpoint P → AfterChunk P
-receive tag chunk s = received_if (violation s.endpoint_state.state chunk) tag chunk s
+receive tag chunk s = received_unless (violation s.endpoint_state.state chunk) tag chunk s
 
 abbrev pub receive_rest : {P : Type 0} → (Endpoint P → Endpoint P) → AfterChunk P → Endpoint P
 receive_rest rest h = elim h.allows_next [ true ↦ rest h.end | false ↦ h.end ]
@@ -304,14 +304,14 @@ count_packet c = record c { counts = record c.counts { rx_packets = more c.count
 abbrev pub count_packet_at : {P : Type 0} → Endpoint P → Endpoint P
 count_packet_at s = in_endpoint_state (λ t. with_context t (count_packet t.context)) s
 
-abbrev pub packet_if : {P : Type 0} → (refusal : Option (List ℕ)) → (tag : ℕ) → List ChunkTree → Endpoint P → Endpoint P
-packet_if None tag chunks s = on_accepted_packet tag chunks s
-packet_if (Some text) tag chunks s = emit_parse_error text s
+abbrev pub packet_unless : {P : Type 0} → (refusal : Option (List ℕ)) → (tag : ℕ) → List ChunkTree → Endpoint P → Endpoint P
+packet_unless None tag chunks s = on_accepted_packet tag chunks s
+packet_unless (Some text) tag chunks s = emit_parse_error text s
 
 -- a packet that could be read
 abbrev pub on_packet : {P : Type 0} → PacketTree → Endpoint P → Endpoint P
 on_packet p s =
-    packet_if (packet_refusal p.header.verification_tag p.chunks s.endpoint_state.state) p.header.verification_tag p.chunks (count_packet_at s)
+    packet_unless (packet_refusal p.header.verification_tag p.chunks s.endpoint_state.state) p.header.verification_tag p.chunks (count_packet_at s)
 
 -- bytes that are no packet
 abbrev pub on_no_packet : {P : Type 0} → Endpoint P → Endpoint P

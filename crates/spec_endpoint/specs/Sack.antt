@@ -3,7 +3,6 @@ use Rattle.std.specs.Prelude.{ℕ, ◌+◌, ◌&&◌, not, nat_lt, nat_le, min, 
 use Rattle.sctp_chunk.specs.declared.sack.GapAckBlock.{GapAckBlock}
 use Rattle.sctp_packet.specs.Chunk.{SackTree}
 use Rattle.sctp_state.specs.declared.api.ErrorKind.TheVariants.{NotConnected}
-use Rattle.sctp_state.specs.TxErrorCounter.{ErrorCounter, no_errors}
 use Rattle.sctp_state.specs.RetransmissionTimeout.{Rtt, rto, observe_rto}
 use Rattle.sctp_state.specs.Timer.{set_duration}
 use Rattle.sctp_state.specs.Options.{Options}
@@ -14,7 +13,7 @@ use Rattle.sctp_tx.specs.RetransmissionQueue.{SackAnswer, Invalid, Valid, sender
 use Rattle.spec_endpoint.specs.Association.{Tcb, Phase, State, Closed, CookieWait, Open, Context, EndpointState, open_as}
 use Rattle.spec_endpoint.specs.Packets.{emit_error}
 use Rattle.spec_endpoint.specs.Sending.{AfterSending, is_before_cookie_ack, open_with, send_buffered, send_lost}
-use Rattle.spec_endpoint.specs.Shutdown.{PhaseStep, maybe_send_shutdown_or_ack}
+use Rattle.spec_endpoint.specs.Shutdown.{PhaseStep, cleared_if, maybe_send_shutdown_or_ack}
 
 -- ---- blocks, as the maximal runs of the offsets that they cover
 
@@ -42,10 +41,6 @@ abbrev pub sample_rtt : Option ℕ → Tcb → Tcb
 sample_rtt None t = t
 sample_rtt (Some sample) t = timed_by (observe_rto sample t.rtt) t
 
-abbrev pub errors_unless_progress : (is_progress : Bool) → ErrorCounter → ErrorCounter
-errors_unless_progress true e = no_errors e.limit
-errors_unless_progress false e = e
-
 -- the packet of what was lost, and what else may be sent
 abbrev pub send_after : {P : Type 0} → (is_alone : Bool) → Tcb → Context P → AfterSending P
 send_after is_alone t c = let x = send_lost t c in send_buffered is_alone x.tcb x.context
@@ -54,7 +49,7 @@ abbrev pub send_after_sack : {P : Type 0} → Tcb → PhaseStep P → EndpointSt
 send_after_sack t o = open_with o.phase (send_after (is_before_cookie_ack o.phase) t o.context)
 
 abbrev pub clear_errors_if : {P : Type 0} → (is_progress : Bool) → Context P → Context P
-clear_errors_if is_progress c = record c { errors = errors_unless_progress is_progress c.errors }
+clear_errors_if is_progress c = record c { errors = cleared_if is_progress c.errors }
 
 abbrev pub after_sack : {P : Type 0} → SackAnswer → Phase → Tcb → Context P → EndpointState P
 after_sack Invalid phase t c = open_as phase t c

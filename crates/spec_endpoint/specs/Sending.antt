@@ -148,11 +148,8 @@ with_request x = request_unless (is_some x.tcb.requests.current) x
 
 -- ---- data
 
-abbrev pub data_chunk_of : (is_interleaved is_immediate : Bool) → ℕ × FragmentTree → ChunkTree
-data_chunk_of = fragment_chunk
-
 abbrev pub data_chunks : Tcb → (is_immediate : Bool) → List (ℕ × FragmentTree) → List ChunkTree
-data_chunks t is_immediate chunks = map (data_chunk_of t.capabilities.message_interleaving is_immediate) chunks
+data_chunks t is_immediate chunks = map (fragment_chunk t.capabilities.message_interleaving is_immediate) chunks
 
 -- with a small window the peer is asked to acknowledge at once (RFC 7053); with stalls avoided always where a burst has one packet, which the
 -- next one waits for

@@ -27,7 +27,7 @@ abbrev pub empty_if : {P : Type 0} → (avoids_stalls : Bool) → Queue → Emit
 empty_if true q emitted = empty q emitted
 empty_if false q emitted = record { queue = q; emitted = emitted }
 
-abbrev pub cleared_if : (avoids_stalls : Bool) → ErrorCounter → ErrorCounter
+abbrev pub cleared_if : (clears : Bool) → ErrorCounter → ErrorCounter
 cleared_if true e = no_errors e.limit
 cleared_if false e = e
 

@@ -50,12 +50,12 @@ abbrev pub is_ahead : (tsn : ℕ) → Tcb → Bool
 is_ahead tsn t = nat_lt t.tracker.tracker.seen.front (number_of t.tracker tsn)
 
 -- a reset waits for what was sent before it
-abbrev pub resets_if : {P : Type 0} → (is_ahead : Bool) → (number last_tsn : ℕ) → List StreamId → Handling P → Handling P
-resets_if true number last_tsn streams x = defers number last_tsn streams x
-resets_if false number last_tsn streams x = performs number streams x
+abbrev pub resets_unless : {P : Type 0} → (is_ahead : Bool) → (number last_tsn : ℕ) → List StreamId → Handling P → Handling P
+resets_unless true number last_tsn streams x = defers number last_tsn streams x
+resets_unless false number last_tsn streams x = performs number streams x
 
 abbrev pub resets : {P : Type 0} → (number last_tsn : ℕ) → List StreamId → Handling P → Handling P
-resets number last_tsn streams x = resets_if (is_ahead last_tsn x.tcb) number last_tsn streams x
+resets number last_tsn streams x = resets_unless (is_ahead last_tsn x.tcb) number last_tsn streams x
 
 -- the last request again is answered as before, once it was done
 abbrev pub outgoing_by : {P : Type 0} → (is_last is_next is_final : Bool) → (number last_tsn : ℕ) → List StreamId → Handling P → Handling P
@@ -161,9 +161,9 @@ abbrev pub prepare_all : {P : Type 0} → List ℕ → Context P → Context P
 prepare_all [] c = c
 prepare_all (id ∷ ids) c = prepare_all ids (prepare_reset_stream id c)
 
-abbrev pub reset_if : {P : Type 0} → (refusal : Option ResetStreamsError) → List ℕ → EndpointState P → EndpointState P
-reset_if None streams s = where_open send_in (with_context s (prepare_all streams s.context))
-reset_if (Some e) streams s = s
+abbrev pub streams_reset_unless : {P : Type 0} → (refusal : Option ResetStreamsError) → List ℕ → EndpointState P → EndpointState P
+streams_reset_unless None streams s = where_open send_in (with_context s (prepare_all streams s.context))
+streams_reset_unless (Some e) streams s = s
 
 abbrev pub reset_streams : {P : Type 0} → List ℕ → EndpointState P → EndpointState P
-reset_streams streams s = reset_if (reset_refusal s.state) streams s
+reset_streams streams s = streams_reset_unless (reset_refusal s.state) streams s

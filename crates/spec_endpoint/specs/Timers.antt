@@ -169,9 +169,9 @@ tick_t2 now again t2 x = t2_if (is_due now t2) now again t2 x
 
 -- ---- T1-cookie (RFC 9260 section 5.1): nothing is sent but the COOKIE ECHO and its packet
 
-abbrev pub waits_if : {P : Type 0} → (has_expired : Bool) → Tcb → Context P → TimerOutcome P
-waits_if true t c = abort_if_exhausted t c
-waits_if false t c = timer_outcome t c false
+abbrev pub waits_unless : {P : Type 0} → (has_expired : Bool) → Tcb → Context P → TimerOutcome P
+waits_unless true t c = abort_if_exhausted t c
+waits_unless false t c = timer_outcome t c false
 
 abbrev pub echoed_again : {P : Type 0} → AfterSending P → TimerOutcome P
 echoed_again x = abort_if_exhausted x.tcb x.context
@@ -182,7 +182,7 @@ t1_expired false cookie t c = timer_outcome t (over (OnAborted TooManyRetries (c
 
 abbrev pub t1_if : {P : Type 0} → (is_due : Bool) → Timer → List ℕ → Ticking P → TimerOutcome P
 t1_if true t1 cookie x = t1_expired (is_running (expire x.context.now t1)) cookie x.tcb x.context
-t1_if false t1 cookie x = waits_if x.has_expired x.tcb x.context
+t1_if false t1 cookie x = waits_unless x.has_expired x.tcb x.context
 
 abbrev pub tick_cookie : {P : Type 0} → Timer → List ℕ → Ticking P → TimerOutcome P
 tick_cookie t1 cookie x = t1_if (is_due x.context.now t1) t1 cookie x
@@ -196,12 +196,12 @@ pub record InitOutcome (P : Type 0) : Type 0 where
 abbrev pub init_outcome : {P : Type 0} → Context P → (has_ended : Bool) → InitOutcome P
 init_outcome c has_ended = record { context = c; has_ended = has_ended }
 
-abbrev pub waiting_if : {P : Type 0} → (has_ended : Bool) → (tag first : ℕ) → Timer → Context P → EndpointState P
-waiting_if true tag first t1 c = record { state = Closed; context = c }
-waiting_if false tag first t1 c = record { state = CookieWait tag first t1; context = c }
+abbrev pub waiting_unless : {P : Type 0} → (has_ended : Bool) → (tag first : ℕ) → Timer → Context P → EndpointState P
+waiting_unless true tag first t1 c = record { state = Closed; context = c }
+waiting_unless false tag first t1 c = record { state = CookieWait tag first t1; context = c }
 
 abbrev pub after_init_timer : {P : Type 0} → (tag first : ℕ) → Timer → InitOutcome P → EndpointState P
-after_init_timer tag first t1 x = waiting_if x.has_ended tag first t1 x.context
+after_init_timer tag first t1 x = waiting_unless x.has_ended tag first t1 x.context
 
 abbrev pub init_expired : {P : Type 0} → (is_running : Bool) → (tag first : ℕ) → Context P → InitOutcome P
 init_expired true tag first c = init_outcome (send_init tag first c) false

@@ -64,12 +64,12 @@ association s = association_in s.endpoint_state.state
 abbrev pub ready_at : Endpoint (List ℕ) → List Message
 ready_at s = ready_in s.endpoint_state.state
 
-abbrev pub associated_if : Bool → End → Option Association → List Entry
-associated_if true x a = []
-associated_if false x a = Associated x a ∷ []
+abbrev pub associated_unless : Bool → End → Option Association → List Entry
+associated_unless true x a = []
+associated_unless false x a = Associated x a ∷ []
 
 abbrev pub association_entries : End → Option Association → Option Association → List Entry
-association_entries x old new = associated_if (same_association old new) x new
+association_entries x old new = associated_unless (same_association old new) x new
 
 -- the messages behind the first n
 abbrev pub ready_entries : End → ℕ → List Message → List Entry

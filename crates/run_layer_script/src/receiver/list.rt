@@ -8,7 +8,6 @@ use sctp_packet::Data;
 use sctp_reassembly::is_message;
 use sctp_rx::{
     InterleavedKey, Interval, IntervalList, ReassemblyKey, TraditionalKey, UnorderedInterleavedKey,
-    is_before,
 };
 
 /// Takes the commands of a script on a list of intervals.
@@ -26,20 +25,15 @@ fn run_on<K: ReassemblyKey>(script: &str, output: &mut Output) {
 }
 
 impl<K: ReassemblyKey> Subject for IntervalList<K> {
-    /// `add NUMBER INDEX ENDS HEX`; `turn PLACE NUMBER`; `take PLACE`; `next NUMBER`; `retain NUMBER INDEX`; `sums`.
+    /// `add NUMBER INDEX ENDS HEX`; `turn NUMBER INDEX MESSAGE`; `take NUMBER INDEX`; `next MESSAGE`; `retain NUMBER INDEX`; `sums`.
     fn obey(&mut self, line: &Line<'_>, output: &mut Output) -> Answer {
         let key = K::from_parts(line.first.long, line.second.long);
         match line.name {
             "turn" => {
-                return match self.key_at(line.first.size) {
-                    Some(key) => {
-                        let number = line.second.long as u128;
-                        Answer::Is(is_message(self.finished_at(key), number))
-                    }
-                    None => Answer::Refused,
-                };
+                let number = line.third.long as u128;
+                return Answer::Is(is_message(self.finished_at(key), number));
             }
-            "take" => return take(self, line.first.size, output),
+            "take" => return take(self, key, output),
             "next" => return next(self, line.first.long, output),
             "add" => add(self, key, piece(line, output), output),
             "retain" => self.retain(key),
@@ -64,30 +58,16 @@ fn add<K: ReassemblyKey>(list: &mut IntervalList<K>, key: K, fragment: Data, out
         return;
     }
     match list.add(key, fragment) {
-        Ok(true) => output.fill("at #, ", &[place_of(list, key) as u128]),
+        Ok(true) => {}
         Ok(false) => output.push_str("held already, "),
         Err(fault) => output.note(Err(fault)),
     }
 }
 
-/// How many intervals begin before the key, but the one that has it.
-fn place_of<K: ReassemblyKey>(list: &IntervalList<K>, key: K) -> usize {
-    for place in 0..list.len() {
-        match list.key_at(place) {
-            Some(first) if !is_before(key, first) => {}
-            _ => return place.saturating_sub(1),
-        }
-    }
-    list.len().saturating_sub(1)
-}
-
-fn take<K: ReassemblyKey>(list: &mut IntervalList<K>, place: usize, output: &mut Output) -> Answer {
+fn take<K: ReassemblyKey>(list: &mut IntervalList<K>, key: K, output: &mut Output) -> Answer {
     if list.total_bytes() >= 1 << 40 {
         return Answer::Refused;
     }
-    let Some(key) = list.key_at(place) else {
-        return Answer::Refused;
-    };
     match list.pop_if_complete(key) {
         Some(interval) => {
             let bytes = interval.total_bytes();

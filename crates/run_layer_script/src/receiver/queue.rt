@@ -6,11 +6,14 @@ ghost use Rattle.sctp_state.specs.Validity.{is_valid_reception};
 
 use crate::answer::{Answer, Subject, run_commands};
 use crate::output::Output;
-use crate::receiver::pieces::{entries, fragment_of, show_message, show_next, stream_ids};
+use crate::receiver::pieces::{
+    entries, fragment_of, show_message, show_next, stream_ids, stream_key,
+};
 use crate::words::{Line, word_at};
+use sctp_chunk::DataView;
 use sctp_packet::{Data, SkippedStream};
 use sctp_rx::ReassemblyQueue;
-use sctp_serial::{Ssn, StreamId, Tsn};
+use sctp_serial::{Fsn, Mid, PpId, Ssn, StreamId, StreamKey, Tsn};
 use sctp_state::SocketHandoverState;
 use sctp_state::api::handover::{
     HandoverOrderedStream, HandoverSocketState, HandoverUnorderedStream,
@@ -69,19 +72,16 @@ fn is_valid(state: &SocketHandoverState) -> bool
 }
 
 impl Subject for Queue {
-    /// `point TSN COUNT`; `sizes`; `fragments`; `readiness`; `write`; `restore`; `next`; `ready PLACE`; and changes, which are answered by
-    /// how much there is then, as is `sums`.
+    /// `sizes`; `fragments`; `readiness`; `write`; `restore`; `next`; `ready PLACE`; and changes.
     fn obey(&mut self, line: &Line<'_>, output: &mut Output) -> Answer {
         match line.name {
-            "next" => return show_next(self.queue.get_next_message(), output),
-            "ready" => return show_message(self.queue.ready(line.first.size), output),
-            "sizes" | "fragments" | "readiness" => return show(&self.queue, line.name, output),
-            "point" => return point(&mut self.queue, line, output),
-            "write" => return self.write(output),
-            "restore" => return self.restore(output),
+            "next" => show_next(self.queue.get_next_message(), output),
+            "ready" => show_message(self.queue.ready(line.first.size), output),
+            "sizes" | "fragments" | "readiness" => show(&self.queue, line.name, output),
+            "write" => self.write(output),
+            "restore" => self.restore(output),
             _ => change(&mut self.queue, line, output),
         }
-        show(&self.queue, "sums", output)
     }
 }
 
@@ -97,13 +97,17 @@ fn add(queue: &mut ReassemblyQueue, tsn: Tsn, fragment: Data) -> Result<(), Allo
     queue.add(tsn, fragment)
 }
 
-/// `add TSN STREAM NUMBER FSN ENDS HEX`, `forward TSN ENTRY ..`, `reset STREAM ..`, `defer TSN STREAM ..`.
-fn change(queue: &mut ReassemblyQueue, line: &Line<'_>, output: &mut Output) {
+/// `add TSN STREAM NUMBER FSN ENDS HEX TIMES`, so many with TSNs and FSNs that follow one another, `forward TSN ENTRY ..`,
+/// `reset STREAM ..`, `defer TSN STREAM ..`, `let-go`: of spare buffers. Answered by how much there is then, as is `sums`.
+fn change(queue: &mut ReassemblyQueue, line: &Line<'_>, output: &mut Output) -> Answer {
     let tsn = Tsn(line.first.word);
     match line.name {
         "add" => {
-            let fragment = fragment_of(line, output);
-            output.note(add(queue, tsn, fragment));
+            for more in 0..line.number(7).word.max(1) {
+                let mut fragment = fragment_of(line, output);
+                fragment.fsn = fragment.fsn + more;
+                output.note(add(queue, tsn + more, fragment));
+            }
         }
         "forward" => {
             let entries = entries(line, output);
@@ -117,7 +121,46 @@ fn change(queue: &mut ReassemblyQueue, line: &Line<'_>, output: &mut Output) {
             let ids = stream_ids(line, 2, output);
             output.note(queue.enter_deferred_reset(tsn, &ids));
         }
-        _ => {}
+        "let-go" => queue.let_buffers_go(),
+        _ => return ask(queue, line, output),
+    }
+    show(queue, "sums", output)
+}
+
+/// `point TSN COUNT`, `admits TSN STREAM`, `room BYTES`: what the copy of a fragment has.
+fn ask(queue: &mut ReassemblyQueue, line: &Line<'_>, output: &mut Output) -> Answer {
+    match line.name {
+        "point" => point(queue, line, output),
+        "admits" => {
+            let key = stream_key(word_at(line.text, 2));
+            Answer::Is(queue.admits_fragment(Tsn(line.first.word), key))
+        }
+        "room" => room(queue, line.first.size, output),
+        name => show(queue, name, output),
+    }
+}
+
+fn room(queue: &mut ReassemblyQueue, size: usize, output: &mut Output) -> Answer {
+    let payload = output.made(vec![in output.alloc; 0u8; size]);
+    let copy = queue.copy_of(DataView {
+        tsn: Tsn(1),
+        stream_key: StreamKey::Ordered(StreamId(1)),
+        ssn: Ssn(0),
+        mid: Mid(0),
+        fsn: Fsn(0),
+        ppid: PpId(53),
+        payload: &payload,
+        is_beginning: true,
+        is_end: false,
+        immediate_ack: false,
+    });
+    match copy {
+        Ok(copy) => {
+            let room = copy.payload.capacity();
+            drop(copy);
+            Answer::Number(room as u128)
+        }
+        Err(_) => Answer::NoMemory,
     }
 }
 

@@ -13,7 +13,8 @@ use sctp_rx::{ReadyMessages, ReassemblyStreams};
 use sctp_serial::{Message, PpId, StreamId, StreamKey};
 use std::alloc::{AllocError, Global};
 
-/// A message whose fragments have one byte each, that of their TSN: they have the TSNs from the first one on.
+/// A message whose fragments have one byte each, that of their TSN, or `long_byte` where they are more than a thousand: they have the TSNs
+/// from the first one on.
 #[derive(Clone, Copy)]
 struct Row {
     key: StreamKey,
@@ -43,7 +44,8 @@ pub fn run(line: &Line<'_>, script: &str, output: &mut Output) {
 
 impl Subject for Streams {
     /// `next`; `ready PLACE`; `push STREAM HEX`: a message that is ready; `sizes`; `message STREAM NUMBER FIRST COUNT`: a message whose
-    /// fragments may come; `come TSN ..`; and changes, which are answered by how much there is then, as is `sums`.
+    /// fragments may come; `come TSN ..`; `whole FIRST`: takes a message, and says whether it is one of more than a thousand fragments, from
+    /// this TSN on; and changes, which are answered by how much there is then, as is `sums`.
     fn obey(&mut self, line: &Line<'_>, output: &mut Output) -> Answer {
         match line.name {
             "next" => return show_next(self.ready.pop(), output),
@@ -60,6 +62,7 @@ impl Subject for Streams {
                 return done(self.rows.push(row));
             }
             "come" => return self.come(line, output),
+            "whole" => return show_whole(self.ready.pop(), line.first.long, output),
             _ => self.change(line, output),
         }
         let sums = [
@@ -71,7 +74,8 @@ impl Subject for Streams {
 }
 
 impl Streams {
-    /// `add TSN STREAM NUMBER FSN ENDS HEX`, `forward TSN ENTRY ..`, `skip ENTRY`, `reset STREAM ..`.
+    /// `add TSN STREAM NUMBER FSN ENDS HEX`, `forward TSN ENTRY ..`, `skip ENTRY`, `reset STREAM ..`; `span FIRST LAST`: fragments come from
+    /// one TSN to another, which may be less.
     fn change(&mut self, line: &Line<'_>, output: &mut Output) {
         match line.name {
             "add" => {
@@ -83,6 +87,7 @@ impl Streams {
                 output.note(self.forward(output.alloc, line.first.long, &entries));
             }
             "skip" => output.note(self.skip(entry(line.word))),
+            "span" => self.span(line.first.long, line.second.long, output),
             "reset" => {
                 let ids = stream_ids(line, 1, output);
                 self.streams.reset_streams(&ids);
@@ -126,14 +131,27 @@ impl Streams {
     /// Fragments come: prints, for each, which messages become ready, which are taken, and how many bytes are held then.
     fn come(&mut self, line: &Line<'_>, output: &mut Output) -> Answer {
         for word in rest_of(line.text, 1) {
-            let tsn = Number::of(word).long;
-            if let Some(fragment) = fragment_with(&self.rows, tsn, output) {
-                output.note(self.add(tsn, fragment));
-            }
+            self.come_once(Number::of(word).long, output);
             show_each(&mut self.ready, output);
             output.fill(" #", &[self.streams.queued_bytes() as u128]);
         }
         Answer::Text
+    }
+
+    fn come_once(&mut self, tsn: u64, output: &mut Output) {
+        if let Some(fragment) = fragment_with(&self.rows, tsn, output) {
+            output.note(self.add(tsn, fragment));
+        }
+    }
+
+    fn span(&mut self, first: u64, last: u64, output: &mut Output) {
+        for step in 0..first.abs_diff(last).saturating_add(1) {
+            if first < last {
+                self.come_once(first.saturating_add(step), output);
+            } else {
+                self.come_once(first.saturating_sub(step), output);
+            }
+        }
     }
 }
 
@@ -143,6 +161,30 @@ fn show_each(ready: &mut ReadyMessages, output: &mut Output) {
         output.push_str(" ");
         show_next(ready.pop(), output);
     }
+}
+
+/// The byte of a fragment of a long message, such that pieces of 512 fragments that change places show.
+fn long_byte(tsn: u64) -> u8 {
+    (tsn % 251) as u8
+}
+
+fn show_whole(message: Option<Message>, first: u64, output: &mut Output) -> Answer {
+    let Some(message) = message else {
+        return Answer::Nothing;
+    };
+    let (mut tsn, mut is_whole) = (first, true);
+    for byte in &message.payload {
+        is_whole &= *byte == long_byte(tsn);
+        tsn = tsn.saturating_add(1);
+    }
+    let numbers = [
+        message.stream_id.0 as u128,
+        message.ppid.0 as u128,
+        message.payload.len() as u128,
+        is_whole as u128,
+    ];
+    drop(message);
+    output.text("#/# of # bytes, whole ?", &numbers)
 }
 
 fn push(ready: &mut ReadyMessages, line: &Line<'_>, output: &mut Output) -> Answer {
@@ -178,7 +220,12 @@ fn fragment_with(rows: &[Row], tsn: u64, output: &mut Output) -> Option<Data> {
         (false, false) => "-",
     };
     let mut payload = Vec::new(output.alloc);
-    output.note(payload.push((tsn % 256) as u8));
+    let byte = if row.count > 1000 {
+        long_byte(tsn)
+    } else {
+        (tsn % 256) as u8
+    };
+    output.note(payload.push(byte));
     let fsn = u32::try_from(place).unwrap_or(u32::MAX);
     Some(fragment(row.key, row.number, fsn, ends, payload))
 }

@@ -11,12 +11,28 @@ use sctp_serial::{
 };
 use sctp_state::Events;
 use sctp_tx_outstanding::{Discarded, Item, OutstandingData};
+use std::alloc::Global;
 use std::mem;
 
-/// `send STREAM SSN MESSAGE BYTES LIMIT END LIFECYCLE DUE UNORDERED`: a fragment that is sent at moment 0, with its limit of
-/// retransmissions, and the moment from which it isn't worth sending, 0 if there is none. Its MID is its SSN.
-fn send(data: &mut OutstandingData, payload: Vec<u8>, line: &Line<'_>) -> Answer {
-    if payload.len() >= 100 {
+/// `send STREAM SSN MESSAGE BYTES LIMIT END LIFECYCLE DUE UNORDERED TIMES`: a fragment that is sent at moment 0, with its limit of
+/// retransmissions, and the moment from which it isn't worth sending, 0 if there is none; its MID is its SSN. And so many like it, each
+/// with a TSN of its own: answers the last one's.
+fn send_each(data: &mut OutstandingData, line: &Line<'_>, alloc: Global) -> Answer {
+    let mut answer = send(data, line, alloc);
+    for _ in 1..line.number(10).half {
+        match answer {
+            Answer::NoMemory => {}
+            _ => answer = send(data, line, alloc),
+        }
+    }
+    answer
+}
+
+fn send(data: &mut OutstandingData, line: &Line<'_>, alloc: Global) -> Answer {
+    let Ok(payload) = bytes(alloc, line.fourth.half as usize) else {
+        return Answer::NoMemory;
+    };
+    if payload.len() > 1000 {
         drop(payload);
         return Answer::Refused;
     }
@@ -45,14 +61,14 @@ fn send(data: &mut OutstandingData, payload: Vec<u8>, line: &Line<'_>) -> Answer
     }
 }
 
-/// `sack TSN FIRST LAST`
+/// `sack TSN FIRST LAST ..`
 fn receive_sack(
     data: &mut OutstandingData,
     events: &mut Events,
     line: &Line<'_>,
     output: &mut Output,
 ) -> Answer {
-    let chunk = sack(line.first, line.second, line.third, output);
+    let chunk = sack(line.first, line, 2, output);
     if !data.is_sack_valid(&chunk) {
         drop(chunk);
         return Answer::Refused;
@@ -197,10 +213,7 @@ pub fn answer(
 ) -> Answer {
     let size = line.first.size;
     match line.name {
-        "send" => match bytes(output.alloc, line.fourth.half as usize) {
-            Ok(payload) => send(data, payload, line),
-            Err(_) => Answer::NoMemory,
-        },
+        "send" => send_each(data, line, output.alloc),
         "sack" => receive_sack(data, events, line, output),
         "point" => point(data, size, output),
         "resend" => {

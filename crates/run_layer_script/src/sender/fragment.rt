@@ -2,7 +2,7 @@
 
 use crate::answer::Answer;
 use crate::output::Output;
-use crate::words::Number;
+use crate::words::{Line, Number, rest_of};
 use sctp_packet::{Data, GapAckBlock, SackChunk, SkippedStream};
 use sctp_serial::{LifecycleId, SocketTime, StreamKey, Tsn};
 use sctp_tx_queue::DataToSend;
@@ -134,11 +134,18 @@ pub fn show_skips(number: Tsn, skips: &[SkippedStream], output: &mut Output) -> 
     Answer::Text
 }
 
-/// A SACK with a block from one offset to another, none where the first is 0.
-pub fn sack(tsn: Number, first: Number, last: Number, output: &mut Output) -> SackChunk {
+/// A SACK with a block for each two offsets from the place on, the first of which isn't 0.
+pub fn sack(tsn: Number, line: &Line<'_>, place: u8, output: &mut Output) -> SackChunk {
     let mut gap_ack_blocks = Vec::new(output.alloc);
-    if first.half > 0 {
-        output.note(gap_ack_blocks.push(GapAckBlock::new(first.half, last.half)));
+    let mut first = 0;
+    for word in rest_of(line.text, place) {
+        let offset = Number::of(word).half;
+        if first == 0 {
+            first = offset;
+        } else {
+            output.note(gap_ack_blocks.push(GapAckBlock::new(first, offset)));
+            first = 0;
+        }
     }
     SackChunk {
         cumulative_tsn_ack: Tsn(tsn.word),

@@ -10,14 +10,14 @@ use sctp_tx::RetransmissionQueue;
 use sctp_tx_queue::SendQueue;
 use std::alloc::AllocError;
 
-/// `sack MOMENT TSN FIRST LAST`: a block from one offset to another, none where they are 0.
+/// `sack MOMENT TSN FIRST LAST ..`
 fn receive_sack(
     sender: &mut RetransmissionQueue,
     events: &mut Events,
     line: &Line<'_>,
     output: &mut Output,
 ) -> Answer {
-    let chunk = sack(line.second, line.third, line.fourth, output);
+    let chunk = sack(line.second, line, 3, output);
     let result = sender.handle_sack(line.first.moment(), &chunk, events);
     drop(chunk);
     match result {

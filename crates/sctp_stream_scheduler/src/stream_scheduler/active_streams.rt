@@ -158,6 +158,7 @@ impl ActiveStreams {
                 Some(finish)
             }
             Some(_) => None,
+            None if self.finish_times.is_empty() => None,
             None => leave(&mut self.finish_times, &mut self.turns, id),
         }
     }

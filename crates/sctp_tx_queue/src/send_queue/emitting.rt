@@ -19,6 +19,12 @@ pub(crate) struct Lows {
     pub is_total_low: bool,
 }
 
+/// Neither does.
+pub(crate) const NOTHING_LOW: Lows = Lows {
+    is_low: false,
+    is_total_low: false,
+};
+
 /// A message was dropped before it was fully sent.
 fn emit_expired(events: &mut Events, lifecycle_id: Option<LifecycleId>) -> Result<(), AllocError>
     ensures ok { OnOk result (events.new ≡ emit_events (expired_events lifecycle_id) events.old) }

@@ -111,23 +111,27 @@ fn push_back(
     Ok(())
 }
 
-/// Emits the events of the messages at the front that expired before they were begun.
+/// Emits the events of the messages at the front that expired before they were begun. The answer is their bytes.
 fn emit_stale_front(
     messages: &VecDeque<QueuedMessage>,
     now: SocketTime,
     events: &mut Events,
-) -> Result<(), AllocError>
+) -> Result<usize, AllocError>
+    requires { sum_by remaining_bytes messages.now.items < 2 ^ 64 }
     ensures ok { OnOk result (events.new ≡ emit_expired now messages.now.items events.old) }
+    ensures bytes { IfOk result (λ bytes. bytes + sum_by remaining_bytes (fresh now messages.now.items) ≡ sum_by remaining_bytes messages.now.items) }
     ensures err { OnErr result (Grown events.old events.new) }
 {
+    let mut bytes = 0;
     for message in messages.iter() {
         if !message.is_stale(now) {
-            return Ok(());
+            return Ok(bytes);
         }
         let stale = GivenUpCause::Lifetime;
         emit_dropped(events, message.message_id(), stale, message.lifecycle_id())?;
+        bytes += message.left();
     }
-    Ok(())
+    Ok(bytes)
 }
 
 fn is_stale_front(messages: &VecDeque<QueuedMessage>, now: SocketTime) -> bool
@@ -137,21 +141,6 @@ fn is_stale_front(messages: &VecDeque<QueuedMessage>, now: SocketTime) -> bool
         Some(message) => message.is_stale(now),
         None => false,
     }
-}
-
-/// The bytes of the messages at the front that expired before they were begun.
-fn stale_amount(messages: &VecDeque<QueuedMessage>, now: SocketTime) -> usize
-    requires { sum_by remaining_bytes messages.now.items < 2 ^ 64 }
-    ensures { result + sum_by remaining_bytes (fresh now messages.now.items) ≡ sum_by remaining_bytes messages.now.items }
-{
-    let mut bytes = 0;
-    for message in messages.iter() {
-        if !message.is_stale(now) {
-            return bytes;
-        }
-        bytes += message.left();
-    }
-    bytes
 }
 
 /// Drops the messages at the front that expired before they were begun.
@@ -354,29 +343,20 @@ impl Messages {
         }
     }
 
-    /// Emits the events of the messages at the front that expired before they were begun.
+    /// Emits the events of the messages at the front that expired before they were begun. The answer is their bytes.
     pub(crate) fn emit_stale_front(
         &self,
         now: SocketTime,
         events: &mut Events,
-    ) -> Result<(), AllocError>
+    ) -> Result<usize, AllocError>
+        requires { sum_by remaining_bytes self.now < 2 ^ 64 }
         ensures ok { OnOk result (events.new ≡ emit_expired now self.now events.old) }
+        ensures bytes { IfOk result (λ bytes. bytes + sum_by remaining_bytes (fresh now self.now) ≡ sum_by remaining_bytes self.now) }
         ensures err { OnErr result (Grown events.old events.new) }
     {
         match &self.room {
             Some(room) => emit_stale_front(room, now, events),
-            None => Ok(()),
-        }
-    }
-
-    /// The bytes of these messages.
-    pub(crate) fn stale_amount(&self, now: SocketTime) -> usize
-        requires { sum_by remaining_bytes self.now < 2 ^ 64 }
-        ensures { result + sum_by remaining_bytes (fresh now self.now) ≡ sum_by remaining_bytes self.now }
-    {
-        match &self.room {
-            Some(room) => stale_amount(room, now),
-            None => 0,
+            None => Ok(0),
         }
     }
 

@@ -1,10 +1,10 @@
 //! What waits on one stream.
 
-ghost use Rattle.std.specs.Prelude.{◌≡◌, ◌+◌, ◌-◌, ◌<◌, ◌≤◌, ◌^◌, ◌&&◌, None, [], ◌++◌, sum_by, IsTrue, is_some, IfOk, OnOk, OnErr, option_map, map, not, if◌then◌else◌};
-ghost use Rattle.sctp_state.specs.Events.{Grown, emit_events};
+ghost use Rattle.std.specs.Prelude.{◌≡◌, ◌+◌, ◌<◌, ◌≤◌, ◌^◌, None, [], ◌++◌, sum_by, IsTrue, is_some, IfOk, OnOk, OnErr, option_map, map, not, if◌then◌else◌};
+ghost use Rattle.sctp_state.specs.Events.{Grown};
 ghost use Rattle.sctp_state.specs.ThresholdWatcher.{crosses, lower};
 ghost use Rattle.sctp_tx_queue.specs.SendQueue.{remaining_bytes, amount_of, watched_amount, blank_stream, sendable, push, is_stopped, has_nothing};
-ghost use Rattle.sctp_tx_queue.specs.Produced.{emit_expired, left_empty, without_stale, production, front_numbers, front_took, next_fragment, advance, pause_after, pause_if_pending, front_needs_room};
+ghost use Rattle.sctp_tx_queue.specs.Produced.{is_front_stale, emit_expired, without_stale, front_numbers, front_took, next_fragment, advance, pause_after, pause_if_pending, front_needs_room};
 ghost use Rattle.sctp_tx_queue.specs.Settings.{with_threshold, without_front, front_discarded};
 ghost use Rattle.sctp_tx_queue.specs.Resets.{is_ready, after_step, emit_unsent, prepare_stream, pause_for_reset};
 ghost use Rattle.sctp_tx_queue.specs.Emptied.{emptied, emit_ended};
@@ -18,7 +18,7 @@ ghost use Rattle.sctp_tx_queue.specs.Whole.{is_front_whole, front_ended, front_l
 ghost use Rattle.sctp_tx_queue.specs.Views.{produced_of};
 
 use crate::data_to_send::DataToSend;
-use crate::send_queue::emitting::{Lows, emit_production};
+use crate::send_queue::emitting::Lows;
 use crate::send_queue::message::{Details, MessageNumbers, QueuedMessage};
 use crate::send_queue::messages::{Messages, SpareRooms};
 use crate::send_queue::sending::StreamTurn;
@@ -60,6 +60,8 @@ pub enum StreamChange {
     Threshold(usize),
     /// It has this priority.
     Priority(u16),
+    /// The messages at its front that expired by this time, before they were begun, are dropped.
+    DropStale(SocketTime),
     /// The message at its front is dropped, if it is this one.
     Discard(OutgoingMessageId),
     /// It is to be reset: the messages of which nothing is sent are dropped.
@@ -274,86 +276,47 @@ impl Stream {
         Ok(())
     }
 
-    /// The bytes of the messages at the front that expired before they were begun.
-    fn stale_amount(&self, now: SocketTime) -> usize
-        ensures left { amount_of (without_stale now self.now) + result ≡ amount_of self.now }
-        ensures taken { result ≡ amount_of self.now - amount_of (without_stale now self.now) }
+    /// Which amounts fall to their thresholds as so many bytes of the stream are dropped: its own, and that of all streams, which
+    /// is `total`.
+    pub(crate) fn lows_by(&self, bytes: usize, total: &ThresholdWatcher) -> Lows
+        requires own { bytes ≤ amount_of self.now }
+        requires all { bytes ≤ total.now.amount }
+        ensures low { result.is_low ≡ crosses (watched_amount self.now) (lower bytes (watched_amount self.now)) }
+        ensures total { result.is_total_low ≡ crosses total.now (lower bytes total.now) }
     {
-        // (read for its bound)
-        let _amount = self.buffered.amount();
-        self.messages.stale_amount(now)
-    }
-
-    /// Which amounts fall to their thresholds as these messages are dropped; none are named without `avoids_stalls`.
-    fn lows_without_stale(
-        &self,
-        now: SocketTime,
-        avoids_stalls: bool,
-        total: &ThresholdWatcher,
-    ) -> Lows
-        requires { amount_of self.now ≤ total.now.amount }
-        ensures low { result.is_low ≡ (avoids_stalls && crosses (watched_amount self.now) (watched_amount (without_stale now self.now))) }
-        ensures total { result.is_total_low ≡ (avoids_stalls && crosses total.now (lower (amount_of self.now - amount_of (without_stale now self.now)) total.now)) }
-    {
-        if !avoids_stalls {
-            return Lows {
-                is_low: false,
-                is_total_low: false,
-            };
-        }
-        let bytes = self.stale_amount(now);
         Lows {
             is_low: self.buffered.is_crossed_by(bytes),
             is_total_low: total.is_crossed_by(bytes),
         }
     }
 
-    /// Emits the events of these messages, and of the amounts that fall by it.
-    fn emit_stale(
-        &self,
-        id: StreamId,
-        now: SocketTime,
-        lows: Lows,
-        events: &mut Events,
-    ) -> Result<(), AllocError>
-        ensures ok { OnOk result (events.new ≡ emit_events (production id.0 lows.is_low lows.is_total_low None) (emit_expired now self.now.messages events.old)) }
-        ensures err { OnErr result (Grown events.old events.new) }
+    /// Whether the message at the front expired before it was begun.
+    pub(crate) fn is_front_stale(&self, now: SocketTime) -> bool
+        ensures { result ≡ is_front_stale now self.now.messages }
     {
-        self.messages.emit_stale_front(now, events)?;
-        emit_production(events, id, lows, None)?;
-        Ok(())
+        self.messages.is_front_stale(now)
     }
 
-    /// Drops the messages at the front that expired before they were begun, with their events, and where `avoids_stalls` says so
-    /// with those of the amounts that fall by it, of which `total` is that of all streams. The answer is whether none is left, where
-    /// some were dropped. Without memory nothing changes.
-    pub(crate) fn drop_stale(
-        &mut self,
-        id: StreamId,
+    /// Emits the events of the messages at the front that expired before they were begun. The answer is their bytes.
+    pub(crate) fn emit_stale(
+        &self,
         now: SocketTime,
-        avoids_stalls: bool,
-        total: &ThresholdWatcher,
         events: &mut Events,
-    ) -> Result<Option<bool>, AllocError>
-        requires { amount_of self.old ≤ total.now.amount }
-        ensures ok { OnOk result (self.new ≡ without_stale now self.old) }
-        ensures emitted { OnOk result (events.new ≡ emit_events (production id.0 (avoids_stalls && crosses (watched_amount self.old) (watched_amount (without_stale now self.old))) (avoids_stalls && crosses total.now (lower (amount_of self.old - amount_of (without_stale now self.old)) total.now)) None) (emit_expired now self.old.messages events.old)) }
-        ensures left { IfOk result (λ left. left ≡ left_empty now self.old.messages) }
-        ensures less { amount_of self.new ≤ amount_of self.old }
-        ensures err { OnErr result (self.new ≡ self.old) }
-        ensures silent { OnErr result (events.new ≡ events.old) }
+    ) -> Result<usize, AllocError>
+        ensures ok { OnOk result (events.new ≡ emit_expired now self.now.messages events.old) }
+        ensures bytes { IfOk result (λ bytes. bytes + amount_of (without_stale now self.now) ≡ amount_of self.now) }
+        ensures err { OnErr result (Grown events.old events.new) }
     {
-        if !self.messages.is_front_stale(now) {
-            return Ok(None);
-        }
-        let mark = events.mark();
-        let lows = self.lows_without_stale(now, avoids_stalls, total);
-        if self.emit_stale(id, now, lows, events).is_err() {
-            events.roll_back(mark);
-            return Err(AllocError);
-        }
+        // (read for its bound)
+        let _amount = self.buffered.amount();
+        self.messages.emit_stale_front(now, events)
+    }
+
+    /// Drops these messages.
+    fn drop_stale(&mut self, now: SocketTime)
+        ensures { self.new ≡ without_stale now self.old }
+    {
         self.messages.drop_stale_front(&mut self.buffered, now);
-        Ok(Some(self.messages.is_empty()))
     }
 
     fn front_numbers(&self) -> MessageNumbers
@@ -533,34 +496,13 @@ impl Stream {
     }
 
     /// The bytes of the message at the front, if it is this one.
-    fn front_bytes(&self, message_id: OutgoingMessageId) -> usize
-        ensures left { amount_of (without_front message_id.0 self.now.messages self.now) + result ≡ amount_of self.now }
-        ensures taken { result ≡ amount_of self.now - amount_of (without_front message_id.0 self.now.messages self.now) }
+    pub(crate) fn front_bytes(&self, message_id: OutgoingMessageId) -> usize
+        ensures { result + amount_of (without_front message_id.0 self.now.messages self.now) ≡ amount_of self.now }
     {
         if self.messages.is_front(message_id) {
             self.messages.front_left()
         } else {
             0
-        }
-    }
-
-    /// Which amounts fall to their thresholds without that message; none are named without `avoids_stalls`. The amount of all streams
-    /// is `total`.
-    pub(crate) fn lows_without(
-        &self,
-        message_id: OutgoingMessageId,
-        avoids_stalls: bool,
-        total: &ThresholdWatcher,
-    ) -> Lows
-        requires { amount_of self.now ≤ total.now.amount }
-        ensures low { result.is_low ≡ (avoids_stalls && crosses (watched_amount self.now) (watched_amount (without_front message_id.0 self.now.messages self.now))) }
-        ensures total { result.is_total_low ≡ (avoids_stalls && crosses total.now (lower (amount_of self.now - amount_of (without_front message_id.0 self.now.messages self.now)) total.now)) }
-        ensures less { amount_of (without_front message_id.0 self.now.messages self.now) ≤ amount_of self.now }
-    {
-        let bytes = self.front_bytes(message_id);
-        Lows {
-            is_low: avoids_stalls && self.buffered.is_crossed_by(bytes),
-            is_total_low: avoids_stalls && total.is_crossed_by(bytes),
         }
     }
 
@@ -650,7 +592,7 @@ impl Stream {
     }
 
     /// A new association begins: the message at the front is whole again, and the numbers begin again.
-    fn restart(&mut self)
+    pub(crate) fn restart(&mut self)
         requires { amount_of (restart self.old) < 2 ^ 64 }
         ensures { self.new ≡ restart self.old }
     {
@@ -686,6 +628,7 @@ impl Stream {
         match change {
             StreamChange::Threshold(bytes) => self.set_low_threshold(bytes),
             StreamChange::Priority(priority) => self.priority = priority,
+            StreamChange::DropStale(now) => self.drop_stale(now),
             StreamChange::Discard(message_id) => self.discard(message_id),
             StreamChange::Prepare => self.prepare_reset(),
             StreamChange::Step(step) => self.take_step(step),

@@ -1,6 +1,6 @@
 //! The streams that were named, and what is left on all of them.
 
-ghost use Rattle.std.specs.Prelude.{◌≡◌, ◌+◌, ◌<◌, ◌≤◌, ◌^◌, ◌==◌, not, true, false, [], ◌∷◌, ◌++◌, if◌then◌else◌, None, Some, IsTrue, IsSome, IfOk, OnOk, OnErr, option_map, map, take, filter};
+ghost use Rattle.std.specs.Prelude.{◌≡◌, ◌+◌, ◌<◌, ◌≤◌, ◌^◌, ◌==◌, ◌&&◌, not, true, false, [], ◌∷◌, ◌++◌, if◌then◌else◌, None, Some, IsTrue, IsSome, IfOk, OnOk, OnErr, option_map, map, take, filter};
 ghost use Rattle.std.specs.Map.{lookup, keys_of, values_of};
 ghost use Rattle.std.specs.List.{list_all, list_any};
 ghost use Rattle.std.specs.List.Sorted.{IsStrictlySortedBy};
@@ -8,9 +8,9 @@ ghost use Rattle.std.specs.Ordering.{nat_cmp};
 ghost use Rattle.std.specs.BTreeMap.{is_at};
 ghost use Rattle.sctp_state.specs.Events.{Grown};
 ghost use Rattle.sctp_state.specs.Options.{options_of};
-ghost use Rattle.sctp_state.specs.ThresholdWatcher.{crosses};
-ghost use Rattle.sctp_tx_queue.specs.SendQueue.{amount_of, total_of, watched_amount, no_streams, stream, with_stream, put_stream, push, sendable, has_nothing};
-ghost use Rattle.sctp_tx_queue.specs.Produced.{emit_stale, falls_low, total_falls_low, left_empty, streams_without_stale, streams_after, next_fragment, emitted_of, in_line};
+ghost use Rattle.sctp_state.specs.ThresholdWatcher.{crosses, lower};
+ghost use Rattle.sctp_tx_queue.specs.SendQueue.{amount_of, total_of, watched_amount, watched_total, no_streams, stream, with_stream, put_stream, push, sendable, has_nothing};
+ghost use Rattle.sctp_tx_queue.specs.Produced.{emit_stale, falls_low, total_falls_low, left_empty, without_stale, streams_without_stale, streams_after, next_fragment, emitted_of, in_line};
 ghost use Rattle.sctp_tx_queue.specs.Settings.{with_threshold, streams_discarded, front_discarded};
 ghost use Rattle.sctp_tx_queue.specs.Resets.{is_ready, after_step, ready, prepare_stream, emit_unsent};
 ghost use Rattle.sctp_state.specs.Handover.{stream_message_of};
@@ -27,7 +27,7 @@ ghost use Rattle.sctp_tx_queue.specs.Views.{produced_of};
 
 use crate::data_to_send::DataToSend;
 use crate::send_queue::changes::ChangedStreams;
-use crate::send_queue::emitting::Lows;
+use crate::send_queue::emitting::{Lows, NOTHING_LOW, emit_production};
 use crate::send_queue::message::QueuedMessage;
 use crate::send_queue::messages::SpareRooms;
 use crate::send_queue::ready_ids::{ReadyIds, first_ids};
@@ -183,6 +183,18 @@ impl Streams {
         if self.streams.contains_key(&id.0) {
             return Ok(());
         }
+        self.make(id)
+    }
+
+    /// Makes a stream that isn't there. Without memory nothing changes.
+    fn make(&mut self, id: StreamId) -> Result<(), AllocError>
+        requires { None ≡ lookup (is_at (nat_cmp id.0)) self.old.entries }
+        ensures ok { OnOk result (self.new ≡ with_stream id.0 self.old) }
+        ensures there { OnOk result (IsSome (lookup (is_at (nat_cmp id.0)) self.new.entries)) }
+        ensures stream { OnOk result (stream id.0 self.new ≡ stream id.0 self.old) }
+        ensures total { total_of self.new.entries ≡ total_of self.old.entries }
+        ensures err { OnErr result (self.new ≡ self.old) }
+    {
         let stream = Stream::new(self.default_priority, self.default_threshold);
         self.streams.insert(id.0, stream)?;
         Ok(())
@@ -262,14 +274,54 @@ impl Streams {
         ensures err { OnErr result (self.new ≡ self.old) }
         ensures silent { OnErr result (events.new ≡ events.old) }
     {
-        let avoids_stalls = self.avoids_stalls;
-        let Some(stream) = self.streams.get_mut(&id.0) else {
+        let Some(stream) = self.streams.get(&id.0) else {
             return Ok(None);
         };
-        let before = stream.amount();
-        let left = stream.drop_stale(id, now, avoids_stalls, &self.total, events)?;
-        self.total.decrease(before - stream.amount());
-        Ok(left)
+        if !stream.is_front_stale(now) {
+            return Ok(None);
+        }
+        let mark = events.mark();
+        let Ok(bytes) = self.emit_stale(stream, id, now, events) else {
+            events.roll_back(mark);
+            return Err(AllocError);
+        };
+        let is_last = bytes == stream.amount();
+        self.change(id, StreamChange::DropStale(now));
+        Ok(Some(is_last))
+    }
+
+    /// Emits the events of these messages of a stream, and of the amounts that fall as they are dropped. The answer is
+    /// their bytes.
+    fn emit_stale(
+        &self,
+        stream: &Stream,
+        id: StreamId,
+        now: SocketTime,
+        events: &mut Events,
+    ) -> Result<usize, AllocError>
+        requires { Some stream.now ≡ lookup (is_at (nat_cmp id.0)) self.now.entries }
+        ensures ok { OnOk result (events.new ≡ emit_stale now id.0 self.now events.old) }
+        ensures bytes { IfOk result (λ bytes. bytes + amount_of (without_stale now stream.now) ≡ amount_of stream.now) }
+        ensures err { OnErr result (Grown events.old events.new) }
+    {
+        let bytes = stream.emit_stale(now, events)?;
+        let lows = self.lows_by(stream, bytes);
+        emit_production(events, id, lows, None)?;
+        Ok(bytes)
+    }
+
+    /// Which amounts fall to their thresholds as so many bytes of a stream are dropped; none are named without `avoid_stalls`.
+    fn lows_by(&self, stream: &Stream, bytes: usize) -> Lows
+        requires own { bytes ≤ amount_of stream.now }
+        requires all { bytes ≤ total_of self.now.entries }
+        ensures low { result.is_low ≡ (self.now.avoids_stalls && crosses (watched_amount stream.now) (lower bytes (watched_amount stream.now))) }
+        ensures total { result.is_total_low ≡ (self.now.avoids_stalls && crosses (watched_total self.now) (lower bytes (watched_total self.now))) }
+    {
+        if self.avoids_stalls {
+            stream.lows_by(bytes, &self.total)
+        } else {
+            NOTHING_LOW
+        }
     }
 
     /// A stream sends its next fragment, of at most `size` bytes, with its events: the stream goes in line for the one after
@@ -370,11 +422,8 @@ impl Streams {
         ensures total { result.is_total_low ≡ total_falls_low self.now (streams_discarded id.0 message_id.0 self.now) }
     {
         match self.streams.get(&id.0) {
-            Some(stream) => stream.lows_without(message_id, self.avoids_stalls, &self.total),
-            None => Lows {
-                is_low: false,
-                is_total_low: false,
-            },
+            Some(stream) => self.lows_by(stream, stream.front_bytes(message_id)),
+            None => NOTHING_LOW,
         }
     }
 
@@ -392,33 +441,35 @@ impl Streams {
         }
     }
 
-    /// Emits of the messages of a stream of which nothing is sent that they are given up. Where there is no such stream it is made.
+    /// Emits of the messages of a stream of which nothing is sent that they are given up, and answers what it has to send once it is to
+    /// be reset. Where there is no such stream it is made.
     pub(crate) fn emit_waiting(
         &mut self,
         id: StreamId,
         events: &mut Events,
-    ) -> Result<(), AllocError>
+    ) -> Result<Demand, AllocError>
         ensures ok { OnOk result (self.new ≡ with_stream id.0 self.old) }
         ensures there { OnOk result (IsSome (lookup (is_at (nat_cmp id.0)) self.new.entries)) }
         ensures stream { OnOk result (stream id.0 self.new ≡ stream id.0 self.old) }
         ensures emitted { OnOk result (events.new ≡ emit_unsent (stream id.0 self.old).messages events.old) }
+        ensures bytes { IfOk result (λ demand. demand.bytes ≡ sendable (prepare_stream (stream id.0 self.old))) }
+        ensures priority { IfOk result (λ demand. demand.priority ≡ (stream id.0 self.old).priority) }
+        ensures same { IfOk result (λ demand. 0 < demand.bytes → self.new ≡ self.old) }
         ensures err { OnErr result (self.new ≡ self.old) }
         ensures grown { OnErr result (Grown events.old events.new) }
     {
         match self.streams.get(&id.0) {
-            Some(stream) => stream.emit_waiting(events),
-            None => self.open(id),
-        }
-    }
-
-    /// The bytes that a stream has to send once it is to be reset. Where there is no such stream there are none.
-    pub(crate) fn sendable_prepared(&self, id: StreamId) -> usize
-        ensures value { result ≡ sendable (prepare_stream (stream id.0 self.now)) }
-        ensures there { 0 < result → IsSome (lookup (is_at (nat_cmp id.0)) self.now.entries) }
-    {
-        match self.streams.get(&id.0) {
-            Some(stream) => stream.sendable_prepared(),
-            None => 0,
+            Some(stream) => {
+                stream.emit_waiting(events)?;
+                Ok(Demand {
+                    bytes: stream.sendable_prepared(),
+                    priority: stream.priority(),
+                })
+            }
+            None => {
+                self.make(id)?;
+                Ok(self.no_demand())
+            }
         }
     }
 
@@ -465,7 +516,7 @@ impl Streams {
             return false;
         }
         let was_ready = stream.is_ready();
-        stream.change(StreamChange::Restart);
+        stream.restart();
         self.ready_count = ready_count_after(self.ready_count, was_ready, false);
         self.ready_ids.follow(id.0, was_ready, false);
         true

@@ -83,7 +83,7 @@ fn ends_torn(alloc: Global, reads: usize) -> bool {
     is_end & (out.as_slice() == want)
 }
 
-/// The same where the writer fails after so many writes. Of 19 and more there is one for each.
+/// The same where the writer fails after so many writes. With 19 all is written.
 fn ends_full(alloc: Global, writes: usize) -> bool {
     let mut reader = LINE;
     let mut filling = Filling {

@@ -1,4 +1,4 @@
-use Rattle.std.proofs.Common.{◌≡◌, ◌+◌, [], length, drop, ap, ◌∙◌, arith}
+use Rattle.std.proofs.Common.{[], ap, ◌∙◌, arith}
 use Rattle.sctp_packet.specs.Builder.{BuilderTree}
 use Rattle.spec_endpoint.specs.Wire.{word_at}
 use Rattle.sctp_endpoint.proofs.OutgoingLemmas.{none_short, behind_header, bytes_of_some, made_written, some_short}

@@ -28,7 +28,7 @@ returns-clause-err c =
     let id = c.args.message.stream_id.0 in
     let queue : Streams → Scheduler → Queue = λ ss sch. record { streams = ss; scheduler = sch; next_number = c.self.inside.next_message_id.0; begun = option_map (λ i. i.0) c.self.inside.begun } in
     ap (λ ss. queue ss c.leave-2.new.self) c.in-Err.ensures.err
-    ∙ ap (λ sch. queue c.self.inside.streams sch) (c.leave-2.ensures ∙ ap (leave id) c.in_ok-set_bytes_remaining.ensures.ok ∙ withdraws id c.demand_with-demand.result.bytes c.demand_with-demand.result.priority c.self.inside.scheduler (sym c.is_active.ensures ∙ c.if-is_active.false))
+    ∙ ap (λ sch. queue c.self.inside.streams sch) (c.leave-2.ensures.value ∙ ap (leave id) c.in_ok-set_bytes_remaining.ensures.ok ∙ withdraws id c.demand_with-demand.result.bytes c.demand_with-demand.result.priority c.self.inside.scheduler (sym c.is_active.ensures ∙ c.if-is_active.false))
     ∙ c.self.view_is
 
 pub invariant_of-self-then-demand-eq0 : goal.invariant_of-self-then-demand-eq0
@@ -38,7 +38,7 @@ invariant_of-self-then-demand-eq0 c =
     let queue : Streams → Scheduler → ℕ → Queue = λ ss sch n. record { streams = ss; scheduler = sch; next_number = n; begun = option_map (λ i. i.0) c.self.inside.begun } in
     keeps_added c.self.inside.changed id demand.result.priority c.in_ok-message.message (queue c.self.inside.streams c.self.inside.scheduler c.self.inside.next_message_id.0) (queue c.push.new.self c.leave.new.self c.add_assign.new.self.0)
     (ap is_unbegun c.in_ok-message.ensures) (ap (λ (m : Queued). remaining_bytes m == 0) c.in_ok-message.ensures ∙ not_zero (length c.args.message.payload.items - 0) (omega (arith, c.requires.some))) c.in_ok-push.ensures.ok
-    (c.leave.ensures ∙ leaves_line id _ demand.result.bytes demand.result.priority c.self.inside.scheduler demand.ensures.bytes c.if-demand-eq0.true) refl c.self.invariant
+    (c.leave.ensures.value ∙ leaves_line id _ demand.result.bytes demand.result.priority c.self.inside.scheduler demand.ensures.bytes c.if-demand-eq0.true) refl c.self.invariant
 
 pub invariant_of-self-then-is_active : goal.invariant_of-self-then-is_active
 invariant_of-self-then-is_active c =
@@ -64,5 +64,5 @@ invariant_of-self-2 c =
     let id = c.args.message.stream_id.0 in
     let queue : Streams → Scheduler → Queue = λ ss sch. record { streams = ss; scheduler = sch; next_number = c.self.inside.next_message_id.0; begun = option_map (λ i. i.0) c.self.inside.begun } in
     let line : c.leave-2.new.self ≡ c.self.inside.scheduler =
-    c.leave-2.ensures ∙ ap (leave id) c.in_ok-set_bytes_remaining.ensures.ok ∙ withdraws id c.demand_with-demand.result.bytes c.demand_with-demand.result.priority c.self.inside.scheduler (sym c.is_active.ensures ∙ c.if-is_active.false) in
+    c.leave-2.ensures.value ∙ ap (leave id) c.in_ok-set_bytes_remaining.ensures.ok ∙ withdraws id c.demand_with-demand.result.bytes c.demand_with-demand.result.priority c.self.inside.scheduler (sym c.is_active.ensures ∙ c.if-is_active.false) in
     mode_keeps c.self.inside.changed (queue c.self.inside.streams c.self.inside.scheduler) (queue c.push-2.new.self c.leave-2.new.self) c.in-Err.ensures.err (ap (λ (sch : Scheduler). sch.times) line) refl c.self.invariant

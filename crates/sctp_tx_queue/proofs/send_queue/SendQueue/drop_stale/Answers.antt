@@ -23,7 +23,7 @@ invariant_of-self-then-is_empty c =
     let id = c.args.next.id.0 in
     let queue : Streams → Scheduler → _ → Queue = λ ss sch b. record { streams = ss; scheduler = sch; next_number = c.self.inside.next_message_id.0; begun = b } in
     keeps_one id 0 0 (without_stale c.args.now (stream id c.self.inside.streams)) c.self.inside.changed c.add.new.self (queue c.self.inside.streams c.self.inside.scheduler (option_map (λ i. i.0) c.self.inside.begun))
-    (queue c.drop_stale.new.self c.leave.new.self None) c.self.invariant c.add.ensures c.in_ok-is_empty.ensures.ok c.leave.ensures (λ k b. refl)
+    (queue c.drop_stale.new.self c.leave.new.self None) c.self.invariant c.add.ensures c.in_ok-is_empty.ensures.ok c.leave.ensures.value (λ k b. refl)
 
 pub invariant_of-self-else-is_empty : goal.invariant_of-self-else-is_empty
 invariant_of-self-else-is_empty c =
@@ -37,6 +37,6 @@ returns-then-is_empty-clause-over c =
     let queue : Streams → Scheduler → _ → Queue = λ ss sch b. record { streams = ss; scheduler = sch; next_number = c.self.inside.next_message_id.0; begun = b } in
     let q : Queue = queue c.self.inside.streams c.self.inside.scheduler (option_map (λ i. i.0) c.self.inside.begun) in
     let r : Queue = queue c.drop_stale.new.self c.leave.new.self None in
-    let after = ap (λ ss. queue ss c.leave.new.self None) c.in_ok-is_empty.ensures.ok ∙ ap (λ sch. queue (streams_without_stale c.args.now id c.self.inside.streams) sch None) c.leave.ensures in
+    let after = ap (λ ss. queue ss c.leave.new.self None) c.in_ok-is_empty.ensures.ok ∙ ap (λ sch. queue (streams_without_stale c.args.now id c.self.inside.streams) sch None) c.leave.ensures.value in
     subst (λ (x : Queue). TurnOver c.args.now id c.args.next.size x c.args.events.now r c.drop_stale.new.events) c.self.view_is
     (turn_over c.args.now id c.args.next.size q r c.args.events.now c.drop_stale.new.events (ap (λ b. Some b) (sym e) ∙ sym c.in-Some.is ∙ c.in_ok-is_empty.ensures.left) after c.in_ok-is_empty.ensures.emitted)

@@ -13,7 +13,7 @@ returns c =
     let queue : Streams → Scheduler → Queue = λ ss sch. record { streams = ss; scheduler = sch; next_number = c.self.inside.next_message_id.0; begun = option_map (λ i. i.0) c.self.inside.begun } in
     let after : Streams = put_stream id (emptied (stream id c.self.inside.streams)) c.self.inside.streams in
     ap (λ ss. queue ss c.leave.new.self) c.change.ensures
-    ∙ ap (λ sch. queue after sch) (c.leave.ensures ∙ sym (ap (λ n. set_bytes_remaining id n (stream id after).priority c.self.inside.scheduler) (emptied_sendable id c.self.inside.streams)))
+    ∙ ap (λ sch. queue after sch) (c.leave.ensures.value ∙ sym (ap (λ n. set_bytes_remaining id n (stream id after).priority c.self.inside.scheduler) (emptied_sendable id c.self.inside.streams)))
     ∙ ap (λ q. emptied_one id q) c.self.view_is
 
 pub invariant_of-self : goal.invariant_of-self
@@ -21,4 +21,4 @@ invariant_of-self c =
     let id = c.args.id.0 in
     let queue : Streams → Scheduler → Queue = λ ss sch. record { streams = ss; scheduler = sch; next_number = c.self.inside.next_message_id.0; begun = option_map (λ i. i.0) c.self.inside.begun } in
     keeps_one id 0 0 (emptied (stream id c.self.inside.streams)) c.self.inside.changed c.add.new.self (queue c.self.inside.streams c.self.inside.scheduler) (queue c.change.new.self c.leave.new.self) c.self.invariant c.add.ensures c.change.ensures
-    c.leave.ensures (λ k h. h)
+    c.leave.ensures.value (λ k h. h)

@@ -23,4 +23,4 @@ invariant_of-self-2 c =
     let s : Stream = with_threshold c.args.bytes (stream id c.open.new.self) in
     let queue : Streams → Queue = λ ss. record { streams = ss; scheduler = c.self.inside.scheduler; next_number = c.self.inside.next_message_id.0; begun = option_map (λ i. i.0) c.self.inside.begun } in
     let opened : c.open.new.self ≡ with_stream id c.self.inside.streams = search rules in
-    keeps_set id s c.self.inside.changed c.add.new.self (queue c.self.inside.streams) (queue c.change.new.self) c.self.invariant c.add.ensures (c.change.ensures ∙ ap (λ ss. put_stream id s ss) opened) refl refl
+    keeps_set id s c.self.inside.changed c.add.new.self (queue c.self.inside.streams) (queue c.change.new.self) c.self.invariant c.add.ensures (c.change.ensures ∙ ap (λ ss. put_stream id s ss) opened) (λ k d. refl) refl

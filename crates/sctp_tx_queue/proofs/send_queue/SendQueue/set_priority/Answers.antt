@@ -16,4 +16,4 @@ invariant_of-self-2 c =
     let id = c.args.id.0 in
     let s : Stream = with_priority c.args.priority (stream id c.open.new.self) in
     let queue : Streams → Queue = λ ss. record { streams = ss; scheduler = c.self.inside.scheduler; next_number = c.self.inside.next_message_id.0; begun = option_map (λ i. i.0) c.self.inside.begun } in
-    keeps_set id s c.self.inside.changed c.add.new.self (queue c.self.inside.streams) (queue c.change.new.self) c.self.invariant c.add.ensures (c.change.ensures ∙ ap (λ ss. put_stream id s ss) c.in_ok-open.ensures.ok) refl refl
+    keeps_set id s c.self.inside.changed c.add.new.self (queue c.self.inside.streams) (queue c.change.new.self) c.self.invariant c.add.ensures (c.change.ensures ∙ ap (λ ss. put_stream id s ss) c.in_ok-open.ensures.ok) (λ k d. refl) refl

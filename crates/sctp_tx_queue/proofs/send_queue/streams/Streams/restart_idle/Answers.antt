@@ -53,13 +53,13 @@ pub invariant_of-self-2 : goal.invariant_of-self-2
 invariant_of-self-2 c =
     let id = c.args.id.0 in
     let v = c.in-Some.stream.now in
-    let w = c.change.new.self in
+    let w = c.restart.new.self in
     let entries = c.self.inside.streams.entries in
     let written = (c.get_mut.follows.holds w).0 in
-    let is = sym (ap is_ready c.change.ensures) in
+    let is = sym (ap is_ready c.restart.ensures) in
     record {
-      counted = omega (arith, c.self.invariant.counted, ap total_of written, total_written id entries v w c.in-Some.ensures.value, ap amount_of c.change.ensures, idle_amount v (shown (has_nothing v) (sym c.has_messages.ensures ∙ c.if-has_messages.false)));
-      few = few_changed id entries _ v w (restart v) c.in-Some.ensures.value written c.change.ensures (keeps_whole v.messages) c.self.invariant.few;
+      counted = omega (arith, c.self.invariant.counted, ap total_of written, total_written id entries v w c.in-Some.ensures.value, ap amount_of c.restart.ensures, idle_amount v (shown (has_nothing v) (sym c.has_messages.ensures ∙ c.if-has_messages.false)));
+      few = few_changed id entries _ v w (restart v) c.in-Some.ensures.value written c.restart.ensures (keeps_whole v.messages) c.self.invariant.few;
       ready = ready_changed id c.self.inside.ready_count _ _ _ entries _ v w c.in-Some.ensures.value written c.is_ready-was_ready.ensures is c.self.invariant.ready c.ready_count_after-self-inside.ensures;
       listed = lists_changed id _ _ c.self.inside.ready_ids _ entries _ v w c.len-count.ensures.ordered c.in-Some.ensures.value written c.is_ready-was_ready.ensures is c.follow.ensures c.self.invariant.listed;
     }

@@ -28,7 +28,7 @@ returns-in_default-clause-line c =
     let ss = c.args.self.now in
     let none = c.in_default.ensures.value ∙ ap (λ x. lookup (is_at (nat_cmp id)) x.entries) c.self.view_is in
     let after = stream id (streams_after id c.args.turn.size ss) in
-    c.leave.ensures ∙ ap (λ o. in_line id (sendable after) after.priority o c.args.scheduler.now) (none_made id c.args.turn.size ss none)
+    c.leave.ensures.value ∙ ap (λ o. in_line id (sendable after) after.priority o c.args.scheduler.now) (none_made id c.args.turn.size ss none)
 
 pub returns-in_default-clause-emitted : goal.returns-in_default-clause-emitted
 returns-in_default-clause-emitted c =
