@@ -25,7 +25,7 @@
  * A handle that holds no socket (PIGEON_NO_HANDLE, or one that was freed) answers PIGEON_NO_SOCKET at each call whose numbers are right: sizes
  * of structs, a stream above 65,535, what is PIGEON_INVALID_ARGUMENT and too few places for answers are looked at first.
  * Packets and cookies aren't signed: on a network that strangers reach they go through DTLS. Without it whoever sees a packet can forge others.
- * The archive and the shared object that scripts/c-library writes are for processors of the level x86-64-v2 or above, and don't ask for it.
+ * The archive and the shared object that scripts/c-library writes are for x86-64-v2 or above, and don't ask for it; with TARGET=aarch64-linux-gnu for AArch64.
  */
 #ifndef SHELFPIGEON_H
 #define SHELFPIGEON_H
@@ -145,7 +145,7 @@ typedef struct pigeon_options {
     uint16_t announced_maximum_outgoing_streams; /* [65,535] how many streams this end would send on */
     uint16_t default_stream_priority;            /* [256] of a stream for which none is set */
     /* [PIGEON_CHECKSUM_CRC32C] PIGEON_CHECKSUM_ZERO: all packets carry the word 0, the INIT too, and one with a CRC32c is refused, so that both
-     * ends need it. RFC 9653 is PIGEON_CHECKSUM_CRC32C with a zero_checksum_method. */
+     * ends need it (one that doesn't connect may share the other's zero_checksum_method instead). RFC 9653 is PIGEON_CHECKSUM_CRC32C with one. */
     uint16_t checksum;
     uint32_t mtu;              /* [1,191] 256 to 65,535: no packet that is emitted is larger */
     uint32_t max_message_size; /* [262,144] of messages that are sent; it bounds none that the peer sends */
@@ -173,14 +173,14 @@ typedef struct pigeon_options {
     uint32_t max_held_fragments;
     uint64_t rtt_max;             /* [60 s] a longer round trip isn't counted */
     uint64_t rto_initial;         /* [500 ms] the retransmission timeout until a round trip is measured. At least a millisecond */
-    uint64_t rto_max;             /* [60 s] the longest one, at least rto_min; timers back off beyond it; with PIGEON_AVOID_STALLS those of data and
+    uint64_t rto_max;             /* [60 s] the longest measured one, at least rto_min; timers back off beyond it; with PIGEON_AVOID_STALLS those of data and
                                      of resets don't */
     uint64_t rto_min;             /* [400 ms] the shortest one; it should exceed the peer's delay of acknowledgements. At least a millisecond */
     uint64_t t1_init_timeout;     /* [1 s] how long an INIT ACK is waited for at first. At least a millisecond */
     uint64_t t1_cookie_timeout;   /* [1 s] the same of a COOKIE ACK. At least a millisecond */
     uint64_t t2_shutdown_timeout; /* [1 s] NOT READ: a shutdown waits for the retransmission timeout */
-    uint64_t max_timer_backoff_duration; /* [PIGEON_UNSET] the longest wait of the retransmission timer. With PIGEON_UNSET it doubles up to a day; with
-                                            PIGEON_AVOID_STALLS, set or not, it is never above rto_max */
+    uint64_t max_timer_backoff_duration; /* [PIGEON_UNSET] to how much the retransmission timer's waits grow; its first is the timeout all the same.
+                                            Unset they double up to a day; with PIGEON_AVOID_STALLS, set or not, up to rto_max at most */
     uint64_t heartbeat_interval;         /* [30 s] how long no data is sent until the peer is asked whether it is there; never at 0 */
     uint64_t delayed_ack_max_timeout;    /* [200 ms] how long an acknowledgement may wait, half the retransmission timeout at most. 1 ms or more */
     uint64_t min_rtt_variance;           /* [220 ms] eight times the least variance that a round trip is taken to have */
@@ -197,9 +197,9 @@ typedef struct pigeon_options {
 uint32_t pigeon_default_options_sized(void *options, size_t size);
 static inline uint32_t pigeon_default_options(pigeon_options *options) { return pigeon_default_options_sized(options, options->size); }
 
-/* Writes the options of data channels (RFC 8831), which differ from the defaults in five: DTLS finds damage, where the peer says so too
- * (RFC 9653); the window is twice the largest message of 262,144 bytes; 65,536 fragments are held at most; on each stream 16 MiB may wait, and as
- * much as is offered in all; and PIGEON_AVOID_STALLS is set. The mtu of 1,191 leaves room for DTLS and UDP, there are 65,535 streams each way. With
+/* Writes the options of data channels (RFC 8831), which differ from the defaults in six fields: DTLS finds damage, where the peer says so too
+ * (RFC 9653); the window is twice the largest message of 262,144 bytes; 65,536 fragments are held at most; on each stream 16 MiB may wait, and
+ * 4 GiB in all; and PIGEON_AVOID_STALLS is set. The mtu of 1,191 leaves room for DTLS and UDP, there are 65,535 streams each way. With
  * another largest message set max_message_size, the window to twice what the peer may send, and max_held_fragments, where that has more than
  * 32,768 fragments, to twice as many. PIGEON_INVALID_SIZE. */
 uint32_t pigeon_options_for_webrtc_sized(void *options, size_t size);
@@ -230,7 +230,7 @@ static inline uint32_t pigeon_new(pigeon_socket *socket, const pigeon_options *o
  * of the handle then names freed memory. */
 void pigeon_free(pigeon_socket *socket);
 
-/* ---- Calls. Each of these may answer PIGEON_MEMORY, PIGEON_FAILED and PIGEON_NO_SOCKET. */
+/* ---- Calls. All below may answer PIGEON_NO_SOCKET; those without const PIGEON_MEMORY, PIGEON_FAILED too, but to set max_message_size or take what waits. */
 
 /* Opens an association, where the socket is closed. Advance the time first. */
 uint32_t pigeon_connect(pigeon_socket *socket);
@@ -277,7 +277,7 @@ uint32_t pigeon_get_options_sized(const pigeon_socket *socket, void *options, si
 static inline uint32_t pigeon_get_options(const pigeon_socket *socket, pigeon_options *options) {
     return pigeon_get_options_sized(socket, options, options->size);
 }
-/* The bytes of a stream that wait to be sent. */
+/* The bytes of a stream that wait to be sent. PIGEON_INVALID_STREAM. */
 uint32_t pigeon_buffered_amount(const pigeon_socket *socket, uint32_t stream, size_t *bytes);
 /* How many bytes more the send queue takes, of all streams: max_send_buffer_size less what waits. At 0 each message is refused; above it
  * one is taken whole, if per_stream_send_queue_limit allows. */
@@ -299,7 +299,7 @@ typedef struct pigeon_metrics {
     size_t unack_data_count;  /* fragments in flight, and packets that the queued bytes would fill */
     size_t rx_packets_count;  /* over the socket's life */
     size_t rx_messages_count; /* messages of the association that came whole */
-    uint32_t peer_rwnd_bytes; /* how much the peer's window still takes */
+    uint32_t peer_rwnd_bytes; /* how much the peer's window still takes; of a peer whose COOKIE ECHO came at most max_send_buffer_size, until its first SACK */
     uint32_t peer_implementation; /* by the INIT ACK that came last, of an earlier association too; PIGEON_PEER_UNKNOWN at an end that got none */
     uint16_t negotiated_maximum_incoming_streams;
     uint16_t negotiated_maximum_outgoing_streams;
@@ -380,10 +380,10 @@ typedef struct pigeon_send_options {
 #define PIGEON_SEND_OPTIONS {sizeof(pigeon_send_options), 0, 0, 0, 0}
 
 /* Queues a message, which is copied, and sends as much as may be sent. Advance the time first: lifetime, round trip and retransmission count
- * from the clock's moment. A full queue emits an error at each call: offer no more until PIGEON_BUFFERED_AMOUNT_LOW of the stream, or
- * PIGEON_TOTAL_BUFFERED_AMOUNT_LOW. PIGEON_EMPTY_PAYLOAD, PIGEON_MESSAGE_TOO_LARGE, PIGEON_SHUTTING_DOWN, PIGEON_QUEUE_FULL: it isn't
- * queued, and emits PIGEON_LIFECYCLE_END of its lifecycle, then PIGEON_ON_ERROR. PIGEON_INVALID_ARGUMENT: flags that there aren't, or a
- * max_retransmissions above 65,535. PIGEON_INVALID_SIZE. PIGEON_NO_ROOM: there is no memory for the copy. */
+ * from the clock's moment. A full queue emits an error at each call: go on at PIGEON_BUFFERED_AMOUNT_LOW of the stream, or PIGEON_TOTAL_BUFFERED_AMOUNT_LOW,
+ * and look each turn where messages are given up or streams reset, since then neither need come. PIGEON_EMPTY_PAYLOAD, PIGEON_MESSAGE_TOO_LARGE,
+ * PIGEON_SHUTTING_DOWN, PIGEON_QUEUE_FULL: it isn't queued, and emits PIGEON_LIFECYCLE_END of its lifecycle, then PIGEON_ON_ERROR. PIGEON_INVALID_ARGUMENT:
+ * flags that there aren't, or a max_retransmissions above 65,535. PIGEON_INVALID_SIZE. PIGEON_INVALID_STREAM. PIGEON_NO_ROOM: no memory for the copy. */
 uint32_t pigeon_send_sized(pigeon_socket *socket, uint32_t stream, uint32_t ppid, const uint8_t *payload, size_t length, const void *options,
                            size_t size);
 static inline uint32_t pigeon_send(pigeon_socket *socket, uint32_t stream, uint32_t ppid, const uint8_t *payload, size_t length,
@@ -432,7 +432,7 @@ enum { PIGEON_CAUSE_LIFETIME = 0, PIGEON_CAUSE_RETRANSMISSIONS = 1, PIGEON_CAUSE
 
 /* A message that was given up (RFC 3758 section 3.5). */
 typedef struct pigeon_given_up {
-    uint32_t number;          /* its place in the order in which messages were accepted, from 0, modulo 2^32 */
+    uint32_t number;          /* its place in the order in which messages were accepted, from 0, behind a restore from where the record ends, modulo 2^32 */
     uint32_t cause;           /* its lifetime passed, a fragment was sent again as often as allowed, its stream was reset, or its association ended */
     uint32_t retransmissions; /* of PIGEON_CAUSE_RETRANSMISSIONS: how often */
 } pigeon_given_up;
@@ -458,7 +458,7 @@ enum {
     PIGEON_LIFECYCLE_MAYBE_EXPIRED = 12, /* it was given up after that: the peer may have it */
     PIGEON_LIFECYCLE_EXPIRED = 13,     /* it was given up, or dropped, before that */
     PIGEON_LIFECYCLE_DELIVERED = 14,   /* the peer acknowledged it for good */
-    PIGEON_LIFECYCLE_END = 15,         /* nothing more is told of it; of a message that was refused this alone is */
+    PIGEON_LIFECYCLE_END = 15,         /* nothing more is told of it; of a refused message this alone is, of one in flight as its association ends this isn't */
     /* These come from pigeon_channels_borrow_event alone; `stream` is the channel's number. */
     PIGEON_CHANNEL_OPENED = 16, /* the peer has opened it, or has answered, by a message at least; may come before PIGEON_ON_CONNECTED */
     PIGEON_CHANNEL_TEXT = 17,   /* a message of text; the bytes are it, and may be none. That they are UTF-8 is the peer's word, and isn't tested */
@@ -530,7 +530,7 @@ static inline uint32_t pigeon_borrow_event(pigeon_socket *socket, pigeon_event *
  * pigeon_channels_handle_input takes the place of pigeon_handle_input, by which channels would see what two packets brought in another order, and
  * pigeon_channels_borrow_event that of pigeon_borrow_event, pigeon_poll_event, pigeon_borrow_message and pigeon_next_message: what those take the
  * channels don't see. Nor is pigeon_send or pigeon_reset_stream called for a stream that has a channel; and any stream that the peer resets is
- * reset in turn, by which what waits on it is dropped. A channel's number is its stream's:
+ * reset in turn, without a channel once as long as nothing comes on it, by which what waits on it is dropped. A channel's number is its stream's:
  * pigeon_buffered_amount, pigeon_set_buffered_amount_low_threshold and pigeon_buffered_amount_low_threshold take it, and PIGEON_BUFFERED_AMOUNT_LOW
  * says it; a threshold stays with the stream, also for a channel that is opened there later. Channels end with their association, each with its
  * PIGEON_CHANNEL_CLOSED before PIGEON_ON_CLOSED, PIGEON_ON_ABORTED or PIGEON_ON_CONNECTION_RESTARTED; a record that is handed over has none. One
@@ -541,8 +541,8 @@ static inline uint32_t pigeon_borrow_event(pigeon_socket *socket, pigeon_event *
  * Of each packet messages are told before events. So what comes with a COOKIE ECHO is told before PIGEON_ON_CONNECTED; and where the peer restarts
  * it is told as of the old channels, then all of these are closed, also one that it opened. What the old ones had queued goes out all the same.
  *
- * Each of these calls answers PIGEON_NO_CHANNELS where there are none, and PIGEON_INVALID_STREAM for a number above 65,535. PIGEON_MEMORY: channels
- * have failed, or the socket and they, and the socket is to be freed; later calls need not say so.
+ * Each of these calls answers PIGEON_NO_CHANNELS where there are none, and PIGEON_INVALID_STREAM for a number above 65,535. PIGEON_MEMORY, PIGEON_FAILED:
+ * channels have failed, or the socket and they, and the socket is to be freed; later calls need not say so.
  */
 
 /* Who opens which: the client of DTLS (a=setup:active) even streams, the server (a=setup:passive) odd ones. */
@@ -554,8 +554,8 @@ typedef struct pigeon_channels_options {
     uint32_t role;
     uint32_t max_message_size;      /* own a=max-message-size (RFC 8841): longer messages that come are refused; at 0 all but empty ones */
     uint32_t peer_max_message_size; /* the peer's, 65,536 where its description has none: a longer message isn't sent; any is at 0 */
-    uint32_t max_buffered_amount;   /* a message by which more than this would wait on its channel isn't taken; nor is one
-                                       beyond per_stream_send_queue_limit or max_send_buffer_size of the socket's options */
+    uint32_t max_buffered_amount;   /* a message by which more than this would wait on its channel isn't taken; nor is any where
+                                       per_stream_send_queue_limit or max_send_buffer_size of the socket's options waits already */
     uint32_t max_kept_bytes;        /* of labels, protocols and unfinished messages that all channels keep: an opening by the peer beyond it
                                        is refused, and a part of a message beyond it drops that; what this end opens counts and is taken */
     uint32_t reserved;              /* 0: the place of a later field */
@@ -669,7 +669,7 @@ uint32_t pigeon_channel_label(const pigeon_socket *socket, uint32_t channel, siz
 /* The same of its protocol. */
 uint32_t pigeon_channel_protocol(const pigeon_socket *socket, uint32_t channel, size_t *needed, char *buffer, size_t length);
 
-/* What a channel counts: messages that the socket accepted, and that were handed out. */
+/* What a channel counts: messages that the socket accepted, and that came and weren't refused. */
 typedef struct pigeon_channel_statistics {
     size_t size; /* sizeof(pigeon_channel_statistics) */
     uint64_t messages_sent;

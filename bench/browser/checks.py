@@ -203,7 +203,7 @@ async def judge(bench, rate: float, name: str, whose: str, came: list[int], coun
 
 
 async def closing(bench, offerer: str) -> None:
-    """Channels are closed by either end and by both, empty or with messages queued, and their ids used again."""
+    """Channels are closed by either end and by both, empty or with messages queued; the browser's ids are used again, ours not at once."""
     async with Pair(bench, offerer) as pair:
         for opener, closer, queued in itertools.product(OPENERS, ("browser", "ours", "both"), (0, 40)):
             name = f"{opener} opens, {closer} closes, {queued} queued"
@@ -332,7 +332,7 @@ async def examples(bench, offerer: str) -> None:
     )
     await server.stdout.readline()
     page = await bench.browser.page("", "http://127.0.0.1:45800/")
-    said = "document.body.innerText"
+    said = "(document.body?.innerText ?? '')"
     wait = "(async (text) => { for (let i = 0; i < 400; i++) { if (%s.includes(text)) return true; await new Promise((d) => setTimeout(d, 50)); } return %s; })"
     wait = wait % (said, said)
     bench.check(await page.run(wait + "('connected')") is True, "the page of echo.py: connected")

@@ -22,7 +22,7 @@ from typing import Optional, Protocol, TypeVar, Union
 from . import events
 from .channels import Channel as PlainChannel
 from .channels import Channels
-from .declarations import OptionsStruct
+from .declarations import OptionsStruct, Statistics
 from .names import NoChannel, Role, SocketFailed, State
 from .sockets import Options
 
@@ -45,8 +45,8 @@ def options_for(max_message_size: int, /, **fields: int) -> Options:
 
 
 def sent_at_most(options: OptionsStruct, peer_max_message_size: int) -> int:
-    """The most bytes of a message that both the socket and the peer, who takes any at 0, let go."""
-    return min(peer_max_message_size or options.max_message_size, options.max_message_size)
+    """The most bytes of a message that both the socket and the peer, who takes any at 0, let go; 1 where the socket sends none, since 0 would be any."""
+    return min(peer_max_message_size or options.max_message_size, options.max_message_size) or 1
 
 
 def size_of(message: Union[str, bytes]) -> int:
@@ -245,14 +245,37 @@ class Channel:
     def __del__(self):
         self._connection._forget(self._let_go())
 
-    id = property(lambda self: self._channel.id)
-    label = property(lambda self: self._channel.label)
-    protocol = property(lambda self: self._channel.protocol)
-    ordered = property(lambda self: self._channel.ordered)
-    max_retransmissions = property(lambda self: self._channel.max_retransmissions)
-    lifetime = property(lambda self: self._channel.lifetime)
-    buffered_amount = property(lambda self: self._channel.buffered_amount)
-    statistics = property(lambda self: self._channel.statistics)
+    @property
+    def id(self) -> int:
+        return self._channel.id
+
+    @property
+    def label(self) -> str:
+        return self._channel.label
+
+    @property
+    def protocol(self) -> str:
+        return self._channel.protocol
+
+    @property
+    def ordered(self) -> bool:
+        return self._channel.ordered
+
+    @property
+    def max_retransmissions(self) -> Optional[int]:
+        return self._channel.max_retransmissions
+
+    @property
+    def lifetime(self) -> Optional[int]:
+        return self._channel.lifetime
+
+    @property
+    def buffered_amount(self) -> int:
+        return self._channel.buffered_amount
+
+    @property
+    def statistics(self) -> Statistics:
+        return self._channel.statistics
 
     async def opened(self) -> None:
         """Waits until the peer has it. Messages may be sent before."""
@@ -329,7 +352,7 @@ class Connection:
     """An association with data channels over a wire. `packet_received` takes what comes by it.
 
     Each channel buffers `high_water` bytes, then `Channel.send` waits; it raises QueueFull where the options let less wait, on a stream (16 MiB by
-    `Options.for_webrtc`) or on all. With `read_limit` bytes that came and weren't received, where each message counts 64 more, and of text that isn't
+    `Options.for_webrtc`) or on all. Beyond `read_limit` bytes that came and weren't received, where each message counts 64 more, and of text that isn't
     ASCII each character four, the wire is told to pause: what it then drops the peer sends again, and slower. Meanwhile no acknowledgement comes
     either: what is sent here waits, `close` waits in vain, and after some minutes the association is aborted (`max_retransmissions`). Label and
     protocol of a channel count so until it is accepted. So the channels that the peer opens are to be accepted, and those that aren't read any more
@@ -513,7 +536,7 @@ class Connection:
             self._wire.pause_reading()
 
     def _turned(self) -> None:
-        """Where messages were given up there may be room again of which no event says so."""
+        """Where messages were given up there may be room again of which no event says so; with `AVOID_STALLS` only by a reset or an end."""
         for channel in next_in_turn(self._held_back):
             if channel.buffered_amount <= self.high_water // 2:
                 channel._room.set()
@@ -533,6 +556,8 @@ class Connection:
                 self._driver._loop.call_soon_threadsafe(self._read, size)
 
     def _end(self) -> None:
+        if self._closed.is_set():
+            return
         self._driver.stop()
         self._paused = False  # what is received later resumes nothing
         self._held_back.clear()

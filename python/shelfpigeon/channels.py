@@ -98,10 +98,10 @@ class Channels(End):
     A turn: `advance_time`; `handle_input` for each packet that came, and what is opened, sent and closed; all `events`; `next_given_up` until it
     answers None; `poll_timeout`. What isn't taken piles up.
 
-    `max_message_size` is one's own a=max-message-size, `peer_max_message_size` the peer's, 65,536 where it says none: at 0 any is sent. At an own 0
-    only empty messages are taken. `max_kept_bytes` is the most bytes of labels, protocols and unfinished messages that channels keep: an opening by
-    the peer beyond it is refused, by `Refusal.NO_ROOM`, and a part of a message beyond it drops its message, by `Refusal.TOO_LONG`. What this end opens
-    isn't refused for it."""
+    `max_message_size` is one's own a=max-message-size, `peer_max_message_size` the peer's, 65,536 where it says none: at 0 any that the options'
+    max_message_size allows is sent. At an own 0 only empty messages are taken. `max_kept_bytes` is the most bytes of labels, protocols and unfinished
+    messages that channels keep: an opening by the peer beyond it is refused, by `Refusal.NO_ROOM`, and a part of a message beyond it drops its message,
+    by `Refusal.TOO_LONG`. What this end opens isn't refused for it."""
 
     def __init__(
         self,
@@ -187,7 +187,7 @@ class Channels(End):
             self._taken.append(event)
 
     def _taken_now(self) -> Optional[ChannelsEvent]:
-        kind = self._borrowed(self._library.pigeon_channels_borrow_event_sized)
+        kind = self._next_kind(self._library.pigeon_channels_borrow_event_sized, byref(self._lent))
         if kind is None:
             return None
         stream, error = self._event.stream, self._event.error

@@ -194,7 +194,7 @@ class ChannelOptionsStruct(Sized):
 
 
 class Statistics(Sized):
-    """What a channel counts: messages that the socket accepted, and that were handed out."""
+    """What a channel counts: messages that the socket accepted, and that came."""
 
     __slots__ = ()
     _fields_ = [

@@ -7,7 +7,7 @@ import os
 import struct
 from collections.abc import Iterator, Sequence
 from ctypes import byref, c_size_t, c_uint16, c_uint32, c_uint64, c_void_p, create_string_buffer, sizeof, string_at
-from typing import NamedTuple, Optional
+from typing import NamedTuple, Optional, TypeVar
 
 from .events import (
     Aborted,
@@ -42,6 +42,7 @@ from .names import Answer, Cause, ErrorKind, InvalidArgument, Kind, Readiness, S
 
 NEVER = 2**64 - 1
 LAST_KIND = max(Kind)
+AnEnd = TypeVar("AnEnd", bound="End")
 
 
 class Options(OptionsStruct):
@@ -89,7 +90,7 @@ class Message(NamedTuple):
 
 
 class GivenUp(NamedTuple):
-    """A message that was given up: its place in the order of acceptance, from 0, why, and after how many retransmissions."""
+    """A message that was given up: its place in the order of acceptance, from 0, why, and, of RETRANSMISSIONS, after how many."""
 
     number: int
     cause: Cause
@@ -113,7 +114,7 @@ class End:
             raise InvalidArgument(answer, f"{text(Text.ANSWER, answer)}: {invalid_field(options)}")
         check(answer)
 
-    def __enter__(self):
+    def __enter__(self: AnEnd) -> AnEnd:
         return self
 
     def __exit__(self, *_) -> None:
@@ -196,7 +197,8 @@ class End:
         return self._read(self._library.pigeon_buffered_amount_low_threshold, c_size_t, stream)
 
     def set_buffered_amount_low_threshold(self, stream: int, size: int) -> None:
-        """Sets at which amount an event says that more may be sent. Where messages are given up it may not come."""
+        """Sets at which amount an event says that more may be sent. Where messages are given up it may not come; with `AVOID_STALLS` only by a reset
+        or an end."""
         self._call(self._library.pigeon_set_buffered_amount_low_threshold, stream, size)
 
     @property
@@ -229,10 +231,10 @@ class End:
         check(answer)
         return GivenUp(record.number, Cause(record.cause), record.retransmissions)
 
-    def _borrowed(self, function) -> Optional[int]:
-        """Takes the next event into _event and _lent, and answers its kind. One that only a later library has is passed over."""
+    def _next_kind(self, function, *place) -> Optional[int]:
+        """Takes the next event into _event, its bytes by `place`, and answers its kind. One that only a later library has is passed over."""
         event = self._event
-        while (answer := function(self._at, byref(event), sizeof(event), byref(self._lent))) != Answer.NOTHING:
+        while (answer := function(self._at, byref(event), sizeof(event), *place)) != Answer.NOTHING:
             check(answer)
             if event.kind <= LAST_KIND:
                 return event.kind
@@ -277,7 +279,7 @@ class Socket(End):
 
     def next_event(self) -> Optional[SocketEvent]:
         """Takes the event that was emitted first, or None."""
-        kind = self._borrowed(self._library.pigeon_borrow_event_sized)
+        kind = self._next_kind(self._library.pigeon_borrow_event_sized, byref(self._lent))
         return None if kind is None else self._told(kind)
 
     def events(self) -> Iterator[SocketEvent]:
@@ -287,13 +289,10 @@ class Socket(End):
 
     def poll_event(self, size: int = 65536) -> Optional[SocketEvent]:
         """As `next_event`, by a buffer of this size. PigeonError: what doesn't fit stays, and holds back all behind it."""
-        buffer, event = create_string_buffer(size), self._event
-        answer = self._library.pigeon_poll_event_sized(self._at, byref(event), sizeof(event), buffer, size)
-        if answer == Answer.NOTHING:
-            return None
-        check(answer)
+        buffer = create_string_buffer(size)
+        kind = self._next_kind(self._library.pigeon_poll_event_sized, buffer, size)
         self._lent.value = ctypes.addressof(buffer)
-        return self._told(event.kind)
+        return None if kind is None else self._told(kind)
 
     def next_message(self) -> Optional[Message]:
         """Takes the message that was ready first, or None."""
@@ -347,7 +346,7 @@ class Socket(End):
         return [Answer(it) for it in answers[:count]]
 
     def reset_stream(self, stream: int) -> None:
-        """Resets a stream; what waits there is dropped."""
+        """Resets a stream; messages there of which nothing is sent are dropped."""
         self._call(self._library.pigeon_reset_stream, stream)
 
     def reset_streams(self, streams: Sequence[int]) -> None:

@@ -5,7 +5,7 @@ import random
 
 import pytest
 
-from shelfpigeon import Options, Role, SocketFailed, State, aio, events
+from shelfpigeon import MessageTooLarge, Options, Role, SocketFailed, State, aio, events
 from shelfpigeon.names import Answer
 
 
@@ -15,7 +15,7 @@ class Memory:
     def __init__(self, rate: float, seed: int):
         self.rate, self.random = rate, random.Random(seed)
         self.other: aio.Connection | None = None
-        self.paused, self.pauses, self.dropped = False, 0, 0
+        self.paused, self.pauses, self.dropped, self.closes = False, 0, 0, 0
 
     def send(self, packet: bytes) -> None:
         if self.other._wire.paused or self.random.random() < self.rate:
@@ -31,7 +31,7 @@ class Memory:
         self.paused = False
 
     def close(self) -> None:
-        pass
+        self.closes += 1
 
 
 async def pair(rate: float = 0.0, **settings) -> tuple[aio.Connection, aio.Connection]:
@@ -171,6 +171,15 @@ def test_the_window_is_twice_the_largest_message():
 
 
 @run
+async def test_a_socket_that_sends_no_message_refuses_it_by_its_size():
+    for size in (0, 5):
+        a, b = await pair(options=Options.for_webrtc(max_message_size=size))
+        with pytest.raises(MessageTooLarge):
+            await a.negotiate(5).send("longer")
+        await asyncio.gather(a.close(), b.close())
+
+
+@run
 async def test_who_does_not_read_has_the_wire_paused():
     a, b = await pair(read_limit=200000)
     channel = a.open("much")
@@ -252,6 +261,15 @@ async def test_a_close_that_is_cancelled_ends_all():
         await asyncio.wait_for(a.close(), 0.05)
     assert a._closed.is_set() and a._driver._timer is None
     b.abort()
+
+
+@run
+async def test_each_wire_is_closed_once():
+    a, b = await pair()
+    await a.close()
+    await b.wait_closed()
+    b.abort()
+    assert a._wire.closes == b._wire.closes == 1
 
 
 @run

@@ -1,16 +1,20 @@
 # SPDX-License-Identifier: Apache-2.0
 """Sockets and channels over memory, in virtual time."""
+import inspect
 import re
+import typing
 
 import pytest
 
 import shelfpigeon
-from shelfpigeon import events
+from shelfpigeon import aio, events
 from shelfpigeon import (
     Answer,
+    Channel,
     ChannelState,
     Channels,
     InvalidArgument,
+    Kind,
     MessageTooLarge,
     NoChannel,
     OptionFlags,
@@ -165,6 +169,34 @@ def test_stalls_are_avoided_by_a_flag(avoids):
         c.advance_time(world.now)
         c.restore(a.handover())
         assert (c.poll_timeout() is not None) is avoids
+
+
+@pytest.mark.parametrize("take", [Socket.next_event, Socket.poll_event])
+def test_an_event_that_only_a_later_library_has_is_passed_over(monkeypatch, take):
+    kinds = iter([max(Kind) + 1])
+
+    def later(function):
+        def takes(at, event, *rest):
+            answer = function(at, event, *rest)
+            event._obj.kind = next(kinds, event._obj.kind)
+            return answer
+
+        return takes
+
+    with Socket() as socket:
+        for name in ("pigeon_borrow_event_sized", "pigeon_poll_event_sized"):
+            monkeypatch.setattr(socket._library, name, later(getattr(socket._library, name)))
+        socket.connect()
+        socket.close()
+        assert [take(socket), take(socket)] == [events.Closed(), None]
+
+
+@pytest.mark.parametrize("owner", [Socket, Channels, Channel, Options, aio.Connection, aio.Channel])
+def test_types_of_what_is_answered_are_declared(owner):
+    for name, member in inspect.getmembers(owner):
+        member = getattr(member, "fget", member)
+        if inspect.isroutine(member) and hasattr(member, "__annotations__") and (name == "__enter__" or name[0] != "_"):
+            assert "return" in typing.get_type_hints(member), name
 
 
 def test_the_same_seed_makes_the_same_packets():
@@ -367,6 +399,20 @@ def test_a_channel_that_the_other_end_does_not_have(channels):
     assert events.ChannelClosed(alone) in channels.told[a]
     assert events.ChannelClosed not in channels.kinds(b)
     b.negotiate(7)
+
+
+def test_a_stream_without_a_channel_is_reset_in_turn_once(channels):
+    a, b = channels.ends
+    a._call(a._library.pigeon_reset_stream, 8)
+    packets = 0
+    while (more := channels.take(a) + channels.take(b)) and packets < 100:
+        packets += more
+    assert packets == 6
+    channel = b.negotiate(8)
+    channel.send(b"for nobody")
+    channel.close()
+    channels.settle()
+    assert channel.is_closed
 
 
 def test_a_channel_on_a_stream_that_the_association_does_not_have():

@@ -4,7 +4,7 @@
 use sctp_serial::{Message, PpId, SocketTime, StreamId};
 use sctp_state::SendOptions;
 use sctp_world::{Call, Command, End, Event, parse_command};
-use std::alloc::{AllocError, Global};
+use std::alloc::Global;
 use std::time::Duration;
 
 /// The number at this place; 0 where there is none.

@@ -212,6 +212,25 @@ fn close_both<S: DcSctpSocket>(
     exchange(rt, pair)
 }
 
+/// How many packets the end has sent.
+fn packets_of<S: DcSctpSocket>(end: &End<S>) -> usize {
+    match end.socket.get_metrics() {
+        Some(metrics) => metrics.tx_packets_count,
+        None => 0,
+    }
+}
+
+/// Prints how many packets that takes: each end resets the stream in turn once.
+fn reset_without_a_channel<S: DcSctpSocket>(rt: &HostRuntime, pair: &mut Pair<S>) -> Result<()> {
+    println!(rt; "a resets a stream without a channel")?;
+    let before = packets_of(&pair.a);
+    pair.a.socket.reset_streams(&[StreamId(8)])?;
+    exchange(rt, pair)?;
+    let packets = packets_of(&pair.a).saturating_sub(before);
+    println!(rt; "a sent {packets} packets")?;
+    Ok(())
+}
+
 fn close_association<S: DcSctpSocket>(rt: &HostRuntime, pair: &mut Pair<S>) -> Result<()> {
     println!(rt; "b closes the association with a channel open")?;
     open(&mut pair.a, "last", false)?;
@@ -229,6 +248,7 @@ fn talk<S: DcSctpSocket>(rt: &HostRuntime, pair: &mut Pair<S>) -> Result<()> {
     let id = open_and_close(rt, pair)?;
     let (again, own) = open_again(rt, pair, id)?;
     close_both(rt, pair, again, own)?;
+    reset_without_a_channel(rt, pair)?;
     close_association(rt, pair)
 }
 

@@ -1,7 +1,6 @@
 -- The machine values of a handle, and what it owns by its two cases. Assumes `Logic`.
 use Rattle.std.proofs.Common.{◌≡◌, ℕ, List, [], ◌∷◌, ◌++◌, refl, subst, lit<}
 use seplogic.Ra.Ura.{Ura}
-use mir.Syntax.{Ty}
 use mir.Raw.{raw as bare}
 use mir.Val.{Val, vstruct, of_list, has_ty}
 use base.Logic.{ent, guard, guard_i, via, never, fst∗, snd∗}

@@ -18,7 +18,7 @@ ghost use Rattle.sctp_c_records.specs.Metrics.{one_if};
 use crate::handle::Handle;
 use crate::stream::stream_of;
 use sctp_c_calls as calls;
-use sctp_c_records::answers::{INVALID_SIZE, INVALID_STREAM, NO_SOCKET, NOTHING, OK};
+use sctp_c_records::answers::{INVALID_SIZE, INVALID_STREAM, NO_SOCKET, OK};
 use sctp_c_records::{METRICS_SIZE, OPTIONS_SIZE, place_of_text};
 
 /// Hands out where the text of a number begins, which ends by a zero byte and stays: of an answer (0), the kind of an event (1), the

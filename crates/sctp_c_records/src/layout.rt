@@ -1,6 +1,6 @@
 //! A struct of C as its bytes: each number at its place, low byte first.
 
-ghost use Rattle.std.specs.Prelude.{◌≡◌, ◌+◌, ◌<◌, ◌≤◌, ◌^◌, length};
+ghost use Rattle.std.specs.Prelude.{◌≡◌, ◌+◌, ◌<◌, ◌≤◌, length};
 ghost use Rattle.sctp_c_records.specs.Layout.{put_u8, put_u16, put_u32, put_u64, u16_in, u16_or, u32_in, u32_or, u64_in, u64_or};
 ghost use Rattle.sctp_c_records.specs.Texts.{IsEnded};
 

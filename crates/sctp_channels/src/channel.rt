@@ -22,7 +22,7 @@ pub struct Statistics {
     pub messages_sent: u64,
     /// The bytes of these.
     pub bytes_sent: u64,
-    /// Messages that were handed out.
+    /// Messages that came and weren't refused.
     pub messages_received: u64,
     /// The bytes of these.
     pub bytes_received: u64,

@@ -9,7 +9,7 @@ ghost use Rattle.sctp_channels.specs.Steps.{each};
 ghost use Rattle.sctp_channels.specs.Views.{open_of};
 ghost use Rattle.sctp_channels.specs.Channel.{count_received, new_channel, received_as, takes_whole, with_lifecycle};
 ghost use Rattle.sctp_channels.specs.Channels.{Emits, OnControl, OnMessage, Output as output, Stands, change, close, deliver, drain, emit, end, end_missing, hand, has_room, has_stream, incoming_streams, is_denied, is_own, is_shown, limit_of, negotiate, no_channels, on_ack, on_incoming_reset, on_open, on_payload, on_reset_denied, on_reset_performed, open_from, open_own, output_of, place, refuse, reset_in_turn, room, sent, shown_streams, take_open, tell_begin, tell_closed, tell_end, turn_down, with_entries};
-ghost use Rattle.sctp_channels.specs.DataChannels.{IsOpenAt};
+ghost use Rattle.sctp_channels.specs.DataChannels.{IsOpenAt, is_draining_at, is_incoming_reset_at};
 ghost use Rattle.sctp_channels.specs.Entries.{KeepsIncoming, channel_at, forget, put};
 
 use crate::channel_map::ChannelMap;
@@ -121,6 +121,26 @@ impl Channels {
         ensures { option_copied result ≡ channel_at id.0 self.now.entries }
     {
         self.entries.get(&id.0)
+    }
+
+    /// Whether a channel is closed on the stream whose reset is still to be asked for.
+    pub(crate) fn is_draining(&self, id: StreamId) -> bool
+        ensures { result ≡ is_draining_at (channel_at id.0 self.now.entries) }
+    {
+        match self.entries.get(&id.0) {
+            None => false,
+            Some(channel) => matches!(channel.lifecycle().outgoing, Outgoing::Draining),
+        }
+    }
+
+    /// Whether the peer has reset its stream of the channel: it takes nothing of it any more.
+    pub(crate) fn is_incoming_reset(&self, id: StreamId) -> bool
+        ensures { result ≡ is_incoming_reset_at (channel_at id.0 self.now.entries) }
+    {
+        match self.entries.get(&id.0) {
+            None => false,
+            Some(channel) => channel.lifecycle().is_incoming_reset,
+        }
     }
 
     /// Takes what is to be done first.

@@ -1,8 +1,8 @@
 //! Streams whose channel is closed, and whose reset is still to be asked for.
 
-use crate::take_first;
+use crate::{Channels, take_first};
 use sctp_serial::StreamId;
-use sctp_state::{DcSctpSocket, SocketState};
+use sctp_state::{DcSctpSocket, SocketEvent, SocketState};
 use std::alloc::{AllocError, Global};
 use std::collections::{BTreeSet, VecDeque};
 
@@ -26,6 +26,8 @@ pub(crate) struct Closing {
     due: VecDeque<StreamId>,
     // the first one of the others to be looked at
     next: u16,
+    // those without a channel that the peer has reset, and on which nothing came since
+    in_turn: BTreeSet<u16>,
 }
 
 impl Closing {
@@ -36,6 +38,7 @@ impl Closing {
             streams: BTreeSet::new(alloc),
             due: VecDeque::new(alloc),
             next: 0,
+            in_turn: BTreeSet::new(alloc),
         }
     }
 
@@ -51,6 +54,7 @@ impl Closing {
     pub fn clear(&mut self) {
         self.streams.clear();
         self.due.clear();
+        self.in_turn.clear();
     }
 
     pub fn insert(&mut self, id: StreamId) -> Result<(), AllocError> {
@@ -66,6 +70,46 @@ impl Closing {
     pub fn insert_due(&mut self, id: StreamId) -> Result<(), AllocError> {
         self.due.push_back(id)?;
         Ok(())
+    }
+
+    /// Something came on the stream.
+    pub fn on_data(&mut self, id: StreamId) {
+        self.in_turn.remove(&id.0);
+    }
+
+    /// What is left of an event: a stream without a channel is reset in turn once, as long as nothing comes on it. A peer that has none either
+    /// resets it in turn as well, and each reset would bring the next one.
+    pub fn left_of(
+        &mut self,
+        channels: &Channels,
+        event: SocketEvent,
+    ) -> Result<Option<SocketEvent>, AllocError> {
+        let SocketEvent::OnIncomingStreamReset(ids) = event else {
+            return Ok(Some(event));
+        };
+        if ids.is_empty() {
+            return Ok(Some(SocketEvent::OnIncomingStreamReset(ids)));
+        }
+        let left = self.not_in_turn(channels, &ids)?;
+        if left.is_empty() {
+            return Ok(None);
+        }
+        Ok(Some(SocketEvent::OnIncomingStreamReset(left)))
+    }
+
+    /// Those of the streams that the peer has reset that have a channel, or weren't reset in turn since something came.
+    fn not_in_turn(
+        &mut self,
+        channels: &Channels,
+        ids: &[StreamId],
+    ) -> Result<Vec<StreamId>, AllocError> {
+        let mut left = Vec::new(self.alloc);
+        for id in ids {
+            if channels.get(*id).is_some() || self.in_turn.insert(id.0)? {
+                left.push(*id)?;
+            }
+        }
+        Ok(left)
     }
 
     /// The former resets of these streams were answered.

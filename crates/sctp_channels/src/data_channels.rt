@@ -8,7 +8,7 @@ ghost use Rattle.sctp_channels.specs.Views.{open_of};
 ghost use Rattle.sctp_channels.specs.Payload.{protocol_of};
 ghost use Rattle.sctp_channels.specs.Channels.{OnMessage, change, close, drain, is_own, negotiate, no_channels, on_incoming_reset, on_reset_denied, on_reset_performed, open_own, output_of, sent};
 ghost use Rattle.sctp_channels.specs.Entries.{channel_at};
-ghost use Rattle.sctp_channels.specs.DataChannels.{IsOpenAt, IsShortEnough, is_draining_at, is_incoming_reset_at};
+ghost use Rattle.sctp_channels.specs.DataChannels.{IsOpenAt, IsShortEnough};
 ghost use Rattle.sctp_channels.specs.Steps.{DataChannels, Follows, Gets, StaysTold, acknowledged_by, each, ended, event_of, heard, named, passed_on, told_by, with_channels, with_outputs};
 
 use crate::closing::{Closing, has_association};
@@ -16,7 +16,7 @@ use crate::event::passed_on;
 use crate::unanswered::{Unanswered, answer_each, takes_answers};
 use crate::{
     CONTROL_PPID, Channel, ChannelEvent, ChannelMessage, Channels, DataChannelOpen, OpenError,
-    Outgoing, Output, PayloadKind, PayloadProtocol, SendRefusal, data_message, take_first,
+    Output, PayloadKind, PayloadProtocol, SendRefusal, data_message, take_first,
 };
 use sctp_serial::{Message, StreamId};
 use sctp_state::{CallError, DcSctpSocket, ResetStreamsError, SendOptions, SocketEvent};
@@ -356,7 +356,7 @@ impl DataChannels {
     {
         let id = message.stream_id;
         self.on_message(message)?;
-        self.note_closing(id)?;
+        self.note_message(id)?;
         Ok(())
     }
 
@@ -368,34 +368,22 @@ impl DataChannels {
         self.channels.on_message(message)
     }
 
-    /// Whether a channel is closed on the stream whose reset is still to be asked for.
-    fn is_draining(&self, id: StreamId) -> bool
-        ensures { result ≡ is_draining_at (channel_at id.0 self.now.channels.entries) }
-    {
-        match self.channels.get(id) {
-            None => false,
-            Some(channel) => matches!(channel.lifecycle().outgoing, Outgoing::Draining),
-        }
-    }
-
-    /// Whether the peer has reset its stream of the channel: it takes nothing of it any more.
-    fn is_incoming_reset(&self, id: StreamId) -> bool
-        ensures { result ≡ is_incoming_reset_at (channel_at id.0 self.now.channels.entries) }
-    {
-        match self.channels.get(id) {
-            None => false,
-            Some(channel) => channel.lifecycle().is_incoming_reset,
-        }
-    }
-
     /// Keeps in mind that the stream is to be reset, where it is.
     fn note_closing(&mut self, id: StreamId) -> Result<(), AllocError>
         ensures { self.new ≡ self.old }
     {
-        if self.is_draining(id) {
+        if self.channels.is_draining(id) {
             self.closing.insert(id)?;
         }
         Ok(())
+    }
+
+    /// Something came on the stream, and may have closed its channel.
+    fn note_message(&mut self, id: StreamId) -> Result<(), AllocError>
+        ensures { self.new ≡ self.old }
+    {
+        self.closing.on_data(id);
+        self.note_closing(id)
     }
 
     #[inline(always)]
@@ -413,8 +401,18 @@ impl DataChannels {
                 self.tell(ChannelEvent::Socket(SocketEvent::SendPacket(bytes)))?;
                 Ok(())
             }
-            event => self.take_other_event(socket, event),
+            event => match self.left_of(event)? {
+                Some(event) => self.take_other_event(socket, event),
+                None => Ok(()),
+            },
         }
+    }
+
+    /// What is left of an event, where the channels have something to do with it.
+    fn left_of(&mut self, event: SocketEvent) -> Result<Option<SocketEvent>, AllocError>
+        ensures { self.new ≡ self.old }
+    {
+        self.closing.left_of(&self.channels, event)
     }
 
     #[inline(never)]
@@ -620,7 +618,7 @@ impl DataChannels {
         ensures steps { OnOk result (Follows self.old self.new) }
         ensures told { StaysTold self.old self.new }
     {
-        if socket.buffered_amount(id) == 0 || self.is_incoming_reset(id) {
+        if socket.buffered_amount(id) == 0 || self.channels.is_incoming_reset(id) {
             return self.drain(id);
         }
         Ok(())
@@ -660,7 +658,7 @@ impl DataChannels {
         ensures told { self.new.events ≡ self.old.events }
     {
         self.channels.drain(id, 0)?;
-        if self.is_draining(id) {
+        if self.channels.is_draining(id) {
             return self.closing.insert(id);
         }
         self.closing.remove(id);

@@ -263,7 +263,7 @@ impl DataChunk {
     /// The chunk type.
     pub const TYPE: u8 = 0;
 
-    /// What the chunk says; `InvalidType` where it is of another type, `InvalidLength` where its value has under 12 bytes.
+    /// What the chunk says; `InvalidType` where it is of another type, `InvalidLength` where its value has under 12 bytes, `Memory` where that lacks.
     pub fn try_from(alloc: Global, raw: RawChunk<'_>) -> Result<DataChunk, ChunkParseError>
         ensures ok { IfOk result (λ c. IsChunk (raw_chunk raw.entry) (data_chunk_tree c)) }
         ensures refused { IfErr result (RefusesChunkAs 0 (raw_chunk raw.entry)) }
@@ -315,7 +315,7 @@ impl IDataChunk {
     /// The chunk type.
     pub const TYPE: u8 = 64;
 
-    /// What the chunk says; `InvalidType` where it is of another type, `InvalidLength` where its value has under 16 bytes.
+    /// What the chunk says; `InvalidType` where it is of another type, `InvalidLength` where its value has under 16 bytes, `Memory` where that lacks.
     pub fn try_from(alloc: Global, raw: RawChunk<'_>) -> Result<IDataChunk, ChunkParseError>
         ensures ok { IfOk result (λ c. IsChunk (raw_chunk raw.entry) (idata_chunk_tree c)) }
         ensures refused { IfErr result (RefusesChunkAs 64 (raw_chunk raw.entry)) }

@@ -141,7 +141,7 @@ impl ForwardTsnChunk {
     pub const TYPE: u8 = 192;
 
     /// What the chunk says; `InvalidType` where it is of another type, `InvalidLength` where its value is no four bytes
-    /// and then whole entries of four.
+    /// and then whole entries of four, `Memory` where that lacks.
     pub fn try_from(alloc: Global, raw: RawChunk<'_>) -> Result<ForwardTsnChunk, ChunkParseError>
         ensures ok { IfOk result (λ c. IsChunk (raw_chunk raw.entry) (forward_tsn_tree c)) }
         ensures refused { IfErr result (RefusesChunkAs 192 (raw_chunk raw.entry)) }
@@ -168,7 +168,7 @@ impl IForwardTsnChunk {
     pub const TYPE: u8 = 194;
 
     /// What the chunk says; `InvalidType` where it is of another type, `InvalidLength` where its value is no four bytes
-    /// and then whole entries of eight.
+    /// and then whole entries of eight, `Memory` where that lacks.
     pub fn try_from(alloc: Global, raw: RawChunk<'_>) -> Result<IForwardTsnChunk, ChunkParseError>
         ensures ok { IfOk result (λ c. IsChunk (raw_chunk raw.entry) (i_forward_tsn_tree c)) }
         ensures refused { IfErr result (RefusesChunkAs 194 (raw_chunk raw.entry)) }

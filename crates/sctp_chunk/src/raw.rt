@@ -71,7 +71,7 @@ impl<'a> RawChunk<'a> {
     }
 }
 
-/// Appends a chunk's header: its type, its flags, and its length in bytes.
+/// Appends a chunk's header: its type, its flags, and its length in bytes, which is below 2^16.
 pub fn write_chunk_header(
     typ: u8,
     flags: u8,

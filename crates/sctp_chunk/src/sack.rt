@@ -82,7 +82,7 @@ impl SackChunk {
     pub const TYPE: u8 = 3;
 
     /// What the chunk says; `InvalidType` where it is of another type, `InvalidLength` where its value does not hold
-    /// just the blocks and duplicates that its counts say.
+    /// just the blocks and duplicates that its counts say, `Memory` where that lacks.
     pub fn try_from(alloc: Global, raw: RawChunk<'_>) -> Result<SackChunk, ChunkParseError>
         ensures ok { IfOk result (λ c. IsChunk (raw_chunk raw.entry) (sack_chunk_tree c)) }
         ensures refused { IfErr result (RefusesChunkAs 3 (raw_chunk raw.entry)) }

@@ -50,7 +50,7 @@ pub enum Chunk {
 }
 
 impl Chunk {
-    /// What the chunk says, by its type.
+    /// What the chunk says, by its type; else the fault of that type's reader, `Memory` where that lacks.
     pub fn try_from(alloc: Global, raw: RawChunk<'_>) -> Result<Chunk, ChunkParseError>
         ensures ok { IfOk result (λ c. IsChunk (raw_chunk raw.entry) (chunk_tree c)) }
         ensures refused { IfErr result (RefusesChunk (raw_chunk raw.entry)) }

@@ -22,7 +22,7 @@ impl CookieEchoChunk {
     /// The chunk type.
     pub const TYPE: u8 = 10;
 
-    /// What the chunk says; `InvalidType` where it is of another type, `InvalidLength` where there is no cookie.
+    /// What the chunk says; `InvalidType` where it is of another type, `InvalidLength` where there is no cookie, `Memory` where that lacks.
     pub fn try_from(alloc: Global, raw: RawChunk<'_>) -> Result<Self, ChunkParseError>
         ensures ok { IfOk result (λ c. IsChunk (raw_chunk raw.entry) (cookie_echo_tree c)) }
         ensures refused { IfErr result (RefusesChunkAs 10 (raw_chunk raw.entry)) }

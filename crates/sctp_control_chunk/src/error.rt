@@ -27,7 +27,7 @@ impl AbortChunk {
     pub const TYPE: u8 = 6;
 
     /// What the chunk says; `InvalidType` where it is of another type, else the fault of its first cause that cannot be
-    /// read.
+    /// read, `Memory` where that lacks.
     pub fn try_from(alloc: Global, raw: RawChunk<'_>) -> Result<Self, ChunkParseError>
         ensures ok { IfOk result (λ c. IsChunk (raw_chunk raw.entry) (abort_tree c)) }
         ensures refused { IfErr result (RefusesChunkAs 6 (raw_chunk raw.entry)) }
@@ -51,7 +51,7 @@ impl ErrorChunk {
     pub const TYPE: u8 = 9;
 
     /// What the chunk says; `InvalidType` where it is of another type, else the fault of its first cause that cannot be
-    /// read.
+    /// read, `Memory` where that lacks.
     pub fn try_from(alloc: Global, raw: RawChunk<'_>) -> Result<Self, ChunkParseError>
         ensures ok { IfOk result (λ c. IsChunk (raw_chunk raw.entry) (error_tree c)) }
         ensures refused { IfErr result (RefusesChunkAs 9 (raw_chunk raw.entry)) }

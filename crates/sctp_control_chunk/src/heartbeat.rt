@@ -24,7 +24,7 @@ impl HeartbeatRequestChunk {
     pub const TYPE: u8 = 4;
 
     /// What the chunk says; `InvalidType` where it is of another type, else the fault of its first parameter that cannot
-    /// be read.
+    /// be read, `Memory` where that lacks.
     pub fn try_from(alloc: Global, raw: RawChunk<'_>) -> Result<Self, ChunkParseError>
         ensures ok { IfOk result (λ c. IsChunk (raw_chunk raw.entry) (heartbeat_request_tree c)) }
         ensures refused { IfErr result (RefusesChunkAs 4 (raw_chunk raw.entry)) }
@@ -45,7 +45,7 @@ impl HeartbeatAckChunk {
     pub const TYPE: u8 = 5;
 
     /// What the chunk says; `InvalidType` where it is of another type, else the fault of its first parameter that cannot
-    /// be read.
+    /// be read, `Memory` where that lacks.
     pub fn try_from(alloc: Global, raw: RawChunk<'_>) -> Result<Self, ChunkParseError>
         ensures ok { IfOk result (λ c. IsChunk (raw_chunk raw.entry) (heartbeat_ack_tree c)) }
         ensures refused { IfErr result (RefusesChunkAs 5 (raw_chunk raw.entry)) }

@@ -109,7 +109,7 @@ impl InitChunk {
     pub const TYPE: u8 = 1;
 
     /// What the chunk says; `InvalidType` where it is of another type, `InvalidLength` where its value has under 16
-    /// bytes, else the fault of its first parameter that cannot be read.
+    /// bytes, else the fault of its first parameter that cannot be read, `Memory` where that lacks.
     pub fn try_from(alloc: Global, raw: RawChunk<'_>) -> Result<Self, ChunkParseError>
         ensures ok { IfOk result (λ c. IsChunk (raw_chunk raw.entry) (init_chunk_tree c)) }
         ensures refused { IfErr result (RefusesChunkAs 1 (raw_chunk raw.entry)) }
@@ -159,7 +159,7 @@ impl InitAckChunk {
     pub const TYPE: u8 = 2;
 
     /// What the chunk says; `InvalidType` where it is of another type, `InvalidLength` where its value has under 16
-    /// bytes, else the fault of its first parameter that cannot be read.
+    /// bytes, else the fault of its first parameter that cannot be read, `Memory` where that lacks.
     pub fn try_from(alloc: Global, raw: RawChunk<'_>) -> Result<Self, ChunkParseError>
         ensures ok { IfOk result (λ c. IsChunk (raw_chunk raw.entry) (init_ack_chunk_tree c)) }
         ensures refused { IfErr result (RefusesChunkAs 2 (raw_chunk raw.entry)) }

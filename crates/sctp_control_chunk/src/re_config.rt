@@ -24,7 +24,7 @@ impl ReConfigChunk {
     pub const TYPE: u8 = 130;
 
     /// What the chunk says; `InvalidType` where it is of another type, else the fault of its first parameter that cannot
-    /// be read.
+    /// be read, `Memory` where that lacks.
     pub fn try_from(alloc: Global, raw: RawChunk<'_>) -> Result<Self, ChunkParseError>
         ensures ok { IfOk result (λ c. IsChunk (raw_chunk raw.entry) (re_config_tree c)) }
         ensures refused { IfErr result (RefusesChunkAs 130 (raw_chunk raw.entry)) }

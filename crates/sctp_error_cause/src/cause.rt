@@ -26,7 +26,7 @@ impl MissingMandatoryParameterErrorCause {
     pub const TYPE: u16 = 2;
 
     /// What the cause says; `InvalidType` where it is of another type, `InvalidLength` where there are
-    /// not as many types as it counts.
+    /// not as many types as it counts, `Memory` where that lacks.
     pub fn try_from(alloc: Global, raw: RawParameter<'_>) -> Result<Self, ChunkParseError>
         ensures ok { IfOk result (λ c. SaysCause raw.entry.typ raw.entry.value.now (missing_mandatory_parameter_tree c)) }
         ensures refused { IfErr result (RefusesCauseAs 2 raw.entry.typ raw.entry.value.now) }
@@ -93,7 +93,7 @@ impl UnrecognizedChunkErrorCause {
     /// The cause's type.
     pub const TYPE: u16 = 6;
 
-    /// What the cause says; `InvalidType` where it is of another type.
+    /// What the cause says; `InvalidType` where it is of another type, `Memory` where that lacks.
     pub fn try_from(alloc: Global, raw: RawParameter<'_>) -> Result<Self, ChunkParseError>
         ensures ok { IfOk result (λ c. SaysCause raw.entry.typ raw.entry.value.now (unrecognized_chunk_tree c)) }
         ensures refused { IfErr result (RefusesCauseAs 6 raw.entry.typ raw.entry.value.now) }
@@ -216,7 +216,7 @@ impl UserInitiatedAbortErrorCause {
     /// The cause's type.
     pub const TYPE: u16 = 12;
 
-    /// What the cause says; `InvalidType` where it is of another type.
+    /// What the cause says; `InvalidType` where it is of another type, `Memory` where that lacks.
     pub fn try_from(alloc: Global, raw: RawParameter<'_>) -> Result<Self, ChunkParseError>
         ensures ok { IfOk result (λ c. SaysCause raw.entry.typ raw.entry.value.now (user_initiated_abort_tree c)) }
         ensures refused { IfErr result (RefusesCauseAs 12 raw.entry.typ raw.entry.value.now) }
@@ -257,7 +257,7 @@ impl ProtocolViolationErrorCause {
     /// The cause's type.
     pub const TYPE: u16 = 13;
 
-    /// What the cause says; `InvalidType` where it is of another type.
+    /// What the cause says; `InvalidType` where it is of another type, `Memory` where that lacks.
     pub fn try_from(alloc: Global, raw: RawParameter<'_>) -> Result<Self, ChunkParseError>
         ensures ok { IfOk result (λ c. SaysCause raw.entry.typ raw.entry.value.now (protocol_violation_tree c)) }
         ensures refused { IfErr result (RefusesCauseAs 13 raw.entry.typ raw.entry.value.now) }

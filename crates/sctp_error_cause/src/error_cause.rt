@@ -41,7 +41,7 @@ pub enum ErrorCause {
 
 #[tactic(auto, unfolding(sctp_wire::specs::Cause::cause_value))]
 impl ErrorCause {
-    /// What a cause says, by its type.
+    /// What a cause says, by its type; else the fault of that type's reader, `Memory` where that lacks.
     pub fn try_from(alloc: Global, raw: RawParameter<'_>) -> Result<ErrorCause, ChunkParseError>
         ensures ok { IfOk result (λ it. SaysCause raw.entry.typ raw.entry.value.now (cause_tree it)) }
         ensures refused { IfErr result (RefusesCauseAs raw.entry.typ raw.entry.typ raw.entry.value.now) }
@@ -139,7 +139,7 @@ impl FromItem for ErrorCause {
     }
 }
 
-/// The causes that the bytes are, from the left. The fault is that of the first one that cannot be read.
+/// The causes that the bytes are, from the left. The fault is that of the first one that cannot be read, `Memory` where that lacks.
 pub fn error_cause_from_bytes(
     alloc: Global,
     bytes: &[u8],

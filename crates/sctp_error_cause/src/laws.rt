@@ -28,7 +28,7 @@ pub fn cause_is_not_refused()
         → fault ≡ ChunkParseError.Memory }
 {}
 
-/// The numbers of a cause fit their fields, and its text is UTF-8, as their types say.
+/// The numbers of a cause that can be written fit their fields, and its text is UTF-8, as their types say.
 #[tactic(auto, using(crate::proofs::CauseLemmas::few_types))]
 pub fn cause_fits(cause: &ErrorCause)
     requires { IsEncodable (cause_item (cause_tree cause.now)) }

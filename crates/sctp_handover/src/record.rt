@@ -113,7 +113,7 @@ fn push_record(output: &mut Vec<u8>, state: &SocketHandoverState) -> Result<(), 
     push_transmission(output, &state.tx)
 }
 
-/// A record as bytes.
+/// A record as bytes. Without memory there are none.
 pub fn to_bytes(alloc: Global, state: &SocketHandoverState) -> Result<Vec<u8>, AllocError>
     ensures wrote { IfOk result (λ output. output.items ≡ record_bytes (handover_state_of state.now)) }
     ensures fits { OnOk result (RecordFits (handover_state_of state.now)) }
@@ -136,7 +136,7 @@ fn is_written_as(
     Ok(written.as_slice() == bytes)
 }
 
-/// The record that the bytes are: what was written is read as the same record, and no other bytes are read.
+/// The record that the bytes are: what was written is read as the same record, else `NotARecord`; `Memory` where that lacks.
 pub fn from_bytes(alloc: Global, bytes: &[u8]) -> Result<SocketHandoverState, RecordFault>
     ensures only { IfOk result (λ s. bytes.now ≡ record_bytes (handover_state_of s)) }
     ensures fits { IfOk result (λ s. RecordFits (handover_state_of s)) }

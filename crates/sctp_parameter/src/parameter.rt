@@ -22,7 +22,7 @@ impl HeartbeatInfoParameter {
     /// The parameter's type.
     pub const TYPE: u16 = 1;
 
-    /// What the parameter says; `InvalidType` where it is of another type.
+    /// What the parameter says; `InvalidType` where it is of another type, `Memory` where that lacks.
     pub fn try_from(alloc: Global, raw: RawParameter<'_>) -> Result<Self, ChunkParseError>
         ensures ok { IfOk result (λ p. SaysParameter raw.entry.typ raw.entry.value.now (heartbeat_info_tree p)) }
         ensures refused { IfErr result (RefusesParameterAs 1 raw.entry.typ raw.entry.value.now) }
@@ -63,7 +63,7 @@ impl StateCookieParameter {
     /// The parameter's type.
     pub const TYPE: u16 = 7;
 
-    /// What the parameter says; `InvalidType` where it is of another type.
+    /// What the parameter says; `InvalidType` where it is of another type, `Memory` where that lacks.
     pub fn try_from(alloc: Global, raw: RawParameter<'_>) -> Result<Self, ChunkParseError>
         ensures ok { IfOk result (λ p. SaysParameter raw.entry.typ raw.entry.value.now (state_cookie_tree p)) }
         ensures refused { IfErr result (RefusesParameterAs 7 raw.entry.typ raw.entry.value.now) }
@@ -104,7 +104,7 @@ impl SupportedExtensionsParameter {
     /// The parameter's type.
     pub const TYPE: u16 = 0x8008;
 
-    /// What the parameter says; `InvalidType` where it is of another type.
+    /// What the parameter says; `InvalidType` where it is of another type, `Memory` where that lacks.
     pub fn try_from(alloc: Global, raw: RawParameter<'_>) -> Result<Self, ChunkParseError>
         ensures ok { IfOk result (λ p. SaysParameter raw.entry.typ raw.entry.value.now (supported_extensions_tree p)) }
         ensures refused { IfErr result (RefusesParameterAs 0x8008 raw.entry.typ raw.entry.value.now) }

@@ -63,7 +63,7 @@ pub enum Parameter {
 
 #[tactic(auto, unfolding(sctp_wire::specs::Parameter::parameter_value))]
 impl Parameter {
-    /// What a parameter says, by its type.
+    /// What a parameter says, by its type; else the fault of that type's reader, `Memory` where that lacks.
     pub fn try_from(alloc: Global, raw: RawParameter<'_>) -> Result<Parameter, ChunkParseError>
         ensures ok { IfOk result (λ it. SaysParameter raw.entry.typ raw.entry.value.now (parameter_tree it)) }
         ensures refused { IfErr result (RefusesParameterAs raw.entry.typ raw.entry.typ raw.entry.value.now) }
@@ -156,7 +156,7 @@ impl FromItem for Parameter {
     }
 }
 
-/// The parameters that the bytes are, from the left. The fault is that of the first one that cannot be read.
+/// The parameters that the bytes are, from the left. The fault is that of the first one that cannot be read, `Memory` where that lacks.
 pub fn parameters_from_bytes(alloc: Global, bytes: &[u8]) -> Result<Vec<Parameter>, ChunkParseError>
     ensures ok { IfOk result (λ list. ParsesAll IsParameter bytes.now (map parameter_tree list.items) []) }
     ensures refused { IfErr result (λ fault. (fault ≡ ChunkParseError.Memory) ⊎ FailsToParseAs IsParameter RefusesParameter bytes.now fault) }

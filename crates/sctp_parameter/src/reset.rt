@@ -34,7 +34,7 @@ impl OutgoingSsnResetRequestParameter {
     pub const TYPE: u16 = 13;
 
     /// What the parameter says; `InvalidType` where it is of another type, `InvalidLength` where its value is no
-    /// twelve bytes and then whole stream ids.
+    /// twelve bytes and then whole stream ids, `Memory` where that lacks.
     pub fn try_from(alloc: Global, raw: RawParameter<'_>) -> Result<Self, ChunkParseError>
         ensures ok { IfOk result (λ p. SaysParameter raw.entry.typ raw.entry.value.now (outgoing_tree p)) }
         ensures refused { IfErr result (RefusesParameterAs 13 raw.entry.typ raw.entry.value.now) }
@@ -109,7 +109,7 @@ impl IncomingSsnResetRequestParameter {
     pub const TYPE: u16 = 14;
 
     /// What the parameter says; `InvalidType` where it is of another type, `InvalidLength` where its value is no
-    /// four bytes and then whole stream ids.
+    /// four bytes and then whole stream ids, `Memory` where that lacks.
     pub fn try_from(alloc: Global, raw: RawParameter<'_>) -> Result<Self, ChunkParseError>
         ensures ok { IfOk result (λ p. SaysParameter raw.entry.typ raw.entry.value.now (incoming_tree p)) }
         ensures refused { IfErr result (RefusesParameterAs 14 raw.entry.typ raw.entry.value.now) }

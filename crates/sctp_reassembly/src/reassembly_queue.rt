@@ -64,7 +64,7 @@ impl ReassemblyQueue {
     ghost use Rattle.sctp_reassembly.specs.InterruptedQueue.{add_now_in_part, forward_now_in_part, add_in_part, forward_in_part, apply_in_part, apply_each_in_part, reset_in_part};
     ghost use Rattle.sctp_reassembly.specs.Waiting.{waiting_of};
 
-    /// An empty queue, which is full at `max_size` bytes. Takes no memory.
+    /// An empty queue, which is full at `max_size` bytes, fewer than 2^32. Takes no memory.
     pub fn new(alloc: Global, max_size: usize, use_message_interleaving: bool) -> ReassemblyQueue
         requires { max_size < 2 ^ 32 }
         ensures { result ≡ reassembly max_size use_message_interleaving }
@@ -169,7 +169,7 @@ impl ReassemblyQueue {
     }
 
     /// The fragment with a copy of its payload. That of a part of a message goes into a buffer that an earlier one left, where one
-    /// serves.
+    /// serves. Without memory nothing changes.
     pub fn copy_of(&mut self, fragment: DataView<'_>) -> Result<Data, AllocError>
         ensures value { IfOk result (λ d. fragment_tree d ≡ viewed_fragment fragment.entry) }
         ensures others { self.new ≡ self.old }
@@ -359,8 +359,8 @@ impl ReassemblyQueue {
         self.wait_with(number, later)
     }
 
-    /// Takes a fragment. What is complete and in turn by it becomes ready. While a reset is deferred, a fragment above its
-    /// last TSN waits where it is on one of its streams. A TSN that lies 2^62 or more above the first one is ignored.
+    /// Takes a fragment. What is complete and in turn by it becomes ready. While a reset is deferred, a fragment above its last TSN waits where it is
+    /// on one of its streams. A TSN that lies 2^62 or more above the first one is ignored. Fewer than 2^64 bytes and fragments may be queued with it.
     ///
     /// Without memory the fragment, or a message that was in turn, may be lost. All else stays, and what was ready stays ready.
     #[tactic(auto, using(crate::proofs::ExtendsLemmas::extends_none))]
@@ -519,7 +519,7 @@ impl ReassemblyQueue {
         Ok(())
     }
 
-    /// Has the record's streams in place of its own. For a new queue, in the mode of the record. Without memory nothing
+    /// Has the streams of a record, which is valid in the queue's mode, in place of its own. For a new queue. Without memory nothing
     /// changes.
     pub fn restore_from_state(&mut self, state: &SocketHandoverState) -> Result<(), AllocError>
         requires { is_valid_reception self.old.streams.is_interleaved (receive_of state.now.rx) ≡ true }

@@ -154,7 +154,7 @@ impl DataTracker {
     }
 
     /// Takes the TSN of a DATA chunk, and says whether it is valid and was not seen before. `is_immediate` is the
-    /// chunk's I bit (RFC 7053). A TSN that is not valid changes nothing.
+    /// chunk's I bit (RFC 7053). A TSN that is not valid changes nothing, and nothing changes without memory.
     #[tactic(auto, using(crate::proofs::TrackerLemmas::few_runs))]
     pub fn observe(
         &mut self,
@@ -186,7 +186,7 @@ impl DataTracker {
         Ok(is_new)
     }
 
-    /// Takes a FORWARD-TSN or I-FORWARD-TSN: each number up to this one counts as seen. Says whether the cumulative TSN
+    /// Takes a FORWARD-TSN or I-FORWARD-TSN with a valid TSN: each number up to this one counts as seen. Says whether the cumulative TSN
     /// moved.
     pub fn handle_forward_tsn(&mut self, _now: SocketTime, new_cumulative_tsn: Tsn) -> bool
         requires { IsTrue (is_valid self.old.tracker (number_of self.old new_cumulative_tsn.0)) }
@@ -202,8 +202,8 @@ impl DataTracker {
         moved
     }
 
-    /// A SACK of what was seen: the cumulative TSN, the first twenty runs above it but those that end more than 65,535
-    /// above it, and the duplicates that came since the last SACK, which are reported once. `a_rwnd` is the window in bytes.
+    /// A SACK of what was seen: the cumulative TSN, the first twenty runs above it but those that end more than 65,535 above it, and the first
+    /// twenty duplicates since the last SACK, which are reported once. `a_rwnd` is the window in bytes. Without memory nothing changes.
     pub fn create_selective_ack(&mut self, a_rwnd: u32) -> Result<SackChunk, AllocError>
         ensures chunk { IfOk result (λ c. sack_chunk_tree c ≡ sack_chunk (sack a_rwnd self.old)) }
         ensures seen { IfOk result (λ c. (offset : ℕ) → IsTrue (is_covered c.gap_ack_blocks.items offset) → IsTrue (has_seen self.old.tracker (self.old.tracker.seen.front + offset))) }

@@ -69,9 +69,9 @@ pub enum SocketEvent {
     OnAborted(ErrorKind, String),
     /// An error that closes nothing, with its text.
     OnError(ErrorKind, String),
-    /// The queued amount of a stream fell to its threshold, by a fragment that went out, a raised threshold, or with `avoid_stalls` what was given up.
+    /// A stream's queued amount fell to its threshold: by a fragment that went out, a raised threshold, or (`avoid_stalls`) expiry or a dropped rest.
     OnBufferedAmountLow(StreamId),
-    /// The queued amount of all streams fell to the threshold, by a fragment that went out, or with `avoid_stalls` by what was given up.
+    /// The queued amount of all streams fell to the threshold, by a fragment that went out, or with `avoid_stalls` by expiry or a dropped rest.
     OnTotalBufferedAmountLow(),
     /// The peer refused to see these outgoing streams reset (RFC 6525).
     OnStreamsResetFailed(Vec<StreamId>),

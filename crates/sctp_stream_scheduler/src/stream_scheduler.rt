@@ -118,7 +118,7 @@ impl StreamScheduler {
         }
     }
 
-    /// The stream sends: the virtual time becomes its finish time, and it has none until its bytes are set anew.
+    /// The stream, which is active, sends: the virtual time becomes its finish time, and it has none until its bytes are set anew.
     pub fn accept(&mut self, id: StreamId)
         requires { IsTrue (is_active id.0 self.old) }
         ensures { self.new ≡ accept id.0 self.old }

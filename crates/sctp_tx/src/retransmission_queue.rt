@@ -90,7 +90,7 @@ impl Model for RetransmissionQueue {
 }
 
 impl RetransmissionQueue {
-    /// A queue whose first TSN is `initial_tsn`, to a peer with this window.
+    /// A queue whose first TSN is `initial_tsn`, to a peer with this window, by valid options.
     pub fn new(
         alloc: Global,
         initial_tsn: Tsn,
@@ -452,7 +452,7 @@ impl RetransmissionQueue {
         (self.windows.mtu() / 4 * 4).saturating_sub(COMMON_HEADER_SIZE)
     }
 
-    /// The forward point, as FORWARD-TSN or, where messages are interleaved, as I-FORWARD-TSN. It fits a packet of `mtu`.
+    /// The forward point, as FORWARD-TSN or, where messages are interleaved, as I-FORWARD-TSN. It fits a packet of `mtu`. None without memory.
     pub fn create_forward_tsn(&self) -> Result<Chunk, AllocError>
         ensures { IfOk result (λ chunk. chunk_tree chunk ≡ forward_chunk self.now) }
     {
@@ -464,7 +464,7 @@ impl RetransmissionQueue {
         }
     }
 
-    /// A reset of streams begins: no forward point crosses the next TSN (RFC 6525 section 5.1.2).
+    /// A reset of streams begins: no forward point crosses the next TSN (RFC 6525 section 5.1.2). Without memory nothing changes.
     pub fn begin_reset_streams(&mut self) -> Result<(), AllocError>
         ensures ok { OnOk result (self.new ≡ record self.old { outstanding = record self.old.outstanding { items = begin_reset self.old.outstanding.items } }) }
         ensures err { OnErr result (self.new ≡ self.old) }
@@ -501,7 +501,7 @@ impl RetransmissionQueue {
         Ok(chunks)
     }
 
-    /// What a packet with room for `max_bytes` of chunks takes, as far as the windows let it go: first the items that
+    /// What a packet with room for `max_bytes` of chunks, fewer than 2^32, takes, as far as the windows let it go: first the items that
     /// wait to be sent again, ascending, then new fragments. Before that, what is left of messages that were given up
     /// leaves the send queue. Without memory none is handed out, and only the first of these steps are done: t3-rtx isn't
     /// started, and a new fragment at which memory ran out has left the queue, and has no TSN.
@@ -534,7 +534,7 @@ impl RetransmissionQueue {
         Ok(list.into_chunks())
     }
 
-    /// The same, into a packet: each fragment is handed to it by reference, in order, with the form. The answer is whether
+    /// The same, into a packet: each fragment is handed to it by reference, in order, with the form. Its room is below 2^32. The answer is whether
     /// there was one. Without memory the packet may have taken the first of them.
     pub fn send_into<P: TakesFragments>(
         &mut self,

@@ -109,7 +109,7 @@ impl Item {
     ghost use Rattle.std.specs.Prelude.{Option, true};
     ghost use Rattle.sctp_tx_outstanding.specs.Item.{is_outstanding, is_open, should_be_retransmitted, is_fast, is_nacked, is_acked, is_abandoned, has_been_retransmitted, has_expired, expiry, or_never, is_used_up, ack, uncover, counts, is_lost, nack, mark_as_retransmitted, miss_fast, abandon, rtt_from};
 
-    /// A fragment that is sent now for the first time.
+    /// A fragment that is sent now for the first time. Its payload has fewer than 2^32 bytes.
     pub fn new(
         message_id: OutgoingMessageId,
         fragment: Data,
@@ -135,7 +135,7 @@ impl Item {
         }
     }
 
-    /// An end of a message that is given up. It is never sent.
+    /// An end of a message that is given up. It is never sent. Its payload has fewer than 2^32 bytes.
     pub fn placeholder(message_id: OutgoingMessageId, fragment: Data) -> Item
         requires small { length fragment.payload.items < 2 ^ 32 }
         ensures { result ≡ record {

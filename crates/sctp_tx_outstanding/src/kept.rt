@@ -450,7 +450,7 @@ impl Kept {
         padded_size(self.indexes.runs.least.min(1 << 32), self.is_interleaved)
     }
 
-    /// Looks how small the items that wait to be sent again are, where none may have a chunk of at most so many bytes.
+    /// Looks how small the items that wait to be sent again are, in each run of which one may have a chunk of at most so many bytes.
     pub(crate) fn renew_least(&mut self, allowed: usize)
         ensures { self.new ≡ self.old }
     {

@@ -6,8 +6,8 @@ ghost use Rattle.sctp_tx_outstanding.specs.Point.{PointsAreSound, PointsGoFar};
 ghost use Rattle.sctp_tx_outstanding.specs.Records.{NewRecordsAreExact, NewItemsRecordOnce, LossesRecordOnce, LifetimesRecordOnce, SacksRecordOnce, ResendingRecordsOnce, TakingRecordsOnce, CountsAreRecorded, LifetimesAreRecorded};
 
 /// Items that are written into a record, which is taken up at the same moment, come back under their TSNs, with all but
-/// what whole milliseconds in 32 bits don't hold, how often an item was reported missing, and whether it waits for the fast
-/// packet. A placeholder, which was never sent, counts as sent once.
+/// what whole milliseconds in 32 bits don't hold, how often an item was reported missing and from which number on reports count, and
+/// whether it waits for the fast packet. A placeholder, which was never sent, counts as sent once.
 pub fn a_record_brings_the_items_back()
     ensures { EachComesBack }
 {}

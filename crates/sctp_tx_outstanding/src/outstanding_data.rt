@@ -580,7 +580,7 @@ impl OutstandingData {
         Ok(bytes)
     }
 
-    /// Takes a SACK, with blocks of any kind: items up to its cumulative TSN leave, in order, and an event says of each message
+    /// Takes a SACK with a valid cumulative TSN, and blocks of any kind: items up to that TSN leave, in order, and an event says of each message
     /// with a lifecycle whose end leaves whether it was delivered; those in blocks are acknowledged, and those that no block covers any more
     /// are in flight again; each that is in flight or missing below the highest one newly acknowledged by a block is
     /// reported missing, and is lost by the third report. `once_a_flight`, the same for each SACK, one that was lost gets reports
@@ -677,7 +677,7 @@ impl OutstandingData {
 
     /// A FORWARD-TSN over the given-up items from the cumulative TSN on, up to a hole, to a breakpoint of a reset, or to an
     /// entry that would make the chunk longer than `max_size` bytes. It names the streams of ordered messages that it
-    /// touches, ascending, each with its last message's number. For messages that are not interleaved.
+    /// touches, ascending, each with its last message's number. For messages that are not interleaved. Without memory there is none.
     pub fn create_forward_tsn(&self, max_size: usize) -> Result<ForwardTsnChunk, AllocError>
         requires { self.now.items.is_interleaved ≡ false }
         ensures { let point = forward_point max_size self.now.items in IfOk result (λ c. forward_tsn_tree c ≡ forward_tsn_chunk (wire_tsn self.now (self.now.items.acked + point.count)) (map ssn_skip point.entries)) }
@@ -690,7 +690,7 @@ impl OutstandingData {
     }
 
     /// The same as an I-FORWARD-TSN, for interleaved messages: it names streams with their ordered and their unordered
-    /// messages.
+    /// messages. Without memory there is none.
     pub fn create_iforward_tsn(&self, max_size: usize) -> Result<IForwardTsnChunk, AllocError>
         requires { self.now.items.is_interleaved ≡ true }
         ensures { let point = forward_point max_size self.now.items in IfOk result (λ c. i_forward_tsn_tree c ≡ i_forward_tsn_chunk (wire_tsn self.now (self.now.items.acked + point.count)) (map mid_skip point.entries)) }

@@ -16,7 +16,7 @@ use std::collections::VecDeque;
 #[derive(Drop)]
 pub struct Passed {
     pub count: usize,
-    /// How many items have left.
+    /// How many items left while they were counted: the number of the first item that is.
     pub left: u64,
     pub touched: Vec<Touched>,
 }

@@ -171,7 +171,7 @@ impl SendQueue {
         self.streams.is_empty()
     }
 
-    /// Accepts a message, and answers its number. Fewer than 2^32 bytes may wait before it: so there are at most 2^32
+    /// Accepts a message of 1 to 2^32 - 1 bytes, and answers its number. Fewer than 2^32 bytes may wait before it: so there are at most 2^32
     /// messages, and no sum of their bytes overflows, also once a new association makes them whole again. Without memory nothing
     /// changes.
     pub fn add(
@@ -316,7 +316,7 @@ impl SendQueue {
         Ok(None)
     }
 
-    /// The next fragment, with a payload of at most `max_payload` bytes, in the scheduler's order. Messages that expired
+    /// The next fragment, with a payload of at most `max_payload` bytes, which is above 0, in the scheduler's order. Messages that expired
     /// before they were begun are dropped on the way: each is given up, and ends its lifecycle. Then events say what
     /// amounts fell to their thresholds, and of a message with a lifecycle that it was handed out whole. `None` says that no stream has
     /// anything to send. Without memory none is made: some of the expired messages may have been dropped, with their events.

@@ -63,7 +63,7 @@ pub fn check_at_least(size: usize, bytes: &[u8]) -> Result<(), ChunkParseError>
     Ok(())
 }
 
-/// `InvalidLength` where the bytes are no fixed part and then whole entries of this width.
+/// `InvalidLength` where the bytes are no fixed part and then whole entries of this width, which is above 0.
 pub fn check_in_steps(fixed: usize, width: usize, bytes: &[u8]) -> Result<(), ChunkParseError>
     requires { 0 < width }
     ensures long { OnOk result (fixed ≤ length bytes.now) }

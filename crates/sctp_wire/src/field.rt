@@ -148,7 +148,7 @@ pub trait Entry: Sized + Drop {
     ghost width_of: { (entry : Self) → length (bytes_of entry) ≡ width };
 }
 
-/// The entries that the bytes are; `InvalidLength` where the last one is cut short.
+/// The entries that the bytes are; `InvalidLength` where the last one is cut short, `Memory` where that lacks.
 pub fn entries_from_bytes<E: Entry>(alloc: Global, bytes: &[u8]) -> Result<Vec<E>, ChunkParseError>
     ensures ok { IfOk result (λ entries. bytes.now ≡ flat_map E.bytes_of entries.items) }
     ensures fits { IfOk result (λ entries. All E.in_range entries.items) }

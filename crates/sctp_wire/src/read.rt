@@ -21,7 +21,7 @@ pub trait FromItem: Sized + Drop {
         ensures refused { IfErr result (refuses (raw_item item.entry)) };
 }
 
-/// What the items say that the bytes are, from the left. The fault is that of the first item that says nothing.
+/// What the items say that the bytes are, from the left. The fault is that of the first item that says nothing, `Memory` where that lacks.
 pub fn items_from_bytes<T: FromItem>(alloc: Global, bytes: &[u8]) -> Result<Vec<T>, ChunkParseError>
     ensures ok { IfOk result (λ values. ParsesAll T.stands_for bytes.now values.items []) }
     ensures refused { IfErr result (λ fault. (fault ≡ ChunkParseError.Memory)

@@ -101,7 +101,7 @@ fn push_zeros(count: usize, output: &mut Vec<u8>) -> Result<(), AllocError>
     output.extend_from_slice(&[0, 0, 0][..count])
 }
 
-/// Appends an item's header: its first two bytes, and its length in bytes.
+/// Appends an item's header: its first two bytes, and its length in bytes, which is below 2^16.
 #[tactic(auto, unfolding(crate::specs::Field::be16))]
 pub fn write_item_header(
     kind: [u8; 2],
@@ -116,7 +116,7 @@ pub fn write_item_header(
     output.extend_from_slice(&[kind[0], kind[1], length[0], length[1]])
 }
 
-/// Appends the header of a parameter or a cause: its type, and its length in bytes.
+/// Appends the header of a parameter or a cause: its type, and its length in bytes, which is below 2^16.
 pub fn write_parameter_header(
     typ: u16,
     value_size: usize,

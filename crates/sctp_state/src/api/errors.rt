@@ -36,6 +36,7 @@ pub enum SendError {
     /// The payload has `len` bytes, and at most `limit` are accepted.
     #[error("message size ({len}) exceeds configured max_message_size ({limit})")]
     MessageTooLarge { len: usize, limit: usize },
+    /// The association is being closed. A closed socket queues what is sent.
     #[error("socket is shutting down or closed")]
     ShuttingDown,
     /// The queue of the stream, or of all streams, is full.

@@ -104,7 +104,7 @@ pub struct HandoverOutstandingData {
     pub acked: bool,
     /// Its message was given up.
     pub is_abandoned: bool,
-    /// It was reported missing.
+    /// It was reported missing, or is lost and waits to be sent again.
     pub is_nacked: bool,
     /// It waits to be sent again.
     pub is_to_be_retransmitted: bool,

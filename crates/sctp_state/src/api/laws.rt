@@ -162,7 +162,7 @@ pub fn is_same_restore_error(a: &RestoreError, b: &RestoreError) -> bool
     a == b
 }
 
-/// `try_clone` of options.
+/// `clone` of options, where there is memory.
 pub fn copy_of_options(options: &Options) -> Result<Options, AllocError>
     ensures { IfOk result (λ copy. options_of copy ≡ options_of options.now) }
 {

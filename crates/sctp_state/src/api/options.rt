@@ -54,7 +54,7 @@ pub struct Options {
     pub max_send_buffer_size: usize,
     /// A stream that holds as much takes no further message. Below 2^32.
     pub per_stream_send_queue_limit: usize,
-    /// An event is emitted when a fragment that goes out, or with `avoid_stalls` what is given up, brings the queued amount of all streams to this.
+    /// An event is emitted when a fragment that goes out, or with `avoid_stalls` expiry or a dropped rest, brings the total queued amount to this.
     pub total_buffered_amount_low_threshold: usize,
     /// The same of the queued amount of a stream, where none is set for the stream.
     pub default_stream_buffered_amount_low_threshold: usize,

@@ -49,7 +49,7 @@ impl RetransmissionQueue {
         Ok(())
     }
 
-    /// Takes up the items, the TSNs and the windows of a record now, in place of its own; t3-rtx stops, until a chunk is
+    /// Takes up the items, the TSNs and the windows of a valid record of a connected socket now, in place of its own; t3-rtx stops, until a chunk is
     /// handed out, a SACK leaves something in flight, or `wake` starts it. The first TSN has to be the other socket's. Without memory nothing changes.
     pub fn restore_from_state(
         &mut self,

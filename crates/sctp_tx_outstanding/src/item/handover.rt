@@ -91,7 +91,7 @@ impl Item {
         })
     }
 
-    /// The item of a record, in the socket that takes it up now.
+    /// The item of a record, in the socket that takes it up now. Its payload has fewer than 2^32 bytes.
     pub fn restored(
         alloc: Global,
         now: SocketTime,

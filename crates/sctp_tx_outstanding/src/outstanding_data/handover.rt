@@ -31,8 +31,8 @@ impl OutstandingData {
         Ok(())
     }
 
-    /// Takes up the items and the peer's cumulative TSN of a record now, in place of its own. Numbers are counted from the
-    /// first TSN again, which the other socket's has to be. Without memory nothing changes.
+    /// Takes up the items and the peer's cumulative TSN of a valid record of a connected socket now, in place of its own. Numbers are counted from
+    /// the first TSN again, which the other socket's has to be. Without memory nothing changes.
     pub fn restore_from_state(
         &mut self,
         now: SocketTime,

@@ -71,7 +71,7 @@ fn begun_from(is_interleaved: bool, messages: &[HandoverStreamMessage]) -> Optio
 }
 
 impl SendQueue {
-    /// Takes up the streams, the messages and the count of accepted messages of a record now, in place of its own, and
+    /// Takes up the streams, the messages and the count of accepted messages of a valid record of a connected socket now, in place of its own, and
     /// whether messages are interleaved. Streams send, and have the default threshold. A message that is partly sent goes
     /// on, and the virtual time begins at 0. Without memory nothing changes.
     #[tactic(auto, using(crate::proofs::AddedLemmas::any_keeps))]

@@ -325,7 +325,7 @@ impl Streams {
     }
 
     /// A stream sends its next fragment, of at most `size` bytes, with its events: the stream goes in line for the one after
-    /// it; one that has none leaves. Without memory nothing changes. It may have changed then, also without memory.
+    /// it; one that has none leaves. Without memory nothing changes but `changed`: the stream joins it, as it does else, unless it is there.
     pub(crate) fn send_front(
         &mut self,
         turn: StreamTurn,

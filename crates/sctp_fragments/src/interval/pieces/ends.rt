@@ -12,7 +12,7 @@ use crate::interval::{Entry, Size};
 use std::alloc::{AllocError, Global};
 use std::collections::VecDeque;
 
-/// With so many entries a piece is full. One that became a part of a longer interval may have one more.
+/// With so many entries a piece is full. One that another interval was joined to may have a few more.
 const FULL: usize = 512;
 
 /// So many places a new piece has.
