@@ -15,10 +15,6 @@ static struct block block_at(void *at) {
     return (struct block){at != NULL, at != NULL ? at : &nothing};
 }
 
-struct block rattle_alloc(uint64_t size, uint64_t align);
-struct block rattle_realloc(void *at, uint64_t from, uint64_t size, uint64_t align);
-void rattle_dealloc(void *at);
-
 // At most the alignment of malloc is asked for. A block of no bytes has an address of its own.
 struct block rattle_alloc(uint64_t size, uint64_t align) {
     return block_at(malloc(size != 0 ? size : align));
