@@ -141,7 +141,7 @@ typedef struct pigeon_options {
     size_t size; /* sizeof(pigeon_options) */
     uint16_t local_port;  /* [5000] ports are written into packets, and not compared in those that come */
     uint16_t remote_port; /* [5000] */
-    uint16_t announced_maximum_incoming_streams; /* [65,535] how many streams the peer may send on */
+    uint16_t announced_maximum_incoming_streams; /* [65,535] how many streams the peer may send on: announced, and held by channels alone */
     uint16_t announced_maximum_outgoing_streams; /* [65,535] how many streams this end would send on */
     uint16_t default_stream_priority;            /* [256] of a stream for which none is set */
     /* [PIGEON_CHECKSUM_CRC32C] PIGEON_CHECKSUM_ZERO: all packets carry the word 0, the INIT too, and one with a CRC32c is refused, so that both
@@ -155,7 +155,7 @@ typedef struct pigeon_options {
     uint32_t max_receiver_window_buffer_size;
     uint32_t max_send_buffer_size;        /* [2,000,000] with as much queued on all streams no further message is taken */
     uint32_t per_stream_send_queue_limit; /* [2,000,000] the same of one stream */
-    uint32_t total_buffered_amount_low_threshold;          /* [1,800,000] of PIGEON_TOTAL_BUFFERED_AMOUNT_LOW */
+    uint32_t total_buffered_amount_low_threshold;          /* [1,800,000] of PIGEON_TOTAL_BUFFERED_AMOUNT_LOW; below max_send_buffer_size */
     uint32_t default_stream_buffered_amount_low_threshold; /* [0] of PIGEON_BUFFERED_AMOUNT_LOW, for a stream for which none is set */
     uint32_t cwnd_mtus_initial;              /* [10] the congestion window at first. 1 to 65,535 */
     uint32_t cwnd_mtus_min;                  /* [4] the least one behind a loss; behind a timeout it is 1. 1 to 65,535 */
@@ -239,8 +239,8 @@ uint32_t pigeon_connect(pigeon_socket *socket);
  * it is. Call it behind PIGEON_ON_CONNECTED: before, the socket closes at once, or sends its COOKIE ECHO no more. Advance the time first. */
 uint32_t pigeon_shutdown(pigeon_socket *socket);
 /* Ends the association at once, with an ABORT to the peer unless its INIT ACK is still waited for (RFC 9260 section 9.1). Without PIGEON_AVOID_STALLS
- * the send queue stays, here and where the peer aborts: what it holds goes to the peer of the next association, a partly sent message from its
- * start, but from its middle at an end that answers the peer's COOKIE ECHO. With it each message is given up, as PIGEON_CAUSE_ENDED. */
+ * the send queue stays, here and where the peer aborts or restarts: what it holds goes to the peer of the next association, a partly sent message
+ * from its start, but after an end from its middle where this end answers a COOKIE ECHO. With it each message is given up, as PIGEON_CAUSE_ENDED. */
 uint32_t pigeon_close(pigeon_socket *socket);
 /* Takes the bytes of a packet that came. What is no packet, not one for this association, or one of more than 4 SACKs and COOKIE ECHOs, is emitted
  * as an error. Advance the time first: a round trip ends at the moment of the clock. */
@@ -379,11 +379,12 @@ typedef struct pigeon_send_options {
 
 #define PIGEON_SEND_OPTIONS {sizeof(pigeon_send_options), 0, 0, 0, 0}
 
-/* Queues a message, which is copied, and sends as much as may be sent. Advance the time first: lifetime, round trip and retransmission count
- * from the clock's moment. A full queue emits an error at each call: go on at PIGEON_BUFFERED_AMOUNT_LOW of the stream, or PIGEON_TOTAL_BUFFERED_AMOUNT_LOW,
- * and look each turn where messages are given up or streams reset, since then neither need come. PIGEON_EMPTY_PAYLOAD, PIGEON_MESSAGE_TOO_LARGE,
- * PIGEON_SHUTTING_DOWN, PIGEON_QUEUE_FULL: it isn't queued, and emits PIGEON_LIFECYCLE_END of its lifecycle, then PIGEON_ON_ERROR. PIGEON_INVALID_ARGUMENT:
- * flags that there aren't, or a max_retransmissions above 65,535. PIGEON_INVALID_SIZE. PIGEON_INVALID_STREAM. PIGEON_NO_ROOM: no memory for the copy. */
+/* Queues a message, which is copied, and sends as much as may be sent. Advance the time first: lifetime, round trip and retransmission count from the
+ * clock's moment. A full queue emits an error at each call: go on at PIGEON_BUFFERED_AMOUNT_LOW of the stream, or PIGEON_TOTAL_BUFFERED_AMOUNT_LOW,
+ * where more than the threshold waits, and look each turn where messages are given up or streams reset, since then neither need come.
+ * PIGEON_EMPTY_PAYLOAD, PIGEON_MESSAGE_TOO_LARGE, PIGEON_SHUTTING_DOWN, PIGEON_QUEUE_FULL: it isn't queued, and emits PIGEON_LIFECYCLE_END of its
+ * lifecycle, then PIGEON_ON_ERROR. PIGEON_INVALID_ARGUMENT: flags that there aren't, or a max_retransmissions above 65,535. PIGEON_INVALID_SIZE.
+ * PIGEON_INVALID_STREAM. PIGEON_NO_ROOM: no memory for the copy. */
 uint32_t pigeon_send_sized(pigeon_socket *socket, uint32_t stream, uint32_t ppid, const uint8_t *payload, size_t length, const void *options,
                            size_t size);
 static inline uint32_t pigeon_send(pigeon_socket *socket, uint32_t stream, uint32_t ppid, const uint8_t *payload, size_t length,
@@ -444,9 +445,9 @@ uint32_t pigeon_next_given_up(pigeon_socket *socket, pigeon_given_up *record);
 
 enum {
     PIGEON_SEND_PACKET = 0, /* the buffer has a packet to be sent to the peer */
-    PIGEON_ON_CONNECTED = 1, /* what came with the peer's COOKIE ECHO is ready by then; on channels it is told before */
+    PIGEON_ON_CONNECTED = 1, /* what came with the peer's COOKIE ECHO is ready by then; on channels it is told behind */
     PIGEON_ON_CLOSED = 2,    /* the association has ended, by a call of this end, a handover too, or by a shutdown of the peer */
-    PIGEON_ON_CONNECTION_RESTARTED = 3, /* the peer began anew: messages may be lost, what waits stays, and PIGEON_ON_CONNECTED follows */
+    PIGEON_ON_CONNECTION_RESTARTED = 3, /* the peer began anew: messages may be lost, and PIGEON_ON_CONNECTED follows; see pigeon_close for what waits */
     PIGEON_ON_ABORTED = 4,              /* the socket was closed for `error`; the buffer has its text: `length` bytes of UTF-8, without a zero byte */
     PIGEON_ON_ERROR = 5,                /* `error` closes nothing; the buffer has its text, likewise */
     PIGEON_BUFFERED_AMOUNT_LOW = 6,     /* of `stream` */
@@ -529,17 +530,18 @@ static inline uint32_t pigeon_borrow_event(pigeon_socket *socket, pigeon_event *
  *
  * pigeon_channels_handle_input takes the place of pigeon_handle_input, by which channels would see what two packets brought in another order, and
  * pigeon_channels_borrow_event that of pigeon_borrow_event, pigeon_poll_event, pigeon_borrow_message and pigeon_next_message: what those take the
- * channels don't see. Nor is pigeon_send or pigeon_reset_stream called for a stream that has a channel; and any stream that the peer resets is
- * reset in turn, without a channel once as long as nothing comes on it, by which what waits on it is dropped. A channel's number is its stream's:
- * pigeon_buffered_amount, pigeon_set_buffered_amount_low_threshold and pigeon_buffered_amount_low_threshold take it, and PIGEON_BUFFERED_AMOUNT_LOW
- * says it; a threshold stays with the stream, also for a channel that is opened there later. Channels end with their association, each with its
- * PIGEON_CHANNEL_CLOSED before PIGEON_ON_CLOSED, PIGEON_ON_ABORTED or PIGEON_ON_CONNECTION_RESTARTED; a record that is handed over has none. One
- * on a stream that the association doesn't have as it begins has its own before PIGEON_ON_CONNECTED.
- * pigeon_advance_time too may end it: an owner who connects again takes events behind it before it opens or sends. A channel that is opened between
- * is closed with the old association, and what was sent goes out in the next one.
+ * channels don't see. Nor is pigeon_send or pigeon_reset_stream called for a stream that has a channel; and any stream of the association that the
+ * peer resets is reset in turn, without a channel once as long as nothing comes on it, by which what waits on it is dropped. A channel's number is
+ * its stream's: pigeon_buffered_amount, pigeon_set_buffered_amount_low_threshold and pigeon_buffered_amount_low_threshold take it, and
+ * PIGEON_BUFFERED_AMOUNT_LOW says it; a threshold stays with the stream, also for a channel that is opened there later. Channels end with their
+ * association, each with its PIGEON_CHANNEL_CLOSED before PIGEON_ON_CLOSED, PIGEON_ON_ABORTED or PIGEON_ON_CONNECTION_RESTARTED; a record that is
+ * handed over has none. One on a stream that the association doesn't have as it begins has its own before PIGEON_ON_CONNECTED. Calls may end it too
+ * (pigeon_advance_time, pigeon_close): who connects again takes events behind them before it opens or sends. A channel that is opened between is
+ * closed with the old association, and what was sent goes out in the next one.
  *
- * Of each packet messages are told before events. So what comes with a COOKIE ECHO is told before PIGEON_ON_CONNECTED; and where the peer restarts
- * it is told as of the old channels, then all of these are closed, also one that it opened. What the old ones had queued goes out all the same.
+ * Of each packet messages are told before events, but behind those that say how the association stands, and behind what was emitted before it. So
+ * what comes with a COOKIE ECHO is told behind PIGEON_ON_CONNECTED, where the peer restarts as of new channels: the old ones are closed before.
+ * What these had queued goes out without PIGEON_AVOID_STALLS.
  *
  * Each of these calls answers PIGEON_NO_CHANNELS where there are none, and PIGEON_INVALID_STREAM for a number above 65,535. PIGEON_MEMORY, PIGEON_FAILED:
  * channels have failed, or the socket and they, and the socket is to be freed; later calls need not say so.
@@ -554,7 +556,7 @@ typedef struct pigeon_channels_options {
     uint32_t role;
     uint32_t max_message_size;      /* own a=max-message-size (RFC 8841): longer messages that come are refused; at 0 all but empty ones */
     uint32_t peer_max_message_size; /* the peer's, 65,536 where its description has none: a longer message isn't sent; any is at 0 */
-    uint32_t max_buffered_amount;   /* a message by which more than this would wait on its channel isn't taken; nor is any where
+    uint32_t max_buffered_amount;   /* a message by whose length more than this would wait on its channel isn't taken; nor is any where
                                        per_stream_send_queue_limit or max_send_buffer_size of the socket's options waits already */
     uint32_t max_kept_bytes;        /* of labels, protocols and unfinished messages that all channels keep: an opening by the peer beyond it
                                        is refused, and a part of a message beyond it drops that; what this end opens counts and is taken */
@@ -596,9 +598,10 @@ static inline uint32_t pigeon_channel_open(pigeon_socket *socket, const pigeon_c
                                      strlen(protocol), channel);
 }
 
-/* A channel that both ends have agreed on beforehand, by any number that is free; it is open at once. Whether an association that stands
- * has its stream isn't looked at: the lesser of negotiated_maximum_incoming_streams and negotiated_maximum_outgoing_streams of the
- * metrics says it. PIGEON_INVALID_SIZE, PIGEON_INVALID_ARGUMENT, PIGEON_NOT_UTF8, PIGEON_STREAM_IN_USE, PIGEON_NO_ROOM: nothing changes. */
+/* A channel that both ends have agreed on beforehand, by any number that is free; it is open at once. Whether an association that stands has its
+ * stream isn't looked at: the lesser of negotiated_maximum_incoming_streams and negotiated_maximum_outgoing_streams of the metrics says it, and a
+ * channel beyond that may stay closing. PIGEON_INVALID_SIZE, PIGEON_INVALID_ARGUMENT, PIGEON_NOT_UTF8, PIGEON_STREAM_IN_USE, PIGEON_NO_ROOM: nothing
+ * changes. */
 uint32_t pigeon_channel_negotiate_sized(pigeon_socket *socket, uint32_t channel, const void *options, size_t size, const uint8_t *label,
                                         size_t label_length, const uint8_t *protocol, size_t protocol_length);
 static inline uint32_t pigeon_channel_negotiate(pigeon_socket *socket, uint32_t channel, const pigeon_channel_options *options, const char *label,
@@ -611,8 +614,8 @@ static inline uint32_t pigeon_channel_negotiate(pigeon_socket *socket, uint32_t 
  * PIGEON_INVALID_ARGUMENT (another kind), PIGEON_NO_CHANNEL, PIGEON_CHANNEL_CLOSING, PIGEON_NOT_UTF8, PIGEON_MESSAGE_TOO_LARGE (for the peer),
  * PIGEON_QUEUE_FULL (max_buffered_amount, which a longer message always exceeds: go on at PIGEON_BUFFERED_AMOUNT_LOW, where more than the threshold
  * waits), PIGEON_NOT_TAKEN (the socket's queue of all streams, or of this one, is full: go on at PIGEON_TOTAL_BUFFERED_AMOUNT_LOW, or
- * PIGEON_BUFFERED_AMOUNT_LOW; or its own max_message_size is exceeded, or it shuts down: then it never is; PIGEON_ON_ERROR is emitted each time),
- * PIGEON_NO_ROOM: it isn't sent. */
+ * PIGEON_BUFFERED_AMOUNT_LOW, likewise; or its own max_message_size is exceeded, or it shuts down: then it never is; PIGEON_ON_ERROR is emitted each
+ * time), PIGEON_NO_ROOM: it isn't sent. */
 uint32_t pigeon_channel_send(pigeon_socket *socket, uint32_t channel, uint32_t kind, const uint8_t *payload, size_t length);
 
 /* Closes a channel: what was accepted is sent, then its stream is reset. PIGEON_CHANNEL_CLOSED tells when that is done. Where the peer closes

@@ -37,8 +37,8 @@ __version__ = "0.1.0"
 
 
 def use_for(aiortc, **settings) -> None:
-    """Has aiortc's peer connections that are made from now on speak by this library's SCTP: `shelfpigeon.use_for(aiortc)`. The settings are those
-    of `shelfpigeon.for_aiortc.Settings`."""
+    """Has aiortc's peer connections that have their first data channel from now on speak by this library's SCTP: `shelfpigeon.use_for(aiortc)`,
+    before they are made. The settings are those of `shelfpigeon.for_aiortc.Settings`."""
     from .for_aiortc import use_for
 
     use_for(aiortc, **settings)

@@ -23,7 +23,7 @@ from . import events
 from .channels import Channel as PlainChannel
 from .channels import Channels
 from .declarations import OptionsStruct, Statistics
-from .names import NoChannel, Role, SocketFailed, State
+from .names import NoChannel, QueueFull, Role, SocketFailed, State
 from .sockets import Options
 
 logger = logging.getLogger(__name__)
@@ -89,6 +89,10 @@ class Driver:
         self._timer: Optional[asyncio.TimerHandle] = None
         self._due = 0
         self._planned = self._turning = self._stopped = False
+
+    @property
+    def is_turning(self) -> bool:
+        return self._turning
 
     def advance(self) -> None:
         """Advances the time."""
@@ -278,7 +282,7 @@ class Channel:
         return self._channel.statistics
 
     async def opened(self) -> None:
-        """Waits until the peer has it. Messages may be sent before."""
+        """Waits until the peer has it, which isn't known of a channel that was negotiated. Messages may be sent before."""
         await self._opened.wait()
         self._alive()
 
@@ -295,6 +299,10 @@ class Channel:
                 self._channel.send(message)
         except NoChannel:
             raise self._gone() from None
+        except QueueFull:
+            if self._connection.socket.state == State.CLOSING:  # the peer shuts down
+                raise self._gone() from None
+            raise
 
     async def receive(self) -> Union[str, bytes]:
         """The next message. ChannelClosed: none comes any more."""
@@ -353,8 +361,9 @@ class Connection:
 
     Each channel buffers `high_water` bytes, then `Channel.send` waits; it raises QueueFull where the options let less wait, on a stream (16 MiB by
     `Options.for_webrtc`) or on all. Beyond `read_limit` bytes that came and weren't received, where each message counts 64 more, and of text that isn't
-    ASCII each character four, the wire is told to pause: what it then drops the peer sends again, and slower. Meanwhile no acknowledgement comes
-    either: what is sent here waits, `close` waits in vain, and after some minutes the association is aborted (`max_retransmissions`). Label and
+    ASCII each character four, the wire is told to pause: what it then drops the peer sends again, and slower, but for an ABORT, and messages that
+    its channels give up. Meanwhile no acknowledgement comes either: what is sent here waits, `close` waits in vain, and after some minutes, or 13
+    seconds where both a message and the close of a channel wait for answers, the association is aborted (`max_retransmissions`). Label and
     protocol of a channel count so until it is accepted. So the channels that the peer opens are to be accepted, and those that aren't read any more
     closed. While 1,024 wait to be accepted the next ones are closed; one that the peer has closed meanwhile, by which nothing came, waits no more.
 
@@ -399,6 +408,7 @@ class Connection:
     async def connect(self) -> None:
         """Opens the association; both ends may, each before a packet of the other comes: else what that one has sent may be lost, and this end awaits
         `connected` alone. ConnectionError: it could not be."""
+        self._alive()
         if self.socket.state == State.CLOSED:
             with self._driver.calls() as channels:
                 channels.connect()
@@ -418,6 +428,8 @@ class Connection:
         """Opens a channel; `kind` is as of `Channels.open`. Messages may be sent at once."""
         self._alive()
         with self._driver.calls() as channels:
+            if channels.state == State.CLOSING:
+                raise ConnectionError("the association is ending")
             return self._channel_of(channels.open(label, protocol, **kind))
 
     def negotiate(self, id: int, label: str = "", protocol: str = "", **kind) -> Channel:
@@ -463,8 +475,11 @@ class Connection:
         if not self._closed.is_set():
             with self._driver.calls() as channels:
                 channels.close()
-            self._driver.turn()
-            self._end()
+            if self._driver.is_turning:  # the wire has called: the turn sends the ABORT yet
+                asyncio.get_running_loop().call_soon(self._end)
+            else:
+                self._driver.turn()
+                self._end()
 
     async def wait_closed(self) -> None:
         await self._closed.wait()
@@ -537,17 +552,20 @@ class Connection:
 
     def _turned(self) -> None:
         """Where messages were given up there may be room again of which no event says so; with `AVOID_STALLS` only by a reset or an end."""
+        before = len(self._held_back)
         for channel in next_in_turn(self._held_back):
             if channel.buffered_amount <= self.high_water // 2:
                 channel._room.set()
             else:
                 self._held_back[channel] = None
+        if 0 < len(self._held_back) < before:
+            self._driver.soon()  # where nothing is in flight no other turn comes
 
     def _read(self, size: int) -> None:
         self._unread -= size
         if self._paused and self._unread <= self.read_limit // 2:
             self._paused = False
-            self._wire.resume_reading()
+            tell(self._driver._loop, "the end of a pause", self._wire.resume_reading)
 
     def _forget(self, size: int) -> None:
         """As `_read`, of a channel that is collected, in whichever thread."""

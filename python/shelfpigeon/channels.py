@@ -72,7 +72,7 @@ class Channel:
 
     @property
     def buffered_amount(self) -> int:
-        """The bytes that wait to be sent."""
+        """The bytes that wait to be sent, those of its opening too: 12, its label and its protocol."""
         return 0 if self.is_closed else self._channels.buffered_amount(self.id)
 
     @property

@@ -30,7 +30,7 @@ class Closed:
 
 @dataclass(slots=True)
 class Restarted:
-    """The peer began anew: messages may be lost, what waits stays, and Connected follows."""
+    """The peer began anew: messages may be lost, and Connected follows. With avoid_stalls what waited is given up."""
 
 
 @dataclass(slots=True)

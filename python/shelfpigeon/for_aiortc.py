@@ -22,7 +22,7 @@ from aiortc.rtcsctptransport import RTCSctpCapabilities, RTCSctpTransport  # typ
 from . import events
 from .aio import Driver, next_in_turn, options_for, sent_at_most, tell
 from .channels import Channel, Channels, channel_options
-from .names import MessageTooLarge, NoChannel, PigeonError, QueueFull, Role, SocketFailed
+from .names import MessageTooLarge, NoChannel, PigeonError, QueueFull, Role, SocketFailed, State
 
 logger = logging.getLogger(__name__)
 
@@ -228,12 +228,15 @@ class SctpTransport(RTCSctpTransport):
 
     def _count(self) -> None:
         """Recounts what channels buffer, in turn. Which is low is told of each."""
+        before = len(self._buffering)
         for mine in next_in_turn(self._buffering):
             self._tell("bufferedamountlow", self._recount, mine)
+        if 0 < len(self._buffering) < before:
+            self._driven().soon()  # where nothing is in flight no other turn comes
 
     def _recount(self, mine: RTCDataChannel) -> None:
         """Has bufferedAmount follow what waits, by which bufferedamountlow is emitted."""
-        waits = self._plain[mine].buffered_amount if mine in self._plain else 0
+        waits = min(self._plain[mine].buffered_amount, mine.bufferedAmount) if mine in self._plain else 0  # a message of the opening isn't the owner's
         if waits:
             self._buffering[mine] = None
         else:
@@ -261,7 +264,7 @@ class SctpTransport(RTCSctpTransport):
             self._tell("the end of a channel", mine._setReadyState, "closed")
 
     def _data_channel_open(self, mine: RTCDataChannel) -> None:
-        if self._state_name == "closed":
+        if self._state_name == "closed" or self._driver and self._driver.channels.state == State.CLOSING:
             raise InvalidStateError
         if len(mine.label.encode()) > 65535 or len(mine.protocol.encode()) > 65535:
             raise ValueError("a label or a protocol has at most 65,535 bytes")
@@ -287,10 +290,13 @@ class SctpTransport(RTCSctpTransport):
                     channel.buffered_amount_low_threshold = self._low[mine] = mine.bufferedAmountLowThreshold
                 channel.send(data)
         except NoChannel:
+            mine._setReadyState("closing")  # the peer closes it
             raise InvalidStateError from None
         except MessageTooLarge as fault:
             raise ValueError(str(fault)) from None
         except QueueFull as fault:
+            if self._driven().channels.state == State.CLOSING:  # the peer shuts down
+                raise InvalidStateError from None
             raise OperationError(str(fault)) from None
         mine._addBufferedAmount(len(data) if isinstance(data, bytes) else len(data.encode()))
         self._buffering[mine] = None
@@ -313,8 +319,8 @@ def kind_of(mine: RTCDataChannel) -> dict:
 
 
 def use_for(aiortc: ModuleType, **settings) -> None:
-    """Has peer connections that are made from now on use this library, with these `Settings`. They offer it by RFC 8841: in answer to aiortc's older form
-    Chromium doesn't say the size of its largest message."""
+    """Has peer connections use this library, with these `Settings`, that have their first data channel from now on. Those that are made from now on
+    offer it by RFC 8841: in answer to aiortc's older form Chromium doesn't say the size of its largest message."""
     transport = type("SctpTransport", (SctpTransport,), {"settings": Settings(**settings)})
     setattr(aiortc.rtcpeerconnection, "RTCSctpTransport", transport)
     setattr(aiortc, "RTCSctpTransport", transport)

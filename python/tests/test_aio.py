@@ -5,7 +5,7 @@ import random
 
 import pytest
 
-from shelfpigeon import MessageTooLarge, Options, Role, SocketFailed, State, aio, events
+from shelfpigeon import MessageTooLarge, OptionFlags, Options, Role, SocketFailed, State, aio, events
 from shelfpigeon.names import Answer
 
 
@@ -458,3 +458,83 @@ async def test_where_a_call_finds_too_little_memory_all_ends():
 
 def test_what_a_message_counts():
     assert [aio.size_of(it) for it in (b"", "abc", b"abc", "é\U0001f426")] == [64, 67, 67, 72]
+
+
+@run
+async def test_of_many_that_are_held_back_none_waits_where_nothing_is_in_flight():
+    options = Options.default()
+    options.flags |= OptionFlags.PARTIAL_RELIABILITY
+    a, b = await pair(high_water=4000, options=options)
+    made = [a.open(str(number), lifetime=50) for number in range(100)]
+    for channel in made:
+        await channel.opened()
+    a._wire.rate = 1.0
+
+    async def send(channel):
+        for _ in range(4):
+            await channel.send(bytes(2000))
+
+    sending = [asyncio.ensure_future(send(it)) for it in made]
+    await asyncio.sleep(0.3)
+    for task in sending[:92]:
+        task.cancel()
+    a._wire.rate = 0.0
+    await asyncio.wait_for(asyncio.gather(*sending[92:]), 10)
+    a.abort()
+    b.abort()
+
+
+@run
+async def test_who_sends_as_the_peer_shuts_down_is_told_that_the_channel_is_closed():
+    a, b = await pair()
+    channel = a.open("chat")
+    await channel.opened()
+    for _ in range(4):
+        await channel.send(bytes(200000))
+    with b._driver.calls() as channels:
+        channels.shutdown()
+    while a.socket.state != State.CLOSING:
+        await asyncio.sleep(0)
+    with pytest.raises(aio.ChannelClosed):
+        await channel.send("late")
+    with pytest.raises(ConnectionError):
+        a.open("late")
+    await asyncio.gather(a.wait_closed(), b.wait_closed())
+
+
+@run
+async def test_a_connection_that_has_ended_connects_no_more():
+    a, b = await pair()
+    await a.close()
+    with pytest.raises(ConnectionError):
+        await a.connect()
+    assert a.socket.state == State.CLOSED
+    await b.wait_closed()
+
+
+@run
+async def test_a_wire_that_aborts_has_the_peer_told():
+    a, b = await pair(read_limit=1000)
+    b._wire.pause_reading = b.abort
+    await a.open("chat").send(bytes(2000))
+    await asyncio.gather(a.wait_closed(), b.wait_closed())
+    assert a.error.cause == 12 and b._wire.closes == 1
+
+
+@run
+async def test_a_wire_that_fails_to_resume_takes_no_message():
+    told = []
+    asyncio.get_running_loop().set_exception_handler(lambda loop, context: told.append(str(context["exception"])))
+    a, b = await pair(read_limit=1000)
+    await a.open("chat").send(bytes(2000))
+    theirs = await b.accept()
+    while not b._wire.paused:
+        await asyncio.sleep(0.005)
+
+    def fails():
+        raise RuntimeError("the wire's")
+
+    b._wire.resume_reading = fails
+    assert await theirs.receive() == bytes(2000) and told == ["the wire's"]
+    a.abort()
+    b.abort()

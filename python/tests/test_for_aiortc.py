@@ -9,7 +9,7 @@ import aioice.ice  # noqa: E402
 from aiortc.exceptions import InvalidStateError  # noqa: E402
 
 import shelfpigeon  # noqa: E402
-from shelfpigeon import Options, events  # noqa: E402
+from shelfpigeon import ChannelState, Options, State, events  # noqa: E402
 
 OWN = aiortc.rtcpeerconnection.RTCSctpTransport
 
@@ -26,7 +26,9 @@ def make(ours: bool, **settings):
         shelfpigeon.use_for(aiortc, **settings)
     else:
         aiortc.rtcpeerconnection.RTCSctpTransport = OWN
-    return aiortc.RTCPeerConnection(aiortc.RTCConfiguration(iceServers=[]))
+    end = aiortc.RTCPeerConnection(aiortc.RTCConfiguration(iceServers=[]))
+    end._RTCPeerConnection__createSctpTransport()  # else the other end's `make` decides which one it is
+    return end
 
 
 async def join(a, b) -> None:
@@ -58,6 +60,7 @@ def test_a_chat(ours):
         a, b = make(ours[0]), make(ours[1])
         first, came, theirs = a.createDataChannel("first", ordered=False, maxRetransmits=5), [], []
         agreed = [end.createDataChannel("agreed", negotiated=True, id=100) for end in (a, b)]
+        assert [isinstance(it.sctp, OWN) and type(it.sctp) is not OWN for it in (a, b)] == list(ours)
         b.on("datachannel", theirs.append)
         first.on("message", came.append)
         await join(a, b)
@@ -260,6 +263,93 @@ def test_of_many_channels_that_buffer_each_is_counted():
         await asyncio.gather(a.close(), b.close())
 
     asyncio.run(asyncio.wait_for(counts(), 60))
+
+
+def test_of_many_channels_that_buffer_less_than_their_thresholds_each_is_counted():
+    async def counts():
+        a, b = make(True), make(True)
+        made = [a.createDataChannel(str(number)) for number in range(1000)]
+        await join(a, b)
+        await until(lambda: all(it.readyState == "open" for it in made) and a.sctp.socket.is_at_rest)
+        for channel in made:
+            channel.bufferedAmountLowThreshold = 500
+        for channel in made:
+            channel.send(bytes(100))
+        await asyncio.wait_for(until(lambda: not any(it.bufferedAmount for it in made)), 10)
+        await asyncio.gather(a.close(), b.close())
+
+    asyncio.run(asyncio.wait_for(counts(), 60))
+
+
+def test_a_channel_that_the_peer_closes_says_so_where_it_sends():
+    async def closes():
+        a, b = make(True), make(True)
+        mine, theirs = a.createDataChannel("chat"), []
+        b.on("datachannel", theirs.append)
+        await join(a, b)
+        await until(lambda: mine.readyState == "open" and theirs)
+        send, theirs = b.sctp.transport._send_data, theirs[0]
+
+        async def loses(packet):
+            pass
+
+        b.sctp.transport._send_data = loses
+        mine.close()
+        await until(lambda: b.sctp._plain[theirs].state == ChannelState.CLOSING)
+        with pytest.raises(InvalidStateError):
+            theirs.send("late")
+        assert theirs.readyState == "closing"
+        b.sctp.transport._send_data = send
+        await until(lambda: mine.readyState == theirs.readyState == "closed")
+        await asyncio.gather(a.close(), b.close())
+
+    asyncio.run(asyncio.wait_for(closes(), 30))
+
+
+def test_what_is_said_at_the_opening_is_not_buffered():
+    async def counts():
+        a, b = make(True), make(True)
+        big, theirs = b.createDataChannel("big"), []
+        b.on("datachannel", theirs.append)
+        await join(b, a)
+        await until(lambda: big.readyState == "open")
+        send = b.sctp.transport._send_data
+
+        async def loses(packet):
+            pass
+
+        b.sctp.transport._send_data = loses
+        for _ in range(5):
+            big.send(bytes(200000))
+        a.createDataChannel("small")
+        await until(lambda: theirs)
+        theirs[0].send("12345")
+        await asyncio.sleep(0.01)
+        assert theirs[0].bufferedAmount == 5
+        b.sctp.transport._send_data = send
+        await asyncio.gather(a.close(), b.close())
+
+    asyncio.run(asyncio.wait_for(counts(), 30))
+
+
+def test_a_peer_that_shuts_down_takes_no_more():
+    async def shuts():
+        a, b = make(True), make(True)
+        channel = a.createDataChannel("chat")
+        await join(a, b)
+        await until(lambda: channel.readyState == "open")
+        for _ in range(4):
+            channel.send(bytes(200000))
+        await b.sctp.shutdown()
+        await until(lambda: a.sctp.socket.state == State.CLOSING)
+        with pytest.raises(InvalidStateError):
+            channel.send("late")
+        with pytest.raises(InvalidStateError):
+            a.createDataChannel("late")
+        await until(lambda: channel.readyState == "closed")
+        await asyncio.gather(a.close(), b.close())
+
+    asyncio.run(asyncio.wait_for(shuts(), 30))
 
 
 def test_channels_that_cannot_be():

@@ -497,6 +497,50 @@ def test_an_abort_closes_the_channels(channels):
     assert chat.is_closed and list(a) == list(b) == []
 
 
+def test_a_restart_by_the_peer_has_nothing_of_the_old_channels(channels):
+    a, b = channels.ends
+    old = a.open("old")
+    channels.settle()
+    (theirs,) = b
+    theirs.send(bytes(100_000))  # more than may be in flight
+    a.close()
+    for _ in [*a.events(), *b.events()]:  # all packets are lost, the ABORT too
+        pass
+    a.connect()
+    new = a.open("new")
+    new.send(b"hello")
+    channels.told[b].clear()
+    channels.settle()
+    assert old.is_closed and theirs.is_closed and not new.is_closed
+    told = [it for it in channels.kinds(b) if it not in (events.Reported, events.ChannelBufferedAmountLow)]
+    assert told == [events.ChannelClosed, events.Restarted, events.Connected, events.ChannelOpened, events.ChannelMessage]
+    assert [it.label for it in a] == [it.label for it in b] == ["new"]
+    assert (channels.came(a), channels.came(b)) == ([], [b"hello"])
+    assert events.ChannelRefused not in channels.kinds(a)  # nothing came on the stream of the old one
+    assert b.next_given_up().cause == shelfpigeon.Cause.ENDED
+
+
+def test_what_waits_as_a_packet_comes_is_told_before_what_it_brings(channels):
+    a, b = channels.ends
+    a.open("old")
+    channels.settle()
+    (theirs,) = b
+    packets = lambda end: [it.data for it in end.events() if isinstance(it, events.Packet)]  # noqa: E731
+    with Channels(Role.CLIENT) as again:
+        again.advance_time(channels.now)
+        new = again.open("new")
+        again.connect()
+        for end, other in ((again, b), (b, again)):
+            for packet in packets(end):
+                other.handle_input(packet)
+        theirs.send(b"lost")
+        for packet in packets(again):
+            b.handle_input(packet)
+        told = [type(it) for it in b.events() if not isinstance(it, (events.Packet, events.ChannelBufferedAmountLow))]
+        assert told == [events.ChannelClosed, events.Restarted, events.Connected, events.ChannelOpened]
+        assert new.id == 0 and [it.label for it in b] == ["new"]
+
+
 @pytest.mark.parametrize("number, begin", [(2, lambda end: end.open("new")), (0, lambda end: end.negotiate(0, "new"))])
 def test_a_number_is_no_other_channels_before_the_end_of_its_former_one_is_taken(channels, number, begin):
     a, b = channels.ends

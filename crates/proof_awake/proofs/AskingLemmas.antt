@@ -13,7 +13,7 @@ use Rattle.sctp_tx.specs.Sending as fragments
 use Rattle.spec_endpoint.specs.Association.{Context, Endpoint, Packing}
 use Rattle.spec_endpoint.specs.Packets.{PacketDraft, header_to, fits, added_if, add, add_all}
 use Rattle.spec_endpoint.specs.ResetRequests.{Outcome, Unsettled, Done, Denied, outcome, request_chunk}
-use Rattle.spec_endpoint.specs.Shutdown.{ended, over}
+use Rattle.spec_endpoint.specs.Shutdown.{ended, over, emptied_if}
 use Rattle.spec_endpoint.specs.StreamReset.{on_outcome}
 use Rattle.spec_endpoint.specs.Sending.{selective_ack, data_chunks, fast_most, asks_at_once}
 use Rattle.spec_endpoint.specs.Laws.{Call, called, ending}
@@ -21,9 +21,10 @@ use Rattle.proof_endpoint.specs.Mapped.{Carried, as_carried}
 use Rattle.proof_endpoint.specs.Acts.{EndWithPacket, is_plain, is_response, fragments_of, PacketAct, begins, adds_plain, emits, emits_error, counts, before_packets, after_packets, OpeningAct, connects, adds_init, answers_new, answers_waiting, answers_echoed, answers_again, echoes, adds_cookie, establishes, opens, restarts, opens_again, maintains, adds_cookie_ack, before_opening, after_opening, ClosingAct, closes, shuts, shuts_on, before_closing, after_closing, DataAct, takes_data, takes_idata, takes_forward, takes_iforward, before_data, after_data, SackAct, takes_sack, samples, counts_errors, before_sack, after_sack, SendingAct, asks, forces_ack, adds_ack, expires, adds_forward, forwards_later, asks_no_reset, asks_reset, adds_request, sends, sends_fast, before_sending, after_sending, TimeAct, advances, delay_ends, times_out, beats, times_init, times_cookie, times_request, times_items, wakes_request, before_time, after_time, CallAct, accepts, refuses, takes_message, sets_low_threshold, sets_priority, sets_max_message_size, before_call, after_call, ResetAct, prepares, defers, performs, processes, takes_response, adds_responses, before_reset, after_reset, HandoverAct, leaves, takes_up, before_handover, after_handover, InputAct, ends_packet, before_input, after_input, Preserves}
 use Rattle.proof_endpoint.proofs.ActsLemmas.{keeps_call}
 use Rattle.proof_pair.proofs.EmittedLemmas.{is_no_packet_or_status, EmitsNoPacketOrStatus}
-use Rattle.proof_pair.proofs.UntilLemmas.{over_gives_up, sack_act_emits_no_packet_or_status, sending_act_emits_no_packet_or_status, time_act_emits_no_packet_or_status, call_act_emits_no_packet_or_status, reset_act_emits_no_packet_or_status}
+use Rattle.proof_pair.proofs.UntilLemmas.{over_gives_up, sack_act_emits_no_packet_or_status, sending_act_emits_no_packet_or_status, time_act_emits_no_packet_or_status, call_act_emits_no_packet_or_status, reset_act_emits_no_packet_or_status, restart_gives_up}
 use Rattle.proof_awake.specs.Line.{asks_once, chunk_asks_once, all_ask_once}
 use Rattle.proof_awake.specs.Asking.{event_asks_once, OwnPacketsAskOnce}
+use Rattle.spec_endpoint.specs.Opening.{restarted}
 
 -- ---- chunks
 
@@ -163,7 +164,11 @@ module _ (call : Call) where
   on_opening (establishes tag t1 cookie t m received) h = one_more m OnConnected refl h
   on_opening (opens tag k m echoed none own) h = one_more m OnConnected refl h
   on_opening (restarts tag k phase t m echoed resolution) h =
-      one m.context.pack (m.context.emitted.events ++ OnConnectionRestarted ∷ []) m.packet.chunks OnConnected refl (one_more m OnConnectionRestarted refl h)
+      let c : Context Carried = m.context in
+      let d : Context Carried = emptied_if c.options.avoid_stalls c in
+      one c.pack (restarted c).emitted.events m.packet.chunks OnConnected refl
+      (one c.pack d.emitted.events m.packet.chunks OnConnectionRestarted refl
+      (quietly c.pack c.emitted.events m.packet.chunks c.emitted d.emitted refl (restart_gives_up c) h))
   on_opening (opens_again tag k phase t m echoed resolution) h = one_more m OnConnected refl h
   on_opening (maintains tag k t1 cookie t m echoed resolution) h = one_more m OnConnected refl h
   on_opening (adds_cookie_ack tag back phase t m echoed late) h = with_chunk_asks m cookie_ack_chunk refl h

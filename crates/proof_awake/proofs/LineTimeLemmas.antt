@@ -6,12 +6,12 @@ use Rattle.sctp_packet.specs.Chunk.{InitTree, cookie_ack_chunk}
 use Rattle.sctp_state.specs.declared.api.ErrorKind.TheVariants.{TooManyRetries}
 use Rattle.sctp_state.specs.TxErrorCounter.{is_exhausted}
 use Rattle.sctp_state.specs.Timer.{Timer, is_due, is_running, expire}
-use Rattle.sctp_state.specs.Events.{OnAborted, OnConnectionRestarted}
+use Rattle.sctp_state.specs.Events.{OnAborted}
 use Rattle.sctp_capabilities.specs.declared.state_cookie.StateCookieError.{StateCookieError}
 use Rattle.sctp_capabilities.specs.Capabilities.{negotiate, zero_checksum_enabled}
 use Rattle.sctp_capabilities.specs.StateCookie.{Cookie, read_cookie}
 use Rattle.spec_endpoint.specs.Association.{Tcb, tcb, Phase, CookieEchoed, Established, ShutdownPending, ShutdownSent, ShutdownReceived, ShutdownAckSent, State, Closed, CookieWait, Open, Context, EndpointState, Endpoint}
-use Rattle.spec_endpoint.specs.Packets.{PacketDraft, add, packet_to, new_packet, emit_event_in}
+use Rattle.spec_endpoint.specs.Packets.{PacketDraft, add, packet_to, new_packet}
 use Rattle.spec_endpoint.specs.Heartbeats.{heartbeat_chunk, counted_on, send_heartbeat_if, heartbeat_timeout_if}
 use Rattle.spec_endpoint.specs.ResetRequests.{is_unanswered, lasting, clear_deferral, expire_reconfig_timer}
 use Rattle.sctp_state.specs.RetransmissionTimeout.{rto}
@@ -23,7 +23,7 @@ use Rattle.sctp_tx_outstanding.specs.Item.{Item}
 use Rattle.sctp_tx_outstanding.specs.Losses.{nack_all}
 use Rattle.sctp_tx_queue.specs.SendQueue.{Queue}
 use Rattle.spec_endpoint.specs.Timers.{Ticking, tick_ack, t3_if, tick_t3, tick_interval, tick_timeout, request_again, errs_if, requests_if, ticking, tick_timers, after_timers, abort_if, abort_or_send_if, after_ticks_if, after_ticks, t2_expired, t2_if, waits_unless, t1_expired, t1_if, after_init_timer, init_expired, init_if, tick_open, tick_in, advance_unless, is_owed}
-use Rattle.spec_endpoint.specs.Opening.{cookie_ack, connect_in, on_init_open, on_init_in, queue_anew, agreed_by, maker, echo_or_abort, cookie_in, on_init_ack_in, enter_connected, on_cookie_ack, CookieResolution, EstablishNew, RestartDetected, SimultaneousInit, MaintainExisting, Discard, InvalidTag, resolve_cookie, tcb_by, queue_for, identity_of, anew, maintain_existing, maintain_existing_in, restarts_in, on_resolution, on_read_cookie, on_cookie_echo}
+use Rattle.spec_endpoint.specs.Opening.{cookie_ack, connect_in, on_init_open, on_init_in, queue_anew, agreed_by, maker, echo_or_abort, cookie_in, on_init_ack_in, enter_connected, on_cookie_ack, CookieResolution, EstablishNew, RestartDetected, SimultaneousInit, MaintainExisting, Discard, InvalidTag, resolve_cookie, tcb_by, queue_for, identity_of, anew, maintain_existing, maintain_existing_in, restarts_in, on_resolution, on_read_cookie, on_cookie_echo, restarted}
 use Rattle.proof_awake.specs.Invariant.{StateHolds, HasLimits, WindowsHaveRoom}
 use Rattle.proof_awake.proofs.ItemsLemmas.{none_lost}
 use Rattle.proof_awake.proofs.BlockLemmas.{new_block}
@@ -251,11 +251,11 @@ module _ {P : Type 0} (avoids : Bool) where
   maintains_in_lined k (Open phase t) c h l = maintains_lined k phase t c h l
 
   restarts_lined : (phase : Phase) (t : Tcb) (k : Cookie) (s : Endpoint P) → HasLimits avoids s.endpoint_state.context.options → EndLined avoids s.endpoint_state → EndLined avoids (restarts_in phase t k s).endpoint_state
-  restarts_lined (CookieEchoed t1 cookie) t k s o l = opens_lined true k _ (emit_event_in OnConnectionRestarted s.endpoint_state.context) o l.0
-  restarts_lined Established t k s o l = opens_lined true k _ (emit_event_in OnConnectionRestarted s.endpoint_state.context) o l.0
-  restarts_lined ShutdownPending t k s o l = opens_lined true k _ (emit_event_in OnConnectionRestarted s.endpoint_state.context) o l.0
-  restarts_lined (ShutdownSent t2) t k s o l = opens_lined true k _ (emit_event_in OnConnectionRestarted s.endpoint_state.context) o l.0
-  restarts_lined ShutdownReceived t k s o l = opens_lined true k _ (emit_event_in OnConnectionRestarted s.endpoint_state.context) o l.0
+  restarts_lined (CookieEchoed t1 cookie) t k s o l = opens_lined true k _ (restarted s.endpoint_state.context) o l.0
+  restarts_lined Established t k s o l = opens_lined true k _ (restarted s.endpoint_state.context) o l.0
+  restarts_lined ShutdownPending t k s o l = opens_lined true k _ (restarted s.endpoint_state.context) o l.0
+  restarts_lined (ShutdownSent t2) t k s o l = opens_lined true k _ (restarted s.endpoint_state.context) o l.0
+  restarts_lined ShutdownReceived t k s o l = opens_lined true k _ (restarted s.endpoint_state.context) o l.0
   restarts_lined (ShutdownAckSent t2) t k s o l = out_lined avoids _ s.endpoint_state.state s.endpoint_state.context l
 
   restart_lined : (st : State) (k : Cookie) (s : Endpoint P) → HasLimits avoids s.endpoint_state.context.options → EndLined avoids s.endpoint_state

@@ -6,13 +6,13 @@ use Rattle.sctp_packet.specs.Chunk.{InitTree, abort_chunk, cookie_ack_chunk}
 use Rattle.sctp_state.specs.declared.api.ErrorKind.TheVariants.{ProtocolViolation}
 use Rattle.sctp_state.specs.declared.timer.BackoffAlgorithm.TheVariants.{Exponential}
 use Rattle.sctp_state.specs.Timer.{timer}
-use Rattle.sctp_state.specs.Events.{OnAborted, OnConnectionRestarted}
+use Rattle.sctp_state.specs.Events.{OnAborted}
 use Rattle.sctp_capabilities.specs.declared.state_cookie.StateCookieError.{StateCookieError}
 use Rattle.sctp_capabilities.specs.Capabilities.{negotiate, zero_checksum_enabled}
 use Rattle.sctp_capabilities.specs.StateCookie.{Cookie, read_cookie}
 use Rattle.spec_endpoint.specs.Association.{Identity, Tcb, tcb, Phase, CookieEchoed, Established, ShutdownPending, ShutdownSent, ShutdownReceived, ShutdownAckSent, State, Closed, CookieWait, Open, Context, Endpoint}
-use Rattle.spec_endpoint.specs.Packets.{PacketDraft, add, packet_to, round_down_to_4, emit_event_in, emit}
-use Rattle.spec_endpoint.specs.Opening.{waiting, connect_in, answers, on_init_open, on_init_in, queue_anew, agreed_by, maker, echo, echo_or_abort, cookie_in, on_init_ack_in, enter_connected, on_cookie_ack, CookieResolution, EstablishNew, RestartDetected, SimultaneousInit, MaintainExisting, Discard, InvalidTag, resolve_cookie, cookie_ack, tcb_by, queue_for, identity_of, anew, maintain_existing, maintain_existing_in, restarts_in, on_resolution, on_read_cookie, on_cookie_echo}
+use Rattle.spec_endpoint.specs.Packets.{PacketDraft, add, packet_to, round_down_to_4, emit}
+use Rattle.spec_endpoint.specs.Opening.{waiting, connect_in, answers, on_init_open, on_init_in, queue_anew, agreed_by, maker, echo, echo_or_abort, cookie_in, on_init_ack_in, enter_connected, on_cookie_ack, CookieResolution, EstablishNew, RestartDetected, SimultaneousInit, MaintainExisting, Discard, InvalidTag, resolve_cookie, cookie_ack, tcb_by, queue_for, identity_of, anew, maintain_existing, maintain_existing_in, restarts_in, on_resolution, on_read_cookie, on_cookie_echo, restarted}
 use Rattle.proof_awake.specs.Invariant.{is_established, StateHolds}
 use Rattle.proof_awake.proofs.TimerLemmas.{started}
 use Rattle.proof_awake.proofs.BlockLemmas.{new_block}
@@ -125,11 +125,11 @@ module _ {P : Type 0} (avoids : Bool) where
   maintains_in k (Open phase t) c h = maintains k phase t c h
 
   restarts_hold : (phase : Phase) (t : Tcb) (k : Cookie) (s : Endpoint P) → Beside avoids false s.endpoint_state.context → Whole s → Whole (restarts_in phase t k s)
-  restarts_hold (CookieEchoed t1 cookie) t k s b h = opens false true k _ (emit_event_in OnConnectionRestarted s.endpoint_state.context) b
-  restarts_hold Established t k s b h = opens false true k _ (emit_event_in OnConnectionRestarted s.endpoint_state.context) b
-  restarts_hold ShutdownPending t k s b h = opens false true k _ (emit_event_in OnConnectionRestarted s.endpoint_state.context) b
-  restarts_hold (ShutdownSent t2) t k s b h = opens false true k _ (emit_event_in OnConnectionRestarted s.endpoint_state.context) b
-  restarts_hold ShutdownReceived t k s b h = opens false true k _ (emit_event_in OnConnectionRestarted s.endpoint_state.context) b
+  restarts_hold (CookieEchoed t1 cookie) t k s b h = opens false true k _ (restarted s.endpoint_state.context) b
+  restarts_hold Established t k s b h = opens false true k _ (restarted s.endpoint_state.context) b
+  restarts_hold ShutdownPending t k s b h = opens false true k _ (restarted s.endpoint_state.context) b
+  restarts_hold (ShutdownSent t2) t k s b h = opens false true k _ (restarted s.endpoint_state.context) b
+  restarts_hold ShutdownReceived t k s b h = opens false true k _ (restarted s.endpoint_state.context) b
   restarts_hold (ShutdownAckSent t2) t k s b h = says _ s.endpoint_state.state s.endpoint_state.context h
 
   restart_by : (st : State) (k : Cookie) (s : Endpoint P) → Beside avoids false s.endpoint_state.context → Whole s

@@ -15,7 +15,7 @@ use Rattle.spec_endpoint.specs.Input.{packet_refusal}
 use Rattle.spec_endpoint.specs.Laws.{Call, ReceivePacket, called}
 use Rattle.proof_endpoint.specs.Mapped.{Carried, as_carried}
 use Rattle.proof_pair.specs.Trace as traces
-use Rattle.proof_pair.specs.Trace.{Pair, EndAction, Calls, Gives, Refuses, packets_in, emitted_packets, new_side, drain, as_received, give_carried, foreign_if, act, goes, run, start}
+use Rattle.proof_pair.specs.Trace.{Pair, EndAction, Calls, Gives, Refuses, emitted_packets, new_side, drain, as_received, give_carried, foreign_if, act, goes, run, start}
 use Rattle.spec_world.specs.Observations as observed
 use Rattle.spec_world.specs.Observations.{A, B, Connect, Shutdown, Close, Send, SendMany, TakeMessage, Reset, SetPriority, SetMaxMessageSize, SetLowThreshold, HandOver}
 use Rattle.spec_world.specs.World.{Action, CallOf, Give, GiveForeign, AdvanceTime, table_call}
@@ -23,6 +23,7 @@ use Rattle.proof_world.specs.Readable.{PacketsReadBack}
 use Rattle.proof_world.specs.Traces.{give_action, IsGiveAction, IsForeign, IsActionOf, AreActionsOf}
 use Rattle.proof_world.proofs.ReadBackLemmas.{packets_read_back}
 use Rattle.proof_endpoint.specs.Lifecycles.{is_restore}
+use Rattle.spec_endpoint.specs.Packets.{packets_in}
 use Rattle.proof_awake.specs.Line.{HasNoLine, chunk_asks_once, all_ask_once, call_asks_once, IsLined}
 use Rattle.proof_awake.specs.Asking.{event_asks_once}
 use Rattle.proof_awake.specs.Worlds.{WorldsHaveNoLine}

@@ -15,7 +15,8 @@ use Rattle.sctp_tx_queue.specs.SendQueue.{Queue}
 use Rattle.spec_endpoint.specs.Association.{State, Endpoint}
 use Rattle.proof_endpoint.specs.Mapped.{Carried}
 use Rattle.proof_endpoint.specs.Acts.{calm}
-use Rattle.proof_pair.specs.Trace.{Side, packets_in, emitted_packets, drain, state_of}
+use Rattle.proof_pair.specs.Trace.{Side, emitted_packets, drain, state_of}
+use Rattle.spec_endpoint.specs.Packets.{packets_in}
 use Rattle.proof_pair.proofs.JoinActsLemmas.{packets_both}
 use Rattle.proof_delivery.specs.Accepted.{AcceptedMessage}
 use Rattle.proof_delivery.specs.Answered.{waiting_number, is_same, numbered_before}

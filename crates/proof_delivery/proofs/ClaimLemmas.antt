@@ -32,7 +32,8 @@ use Rattle.spec_endpoint.specs.Association.{Tcb, State, Closed, CookieWait, Open
 use Rattle.spec_endpoint.specs.Laws.{Call}
 use Rattle.proof_endpoint.specs.Mapped.{Carried}
 use Rattle.proof_endpoint.specs.Acts.{EndWithPacket, BringsChunk}
-use Rattle.proof_pair.specs.Trace.{packets_in, AreValidOptions}
+use Rattle.proof_pair.specs.Trace.{AreValidOptions}
+use Rattle.spec_endpoint.specs.Packets.{packets_in}
 use Rattle.proof_pair.proofs.JoinActsLemmas.{Setting}
 use Rattle.proof_delivery.specs.Asks.{ResetRequest, AreRequested, SaysOutgoing, SaysIncoming, IsAsking, IsAnswering}
 use Rattle.proof_delivery.specs.Answered.{performed_in}

@@ -24,7 +24,7 @@ use Rattle.spec_endpoint.specs.Packets.{room}
 use Rattle.spec_endpoint.specs.ResetRequests.{Outcome, Unsettled, Done, Denied, outcome}
 use Rattle.spec_endpoint.specs.Sack.{clean_blocks}
 use Rattle.spec_endpoint.specs.Opening.{agreed_by, queue_if, other_mode, queue_for}
-use Rattle.spec_endpoint.specs.Shutdown.{ended, empty_if}
+use Rattle.spec_endpoint.specs.Shutdown.{ended, empty_if, emptied_if}
 use Rattle.spec_endpoint.specs.StreamReset.{on_outcome}
 use Rattle.spec_endpoint.specs.Sending.{fast_most}
 use Rattle.spec_endpoint.specs.Laws.{Call, ResetStreams, Restore}
@@ -161,11 +161,11 @@ module _ (accepted : List Acceptance) (resets : List ℕ) where
   on_answer (Done streams) kept c h = record { holds = holds_each_stepped K (length accepted) Performed streams c.queue h.holds; stay = h.stay; justified = h.justified }
   on_answer (Denied streams) kept c h = record { holds = holds_each_stepped K (length accepted) Refused streams c.queue h.holds; stay = h.stay; justified = h.justified }
 
-  -- where stalls are avoided, what waits is given up as the association is over
-  over_sound : (b : Bool) (now : ℕ) (q : Queue) (t : Emitted Carried) → Sound accepted b resets [] now q t.given_up
-      → Sound accepted b resets [] now (empty_if b q t).queue (empty_if b q t).emitted.given_up
-  over_sound false now q t h = h
-  over_sound true now q t h = record {
+  -- where stalls are avoided, what waits is given up as the association is over, or the peer begins another one
+  over_sound : (b : Bool) (kept : List Item) (now : ℕ) (q : Queue) (t : Emitted Carried) → Sound accepted b resets kept now q t.given_up
+      → Sound accepted b resets kept now (empty_if b q t).queue (empty_if b q t).emitted.given_up
+  over_sound false kept now q t h = h
+  over_sound true kept now q t h = record {
     holds = holds_empty K (length accepted) q t h.holds;
     stay = h.stay;
     justified = empty_right K (IsJustifiedAt accepted true resets now) (ended_of accepted true resets refl now) (length accepted) q t h.holds h.justified;
@@ -198,8 +198,11 @@ module _ (accepted : List Acceptance) (resets : List ℕ) where
         anew (kept_in m.state) m.context.now m.context.queue _ m.context.emitted.given_up
         (holds_for m.context.options.avoid_stalls (negotiate m.context.options k.peer_capabilities).message_interleaving m.context.queue) h
     sound_opening (restarts tag k phase t m echoed verdict) h =
-        anew t.sender.outstanding.items.kept m.context.now m.context.queue _ m.context.emitted.given_up
-        (holds_for true (negotiate m.context.options k.peer_capabilities).message_interleaving m.context.queue) h
+        let c : Context Carried = m.context in
+        let d : Context Carried = emptied_if c.options.avoid_stalls c in
+        let kept : List Item = t.sender.outstanding.items.kept in
+        anew kept c.now d.queue _ d.emitted.given_up (holds_for true (negotiate c.options k.peer_capabilities).message_interleaving d.queue)
+        (over_sound c.options.avoid_stalls kept c.now c.queue c.emitted h)
     sound_opening (opens_again tag k phase t m echoed verdict) h =
         anew t.sender.outstanding.items.kept m.context.now m.context.queue _ m.context.emitted.given_up
         (holds_for true (negotiate m.context.options k.peer_capabilities).message_interleaving m.context.queue) h
@@ -208,7 +211,7 @@ module _ (accepted : List Acceptance) (resets : List ℕ) where
 
     sound_closing : (act : ClosingAct Carried call) → Onward (before_closing act) (after_closing act)
     sound_closing (closes e m there is) h =
-        over_sound m.context.options.avoid_stalls m.context.now m.context.queue (ended e m.context).emitted
+        over_sound m.context.options.avoid_stalls [] m.context.now m.context.queue (ended e m.context).emitted
         (anew (kept_in m.state) m.context.now m.context.queue m.context.queue m.context.emitted.given_up (λ k. k) h)
     sound_closing (shuts phase t m is early) h = h
     sound_closing (shuts_on phase next t m late later) h = h

@@ -13,7 +13,8 @@ use Rattle.spec_endpoint.specs.Calls.{shown_state, send_refusal_of, offer, offer
 use Rattle.spec_endpoint.specs.Laws.{Call, Send, SendMany, ReceiveNoPacket, called}
 use Rattle.proof_endpoint.specs.Mapped.{Carried}
 use Rattle.proof_endpoint.specs.Acts.{EndWithPacket, idle, calm, BringsChunk, alone, HasNoEnd, PreservesUntilEnd}
-use Rattle.proof_pair.specs.Trace.{Side, packets_in, state_of}
+use Rattle.proof_pair.specs.Trace.{Side, state_of}
+use Rattle.spec_endpoint.specs.Packets.{packets_in}
 use Rattle.proof_pair.proofs.UntilLemmas.{none_before, Until, frame}
 use Rattle.proof_endpoint.proofs.RowActsLemmas.{does_where_open}
 use Rattle.proof_endpoint.proofs.CallActsLemmas.{does_offer, does_offer_all, does_send_in, does_sent_unless}

@@ -25,7 +25,7 @@ use Rattle.spec_endpoint.specs.Association.{State, Closed, CookieWait, Open, Con
 use Rattle.spec_endpoint.specs.Calls.{shown_state, send_refusal, queue_entry, offer, offer_all}
 use Rattle.spec_endpoint.specs.Calls as calls
 use Rattle.proof_endpoint.specs.Mapped.{Carried}
-use Rattle.proof_pair.specs.Trace.{packets_in}
+use Rattle.spec_endpoint.specs.Packets.{packets_in}
 use Rattle.proof_pair.proofs.EmittedLemmas.{emits_refused, quiet_refused}
 use Rattle.proof_pair.proofs.AskedKeepsLemmas.{some_payload}
 use Rattle.proof_delivery.specs.Accepted.{AcceptedMessage, unless_refused, accepted_of}

@@ -20,7 +20,8 @@ use Rattle.proof_refines.specs.Reachable.{recorded_places, delivered_ids}
 use Rattle.spec_endpoint.specs.Laws.{Call, ReceivePacket}
 use Rattle.proof_endpoint.specs.Mapped.{Carried}
 use Rattle.proof_endpoint.specs.Acts.{calm, BringsChunk}
-use Rattle.proof_pair.specs.Trace.{Side, packets_in, as_received, AreValidOptions, state_of}
+use Rattle.proof_pair.specs.Trace.{Side, as_received, AreValidOptions, state_of}
+use Rattle.spec_endpoint.specs.Packets.{packets_in}
 use Rattle.proof_pair.proofs.AddedLemmas.{all_at}
 use Rattle.proof_pair.proofs.TraceLemmas.{setting, packet_of}
 use Rattle.proof_delivery.specs.Answered.{waiting_number, IsAnswered, performed_in}

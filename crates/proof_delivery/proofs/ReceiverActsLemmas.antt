@@ -25,7 +25,7 @@ use Rattle.spec_endpoint.specs.Sending.{selective_ack, without_duplicates}
 use Rattle.spec_endpoint.specs.Laws.{Call}
 use Rattle.proof_endpoint.specs.Mapped.{Carried}
 use Rattle.proof_endpoint.specs.Acts.{EndWithPacket, BringsChunk, with_chunk, in_open, in_state, drew_one, drew_two, is_opened, PacketAct, begins, adds_plain, emits, emits_error, counts, before_packets, after_packets, OpeningAct, connects, adds_init, answers_new, answers_waiting, answers_echoed, answers_again, echoes, adds_cookie, establishes, opens, restarts, opens_again, maintains, adds_cookie_ack, before_opening, after_opening, ClosingAct, closes, shuts, shuts_on, before_closing, after_closing, DataAct, takes_data, takes_idata, takes_forward, takes_iforward, before_data, after_data}
-use Rattle.proof_pair.specs.Trace.{packets_in}
+use Rattle.spec_endpoint.specs.Packets.{packets_in}
 use Rattle.proof_pair.proofs.AddedLemmas.{holds_added}
 use Rattle.proof_pair.proofs.JoinActsLemmas.{Setting, InvAt, packets_both}
 use Rattle.proof_delivery.proofs.ClaimLemmas.{Direction, transfer_of, SaysIn, first_in, IsFresh, IsReceiving, ReceivesIn, ReceiverClaim, ReceiverPremises, ReceiverGoes}

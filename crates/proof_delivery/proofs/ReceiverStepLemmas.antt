@@ -13,11 +13,10 @@ use Rattle.sctp_rx.specs.ReassemblyQueue.{Deferred}
 use Rattle.sctp_rx.specs.DataTracker.{Tracker, IsTracker}
 use Rattle.proof_protocol.specs.State.{Message}
 use Rattle.spec_endpoint.specs.Association.{Tcb, Phase, Packing}
-use Rattle.spec_endpoint.specs.Packets.{PacketDraft, add_all, header_to, emit_if}
+use Rattle.spec_endpoint.specs.Packets.{PacketDraft, add_all, header_to, emit_if, packets_in}
 use Rattle.spec_endpoint.specs.ResetRequests.{Requests}
 use Rattle.proof_endpoint.specs.Mapped.{Carried, as_carried}
 use Rattle.proof_endpoint.specs.Acts.{EndWithPacket, is_plain, with_chunk, with_packet, in_open}
-use Rattle.proof_pair.specs.Trace.{packets_in}
 use Rattle.proof_pair.proofs.AddedLemmas.{holds_added, holds_all_added}
 use Rattle.proof_pair.proofs.JoinActsLemmas.{packets_both}
 use Rattle.proof_delivery.specs.Asks.{ResetRequest, IsAnswering}

@@ -12,7 +12,7 @@ use Rattle.spec_endpoint.specs.StreamReset.{unless_supported, reset_refusal, pre
 use Rattle.spec_endpoint.specs.Laws.{Call, ResetStreams, ReceiveNoPacket}
 use Rattle.proof_endpoint.specs.Mapped.{Carried}
 use Rattle.proof_endpoint.specs.Acts.{EndWithPacket, idle, calm, IsReset, prepares, HasNoEnd, Preserves, PreservesUntilEnd}
-use Rattle.proof_pair.specs.Trace.{packets_in}
+use Rattle.spec_endpoint.specs.Packets.{packets_in}
 use Rattle.proof_pair.proofs.EmittedLemmas.{emits_prepared}
 use Rattle.proof_pair.proofs.UntilLemmas.{none_before, Until, frame}
 use Rattle.proof_endpoint.proofs.RowActsLemmas.{does_where_open}

@@ -29,7 +29,8 @@ use Rattle.proof_endpoint.specs.Mapped.{Carried}
 use Rattle.proof_endpoint.proofs.LawsLemmas.{emits_endings}
 use Rattle.proof_endpoint.proofs.EmitsLemmas.{endings_append}
 use Rattle.proof_endpoint.specs.Acts.{EndWithPacket, calm, end_of, HasNoEnd, PreservesUntilEnd}
-use Rattle.proof_pair.specs.Trace.{Side, packets_in, emitted_packets, EndAction, Calls, Gives, Refuses, as_received, give_carried, foreign_if, act, MayCall, MayAct, AreValidOptions, state_of}
+use Rattle.proof_pair.specs.Trace.{Side, emitted_packets, EndAction, Calls, Gives, Refuses, as_received, give_carried, foreign_if, act, MayCall, MayAct, AreValidOptions, state_of}
+use Rattle.spec_endpoint.specs.Packets.{packets_in}
 use Rattle.proof_pair.proofs.UntilLemmas.{until_first_end}
 use Rattle.proof_pair.proofs.JoinActsLemmas.{Setting, InvAt}
 use Rattle.proof_pair.proofs.JoinKeepsLemmas.{Rules}

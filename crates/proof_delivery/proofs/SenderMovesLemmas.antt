@@ -39,13 +39,12 @@ use Rattle.proof_refines.proofs.PointLemmas.{point_row}
 use Rattle.proof_refines.proofs.SendLemmas.{fast_row, send_row}
 use Rattle.proof_refines.proofs.WholeLemmas.{timeout_row, expiry_row, received_row, shown_again}
 use Rattle.spec_endpoint.specs.Association.{Tcb, Phase, Context}
-use Rattle.spec_endpoint.specs.Packets.{PacketDraft, room, add, add_all}
+use Rattle.spec_endpoint.specs.Packets.{PacketDraft, room, add, add_all, packets_in}
 use Rattle.spec_endpoint.specs.Sending.{data_chunks, asks_at_once, fast_most}
 use Rattle.spec_endpoint.specs.Sack.{clean_blocks}
 use Rattle.spec_endpoint.specs.Laws.{Call}
 use Rattle.proof_endpoint.specs.Mapped.{Carried}
 use Rattle.proof_endpoint.specs.Acts.{EndWithPacket, in_open, with_context, BringsChunk, timeout_of, point_of, takes_sack, before_sack, after_sack, expires, adds_forward, sends, sends_fast, before_sending, after_sending, times_out, before_time, after_time}
-use Rattle.proof_pair.specs.Trace.{packets_in}
 use Rattle.proof_pair.proofs.AddedLemmas.{holds_added, holds_all_added}
 use Rattle.proof_pair.proofs.EmittedLemmas.{EmitsQuietly, quiet_emits_no_packet_or_status, quiet_nack_all, quiet_expired, quiet_sent, emits_sack, emits_sent}
 use Rattle.proof_pair.proofs.JoinActsLemmas.{Setting, InvAt}

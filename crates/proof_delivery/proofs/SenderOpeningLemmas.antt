@@ -31,7 +31,7 @@ use Rattle.spec_endpoint.specs.Opening.{long_word, t1_cookie, identity_of_init_a
 use Rattle.spec_endpoint.specs.Laws.{Call}
 use Rattle.proof_endpoint.specs.Mapped.{Carried}
 use Rattle.proof_endpoint.specs.Acts.{EndWithPacket, end_of, in_open, in_state, with_context, drew_one, drew_two, echo_step, opened_by, is_opened, OpeningAct, connects, adds_init, answers_new, answers_waiting, answers_echoed, answers_again, echoes, adds_cookie, establishes, opens, restarts, opens_again, maintains, adds_cookie_ack, before_opening, after_opening}
-use Rattle.proof_pair.specs.Trace.{packets_in}
+use Rattle.spec_endpoint.specs.Packets.{packets_in}
 use Rattle.proof_pair.proofs.JoinActsLemmas.{Setting, InvAt, packets_both}
 use Rattle.proof_delivery.specs.Asks.{ResetRequest, SaysOutgoing, IsAsking}
 use Rattle.proof_delivery.proofs.ClaimLemmas.{Direction, transfer_of, IsKept, SaysData, SaysPoint, SaysOut, first_out, IsWaiting, IsSending, SendsIn, SenderGoes, SenderPremises}

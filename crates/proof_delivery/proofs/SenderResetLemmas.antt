@@ -44,7 +44,7 @@ use Rattle.spec_endpoint.specs.Sending.{last_assigned, add_reset_breakpoint, req
 use Rattle.spec_endpoint.specs.Laws.{Call}
 use Rattle.proof_endpoint.specs.Mapped.{Carried}
 use Rattle.proof_endpoint.specs.Acts.{EndWithPacket, in_open, with_context, with_chunk, IsAsked}
-use Rattle.proof_pair.specs.Trace.{packets_in}
+use Rattle.spec_endpoint.specs.Packets.{packets_in}
 use Rattle.proof_pair.proofs.JoinActsLemmas.{Setting, InvAt, packets_both}
 use Rattle.proof_pair.proofs.EmittedLemmas.{emits_prepared}
 use Rattle.proof_delivery.specs.Asks.{ResetRequest, SaysOutgoing, SaysDone, number_of, last_tsn_of, IsRequestOf, IsAsking, NoneCurrent}

@@ -26,14 +26,13 @@ use Rattle.proof_refines.proofs.QueueKeyLemmas.{written_keyed}
 use Rattle.proof_refines.proofs.LineRowLemmas.{calls_keep_line}
 use Rattle.proof_refines.proofs.PauseRowLemmas.{settings_pause}
 use Rattle.spec_endpoint.specs.Association.{Identity, Tcb, Phase, ShutdownPending, State, Closed, CookieWait, Open, Packing}
-use Rattle.spec_endpoint.specs.Packets.{PacketDraft, clear_chunks, header_to, emit_event_in, emit_if}
+use Rattle.spec_endpoint.specs.Packets.{PacketDraft, clear_chunks, header_to, emit_event_in, emit_if, packets_in}
 use Rattle.spec_endpoint.specs.ResetRequests.{nothing_to_do, performed, in_progress, set_last_request}
 use Rattle.spec_endpoint.specs.Data.{take_fragment, handle_forward_tsn}
 use Rattle.spec_endpoint.specs.Input.{at_end}
 use Rattle.spec_endpoint.specs.Laws.{Call}
 use Rattle.proof_endpoint.specs.Mapped.{Carried}
 use Rattle.proof_endpoint.specs.Acts.{EndWithPacket, is_plain, is_response, with_chunk, with_packet, with_context, in_open, PacketAct, begins, adds_plain, emits, emits_error, counts, before_packets, after_packets, ClosingAct, closes, shuts, shuts_on, before_closing, after_closing, DataAct, takes_data, takes_idata, takes_forward, takes_iforward, before_data, after_data, CallAct, accepts, refuses, takes_message, sets_low_threshold, sets_priority, sets_max_message_size, before_call, after_call, InputAct, ends_packet, before_input, after_input}
-use Rattle.proof_pair.specs.Trace.{packets_in}
 use Rattle.proof_pair.proofs.EmittedLemmas.{EmitsQuietly, quiet_emits_no_packet_or_status, emits_all, quiet_same, quiet_all, quiet_refused, quiet_threshold}
 use Rattle.proof_pair.proofs.AddedLemmas.{holds_added}
 use Rattle.proof_pair.proofs.JoinActsLemmas.{Setting, InvAt, packets_both}

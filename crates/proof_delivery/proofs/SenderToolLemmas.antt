@@ -22,7 +22,7 @@ use Rattle.proof_refines.proofs.SackLemmas.{delivered_more, ids_more}
 use Rattle.proof_refines.proofs.SendLemmas.{carries_along}
 use Rattle.proof_endpoint.specs.Mapped.{Carried}
 use Rattle.proof_endpoint.specs.Acts.{EndWithPacket}
-use Rattle.proof_pair.specs.Trace.{packets_in}
+use Rattle.spec_endpoint.specs.Packets.{packets_in}
 use Rattle.proof_pair.proofs.EmittedLemmas.{is_quiet, EmitsNoPacketOrStatus, EmitsQuietly}
 use Rattle.proof_pair.proofs.JoinActsLemmas.{packets_both, no_packet_or_status_has_no_packets}
 use Rattle.proof_delivery.specs.Asks.{ResetRequest, request_for, AreRequested, SaysOutgoing, SaysIncoming}

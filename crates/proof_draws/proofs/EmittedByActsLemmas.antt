@@ -22,11 +22,12 @@ use Rattle.sctp_tx.specs.RetransmissionQueue.{Sender}
 use Rattle.proof_endpoint.specs.Acts.{EndWithPacket, PacketAct, begins, adds_plain, emits, emits_error, counts, before_packets, after_packets, OpeningAct, connects, adds_init, answers_new, answers_waiting, answers_echoed, answers_again, echoes, adds_cookie, establishes, opens, restarts, opens_again, maintains, adds_cookie_ack, before_opening, after_opening, ClosingAct, closes, shuts, shuts_on, before_closing, after_closing, DataAct, takes_data, takes_idata, takes_forward, takes_iforward, before_data, after_data, SackAct, takes_sack, samples, counts_errors, before_sack, after_sack, SendingAct, asks, forces_ack, adds_ack, expires, adds_forward, forwards_later, asks_no_reset, asks_reset, adds_request, sends, sends_fast, before_sending, after_sending, TimeAct, advances, delay_ends, times_out, beats, times_init, times_cookie, times_request, times_items, wakes_request, before_time, after_time, CallAct, accepts, refuses, takes_message, sets_low_threshold, sets_priority, sets_max_message_size, before_call, after_call, ResetAct, prepares, defers, performs, processes, takes_response, adds_responses, before_reset, after_reset, HandoverAct, leaves, takes_up, before_handover, after_handover, InputAct, ends_packet, before_input, after_input, calm, is_opened, is_plain, BringsChunk, fragments_of, HasNoEnd, PreservesUntilEnd}
 use Rattle.proof_pair.proofs.AddedLemmas.{holds_added, holds_all_added}
 use Rattle.proof_pair.proofs.EmittedLemmas.{is_no_packet_or_status, EmitsNoPacketOrStatus}
-use Rattle.proof_pair.proofs.UntilLemmas.{sack_act_emits_no_packet_or_status, sending_act_emits_no_packet_or_status, time_act_emits_no_packet_or_status, call_act_emits_no_packet_or_status, reset_act_emits_no_packet_or_status, no_end, no_end_over, until_end}
+use Rattle.proof_pair.proofs.UntilLemmas.{sack_act_emits_no_packet_or_status, sending_act_emits_no_packet_or_status, time_act_emits_no_packet_or_status, call_act_emits_no_packet_or_status, reset_act_emits_no_packet_or_status, no_end, no_end_over, until_end, restart_gives_up, restart_emits}
 use Rattle.proof_pair.proofs.AgreeLemmas.{is_load}
 use Rattle.proof_draws.proofs.StepLemmas.{receives_init, is_past, EachChunk}
 use Rattle.sctp_capabilities.specs.Capabilities.{announced_parameters}
-use Rattle.spec_endpoint.specs.Opening.{init_of}
+use Rattle.spec_endpoint.specs.Opening.{init_of, restarted}
+use Rattle.spec_endpoint.specs.Shutdown.{emptied_if}
 
 -- what is known of the call
 pub record Receives (call : Call) : Type 0 where
@@ -164,10 +165,13 @@ module _ (call : Call) (g : Receives call) where
 
   restarted_to : (s u : State) (m : EndWithPacket Carried) → (is_opened s ≡ true → is_opened u ≡ true) → (receives_init call ≡ true → is_past s ≡ false → is_past u ≡ false)
       → Emitted (May call s) m.context.pack m.context.emitted.events m.packet.chunks
-      → Emitted (May call u) m.context.pack ((m.context.emitted.events ++ OnConnectionRestarted ∷ []) ++ OnConnected ∷ []) m.packet.chunks
+      → Emitted (May call u) m.context.pack ((restarted m.context).emitted.events ++ OnConnected ∷ []) m.packet.chunks
   restarted_to s u m f q h =
-      emitted_more (May call s) m.context.pack m.context.emitted.events m.packet.chunks h (May call u) (changes call s u f q) (OnConnectionRestarted ∷ OnConnected ∷ [])
-      ((m.context.emitted.events ++ OnConnectionRestarted ∷ []) ++ OnConnected ∷ []) (append_assoc m.context.emitted.events (OnConnectionRestarted ∷ []) (OnConnected ∷ [])) tt
+      let l : EmitsNoPacketOrStatus m.context.emitted (emptied_if m.context.options.avoid_stalls m.context).emitted = restart_gives_up m.context in
+      let last : List (Event Carried) = OnConnectionRestarted ∷ OnConnected ∷ [] in
+      emitted_more (May call s) m.context.pack m.context.emitted.events m.packet.chunks h (May call u) (changes call s u f q) (l.events ++ last)
+      ((restarted m.context).emitted.events ++ OnConnected ∷ []) (restart_emits m.context)
+      (each_both (May call u) l.events last (each_chunk_of_no_packet_or_status (May call u) l.events l.all) tt)
 
   adds_to : (s : State) (m : EndWithPacket Carried) (c : ChunkTree) → May call s c → Emitted (May call s) m.context.pack m.context.emitted.events m.packet.chunks
       → Emitted (May call s) m.context.pack m.context.emitted.events (add c m.packet).chunks

@@ -8,13 +8,13 @@ use Rattle.sctp_packet.specs.Chunk.{ChunkTree, InitTree, abort_chunk, error_chun
 use Rattle.sctp_state.specs.declared.api.ErrorKind.TheVariants.{ProtocolViolation, WrongSequence}
 use Rattle.sctp_capabilities.specs.declared.state_cookie.StateCookieError.{StateCookieError}
 use Rattle.sctp_capabilities.specs.StateCookie.{Cookie, read_cookie}
-use Rattle.sctp_state.specs.Events.{OnConnectionRestarted, OnAborted}
+use Rattle.sctp_state.specs.Events.{OnAborted}
 use Rattle.sctp_tx_outstanding.specs.OutstandingData.{next_number}
 use Rattle.spec_endpoint.specs.Association.{Tcb, Phase, CookieEchoed, Established, ShutdownPending, ShutdownSent, ShutdownReceived, ShutdownAckSent, State, Closed, CookieWait, Open, Context, EndpointState, with_context, Packing}
-use Rattle.spec_endpoint.specs.Packets.{PacketDraft, add, packet_to, new_packet, round_down_to_4, emit_event_in, emit_error, emit}
+use Rattle.spec_endpoint.specs.Packets.{PacketDraft, add, packet_to, new_packet, round_down_to_4, emit_error, emit}
 use Rattle.spec_endpoint.specs.Sending.{AfterSending, open_with}
 use Rattle.spec_endpoint.specs.Shutdown.{close_with}
-use Rattle.spec_endpoint.specs.Opening.{tsn_from, tag_from, answer, next_first, on_init_open, on_init_in, on_init, cookie_in, without_cookie, echo, identity_of_init_ack, echo_or_abort, on_init_ack_in, on_init_ack, enter_connected, CookieResolution, EstablishNew, RestartDetected, SimultaneousInit, MaintainExisting, Discard, InvalidTag, resolve_cookie, cookie_ack, anew, maintain_existing, maintain_existing_in, too_late, restarts, restarts_in, restart, on_resolution, on_read_cookie, on_cookie_echo, new_unless, new_if}
+use Rattle.spec_endpoint.specs.Opening.{tsn_from, tag_from, answer, next_first, on_init_open, on_init_in, on_init, cookie_in, without_cookie, echo, identity_of_init_ack, echo_or_abort, on_init_ack_in, on_init_ack, enter_connected, CookieResolution, EstablishNew, RestartDetected, SimultaneousInit, MaintainExisting, Discard, InvalidTag, resolve_cookie, cookie_ack, anew, maintain_existing, maintain_existing_in, too_late, restarts, restarts_in, restart, on_resolution, on_read_cookie, on_cookie_echo, new_unless, new_if, restarted}
 use Rattle.proof_draws.specs.NamedChunks.{Names, AreNames, flip, move_by, named_parameter, named_init}
 use Rattle.proof_draws.specs.Names.{named_tcb, named_phase, named_state, named_endpoint_state, named_cookie, plain, with_random}
 use Rattle.proof_draws.specs.Laws.{TiesTell}
@@ -173,7 +173,7 @@ module _ {P : Type 0} (n : Names) (are : AreNames n) (pack : Packing P) where
 
   restarts_named : (k : Cookie) (s : EndpointState P) (w v : Stream) → DrawsTie n w v → Knows n pack s.context
       → (restarts (named_cookie n k) (with_random v (named_endpoint_state n pack s))).endpoint_state ≡ named_endpoint_state n pack (restarts k (with_random w s)).endpoint_state
-  restarts_named k s w v d knows = anew_drawn true k (emit_event_in OnConnectionRestarted s.context) w v d knows
+  restarts_named k s w v d knows = anew_drawn true k (restarted s.context) w v d knows
 
   restarts_in_named : (phase : Phase) (t : Tcb) (k : Cookie) (s : EndpointState P) (w v : Stream) → DrawsTie n w v → Knows n pack s.context
       → (restarts_in (named_phase n phase) (named_tcb n t) (named_cookie n k) (with_random v (named_endpoint_state n pack s))).endpoint_state

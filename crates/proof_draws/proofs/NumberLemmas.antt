@@ -12,7 +12,6 @@ use Rattle.sctp_packet.specs.Chunk.{ChunkTree, FragmentTree, SackTree, data_chun
 use Rattle.sctp_capabilities.specs.declared.state_cookie.StateCookieError.{StateCookieError}
 use Rattle.sctp_capabilities.specs.Capabilities.{negotiate, zero_checksum_enabled}
 use Rattle.sctp_capabilities.specs.StateCookie.{Cookie, read_cookie}
-use Rattle.sctp_state.specs.Events.{OnConnectionRestarted}
 use Rattle.sctp_tx_outstanding.specs.OutstandingData.{number_of, fast_items}
 use Rattle.sctp_tx_outstanding.specs.Sack.{is_valid}
 use Rattle.sctp_tx_outstanding.specs.Forward.{is_forward_due}
@@ -21,7 +20,7 @@ use Rattle.sctp_tx_queue.specs.Resets.{streams_to_request, request_resets}
 use Rattle.sctp_tx.specs.RetransmissionQueue.{SackAnswer, Invalid, Valid, sender_if, emitted_if, answer_if}
 use Rattle.sctp_tx.specs.ForwardPoints.{forward_chunk}
 use Rattle.spec_endpoint.specs.Association.{Tcb, Phase, CookieEchoed, Established, ShutdownPending, ShutdownSent, ShutdownReceived, ShutdownAckSent, State, Closed, CookieWait, Open, Context, EndpointState, Endpoint, where_open}
-use Rattle.spec_endpoint.specs.Packets.{PacketDraft, fits, add, has_chunks, packet_to, new_packet, emit_event_in}
+use Rattle.spec_endpoint.specs.Packets.{PacketDraft, fits, add, has_chunks, packet_to, new_packet}
 use Rattle.spec_endpoint.specs.ResetRequests.{Request, Requests, is_final, is_last_request, is_next_request, is_known_request, end_or_defer, response_if, handle_response_in}
 use Rattle.spec_endpoint.specs.Sending.{Filling, take_due_ack, ack_if, has_data_to_send, with_ack, forward_added_if, forward_if, with_expired_abandoned, forward_if_time, with_forward, most_streams, request_of, request_unless, filled_as, BurstStep, burst_step_if, next_packet, continue_burst, burst, is_before_cookie_ack, send_with, fast_if, send_lost}
 use Rattle.spec_endpoint.specs.Shutdown.{on_shutdown, on_shutdown_ack_in, on_shutdown_complete, abort_for_violation, on_error, refused_if, aborted_in}
@@ -29,7 +28,7 @@ use Rattle.spec_endpoint.specs.Shutdown as closing
 use Rattle.spec_endpoint.specs.Data.{on_data_in, on_data_if, on_data, accepts_fragment, fragment_if, accepts_point, handle_forward_tsn_if, handle_forward_tsn_in, has_room, told_of_drop}
 use Rattle.spec_endpoint.specs.Sack.{clean_blocks, sample_rtt, after_sack, on_sack_in, is_late, sampled_unless}
 use Rattle.spec_endpoint.specs.Sack as acks
-use Rattle.spec_endpoint.specs.Opening.{on_cookie_ack, enter_connected, tcb_by, queue_for, cookie_ack, anew, maintain_existing, maintain_existing_in, restarts, restarts_in, restart, CookieResolution, EstablishNew, RestartDetected, SimultaneousInit, MaintainExisting, Discard, InvalidTag, resolve_cookie, on_resolution, on_read_cookie, on_cookie_echo, long_word}
+use Rattle.spec_endpoint.specs.Opening.{on_cookie_ack, enter_connected, tcb_by, queue_for, cookie_ack, anew, maintain_existing, maintain_existing_in, restarts, restarts_in, restart, CookieResolution, EstablishNew, RestartDetected, SimultaneousInit, MaintainExisting, Discard, InvalidTag, resolve_cookie, on_resolution, on_read_cookie, on_cookie_echo, long_word, restarted}
 use Rattle.spec_endpoint.specs.StreamReset.{Handling, handling, is_ahead, resets_unless, outgoing_by, incoming_if, on_parameter, is_outgoing, HandledParameters, handle_next, handle_all, send_responses, finish_reconfig_if, on_reconfig}
 use Rattle.spec_endpoint.specs.Input.{violation, on_unknown_if, is_reported, on_heartbeat, on_chunk, received_unless, receive, repeats, repeats_if}
 use Rattle.sctp_wire.specs.Cause.{CauseTree}
@@ -347,7 +346,7 @@ module _ {P : Type 0} where
   keep_fits k (Open phase t) c h = kept_fits k phase t c h
 
   restarted_fits : (k : Cookie) (e : Endpoint P) → k.my_initial_tsn < u32_space → NumbersFitIn (restarts k e).endpoint_state.state
-  restarted_fits k e first = anew_fits true k (long_word e) (emit_event_in OnConnectionRestarted e.endpoint_state.context) first
+  restarted_fits k e first = anew_fits true k (long_word e) (restarted e.endpoint_state.context) first
 
   restarts_fit : (phase : Phase) (t : Tcb) (k : Cookie) (e : Endpoint P) → k.my_initial_tsn < u32_space → NumbersFitIn e.endpoint_state.state
       → NumbersFitIn (restarts_in phase t k e).endpoint_state.state

@@ -4,7 +4,8 @@ use Rattle.std.proofs.lemmas.List.Elements.{All-nil, All-cons, All-head, All-tai
 use Rattle.sctp_state.specs.Events.{Event, SendPacket, OnError, OnAborted}
 use Rattle.spec_endpoint.specs.Association.{Context}
 use Rattle.proof_endpoint.specs.Mapped.{Carried}
-use Rattle.proof_pair.specs.Trace.{Side, packets_in}
+use Rattle.proof_pair.specs.Trace.{Side}
+use Rattle.spec_endpoint.specs.Packets.{packets_in}
 use Rattle.proof_draws.specs.Alike.{IsImage, AreEventsAlike, PassesAt, ImagesPass}
 
 module _ (y z : Side) (same : z.end.endpoint_state.context ≡ y.end.endpoint_state.context) where

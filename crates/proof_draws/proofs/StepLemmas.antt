@@ -15,8 +15,9 @@ use Rattle.spec_endpoint.specs.Input.{count_packet_at, count_packet}
 use Rattle.spec_endpoint.specs.Laws.{Call, ReceivePacket, called, is_closed}
 use Rattle.proof_endpoint.specs.Mapped.{Carried, as_carried}
 use Rattle.proof_endpoint.specs.Acts.{is_opened}
-use Rattle.proof_pair.specs.Trace.{Side, packets_in, drain, state_of}
+use Rattle.proof_pair.specs.Trace.{Side, drain, state_of}
 use Rattle.proof_pair.specs.Agreement.{Draw as Drawn}
+use Rattle.spec_endpoint.specs.Packets.{packets_in}
 use Rattle.proof_pair.proofs.JoinLemmas.{Draw, Both, view_of, IsInitAck, Says}
 use Rattle.proof_pair.proofs.TraceLemmas.{SaysAll}
 use Rattle.proof_pair.proofs.AgreeLemmas.{is_load}

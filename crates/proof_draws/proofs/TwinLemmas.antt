@@ -8,8 +8,9 @@ use Rattle.sctp_state.specs.Events.{Event, SendPacket, OnError, OnAborted}
 use Rattle.spec_endpoint.specs.Association.{State}
 use Rattle.spec_endpoint.specs.Shown.{Association, association_in}
 use Rattle.proof_endpoint.specs.Mapped.{Carried}
-use Rattle.proof_pair.specs.Trace.{Side, packets_in, state_of}
+use Rattle.proof_pair.specs.Trace.{Side, state_of}
 use Rattle.proof_pair.specs.Agreement.{Draw}
+use Rattle.spec_endpoint.specs.Packets.{packets_in}
 use Rattle.proof_pair.proofs.AgreeLemmas.{is_load}
 use Rattle.proof_draws.specs.Names.{named_state}
 use Rattle.proof_draws.specs.Images.{named_carried}

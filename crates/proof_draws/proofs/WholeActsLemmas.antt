@@ -23,7 +23,7 @@ use Rattle.sctp_tx.specs.ForwardPoints.{chunk_if}
 use Rattle.sctp_tx.specs.Sending as fragments
 use Rattle.spec_endpoint.specs.Association.{Tcb, Phase, CookieEchoed, State, Closed, CookieWait, Open, Context, Packing}
 use Rattle.spec_endpoint.specs.Sack.{clean_blocks}
-use Rattle.spec_endpoint.specs.Packets.{PacketDraft, room, add, add_all, header_to}
+use Rattle.spec_endpoint.specs.Packets.{PacketDraft, room, add, add_all, header_to, packets_in}
 use Rattle.spec_endpoint.specs.ResetRequests.{Requests, Outcome, Unsettled, Done, Denied, outcome, request_chunk}
 use Rattle.spec_endpoint.specs.StreamReset.{on_outcome}
 use Rattle.spec_endpoint.specs.Sending.{selective_ack, data_chunks, fast_most, asks_at_once}
@@ -32,7 +32,6 @@ use Rattle.spec_endpoint.specs.Calls.{shown_state, is_shutting_down, is_queue_fu
 use Rattle.spec_endpoint.specs.Laws.{Call}
 use Rattle.proof_endpoint.specs.Mapped.{Carried, as_carried}
 use Rattle.proof_endpoint.specs.Acts.{EndWithPacket, drawn_tag, drawn_first, drawn_tag_alone, PacketAct, begins, adds_plain, emits, emits_error, counts, before_packets, after_packets, OpeningAct, connects, adds_init, answers_new, answers_waiting, answers_echoed, answers_again, echoes, adds_cookie, establishes, opens, restarts, opens_again, maintains, adds_cookie_ack, before_opening, after_opening, ClosingAct, closes, shuts, shuts_on, before_closing, after_closing, DataAct, takes_data, takes_idata, takes_forward, takes_iforward, before_data, after_data, SackAct, takes_sack, samples, counts_errors, before_sack, after_sack, SendingAct, asks, forces_ack, adds_ack, expires, adds_forward, forwards_later, asks_no_reset, asks_reset, adds_request, sends, sends_fast, before_sending, after_sending, TimeAct, advances, delay_ends, times_out, beats, times_init, times_cookie, times_request, times_items, wakes_request, before_time, after_time, CallAct, accepts, refuses, takes_message, sets_low_threshold, sets_priority, sets_max_message_size, before_call, after_call, ResetAct, prepares, defers, performs, processes, takes_response, adds_responses, before_reset, after_reset, HandoverAct, leaves, takes_up, before_handover, after_handover, InputAct, ends_packet, before_input, after_input, point_of, BringsChunk, IsAsked, HasRequest, for_outgoing, for_incoming, IsSummedSo, always, as_held, as_asked, as_before, fragments_of, HasNoEnd, PreservesUntilEnd}
-use Rattle.proof_pair.specs.Trace.{packets_in}
 use Rattle.proof_pair.proofs.EmittedLemmas.{EmitsNoPacketOrStatus}
 use Rattle.proof_pair.proofs.UntilLemmas.{sack_act_emits_no_packet_or_status, sending_act_emits_no_packet_or_status, time_act_emits_no_packet_or_status, call_act_emits_no_packet_or_status, reset_act_emits_no_packet_or_status, no_end, no_end_over}
 use Rattle.proof_pair.proofs.JoinLemmas.{view_of, IsInit, Can}

@@ -18,7 +18,8 @@ use Rattle.spec_endpoint.specs.Input.{packet_refusal, count_packet_at, packet_un
 use Rattle.spec_endpoint.specs.Laws.{Call, ReceivePacket, called, endings}
 use Rattle.proof_endpoint.specs.Mapped.{Carried}
 use Rattle.proof_endpoint.specs.Acts.{calm, BringsChunk}
-use Rattle.proof_pair.specs.Trace.{Side, Pair, new_side, packets_in, emitted_packets, EndAction, Calls, Gives, Refuses, drain, as_received, give_carried, foreign_if, act, goes, run, MayCall, MayAct, side_of, KeepsRules, NoAssociationHasEnded, AreValidOptions, start, state_of}
+use Rattle.proof_pair.specs.Trace.{Side, Pair, new_side, emitted_packets, EndAction, Calls, Gives, Refuses, drain, as_received, give_carried, foreign_if, act, goes, run, MayCall, MayAct, side_of, KeepsRules, NoAssociationHasEnded, AreValidOptions, start, state_of}
+use Rattle.spec_endpoint.specs.Packets.{packets_in}
 use Rattle.proof_pair.proofs.UntilLemmas.{until_end}
 use Rattle.proof_pair.proofs.AddedLemmas.{all_get}
 use Rattle.proof_pair.proofs.JoinActsLemmas.{packets_both, Setting}

@@ -6,7 +6,8 @@ use Rattle.sctp_state.specs.Options.{SendOptions}
 use Rattle.spec_endpoint.specs.Association.{Endpoint, Packing}
 use Rattle.spec_endpoint.specs.Calls.{send_refusal_of}
 use Rattle.spec_endpoint.specs.Shown.{is_at_rest}
-use Rattle.proof_endpoint.specs.FirstRun.{drained, sending, taking, resting, IsSmall, association, Crosses, Rests}
+use Rattle.proof_endpoint.specs.FirstRun.{sending, taking, resting, IsSmall, association, Crosses, Rests}
+use Rattle.spec_endpoint.specs.Packets.{drained}
 use Rattle.proof_endpoint.proofs.OpeningRunLemmas.{opens, shows_by}
 use Rattle.proof_endpoint.proofs.SendRunLemmas.{accepts_message, sent_end, sends}
 use Rattle.proof_endpoint.proofs.TakeRunLemmas.{taken_end, takes_it}

@@ -14,7 +14,7 @@ use Rattle.spec_endpoint.specs.Association.{Closed, Established}
 use Rattle.spec_endpoint.specs.Packets.{room, header_to, emit_event_in}
 use Rattle.spec_endpoint.specs.ResetRequests.{Outcome, Unsettled, Done, Denied, outcome}
 use Rattle.spec_endpoint.specs.Sending.{fast_most}
-use Rattle.spec_endpoint.specs.Opening.{agreed_by, queue_anew, queue_if, other_mode}
+use Rattle.spec_endpoint.specs.Opening.{agreed_by, queue_anew, queue_if, other_mode, restarted}
 use Rattle.spec_endpoint.specs.Sack.{clean_blocks}
 use Rattle.spec_endpoint.specs.StreamReset.{on_outcome}
 use Rattle.spec_endpoint.specs.Shutdown.{emptied_if}
@@ -109,8 +109,10 @@ module _ {P : Type 0} (l : ℕ) where
     lives_opening (establishes tag t1 cookie t m received) = said OnConnected (in_open Established t m) refl
     lives_opening (opens tag k m echoed none own) = opened m.context.options.avoid_stalls k m
     lives_opening (restarts tag k phase t m echoed resolution) =
+        let b : Bool = m.context.options.avoid_stalls in
         let a : EndWithPacket P = in_open phase t m in
-        spends_then l (said OnConnectionRestarted a refl) (opened true k (with_context (emit_event_in OnConnectionRestarted m.context) a))
+        let d : EndWithPacket P = with_context (emptied_if b m.context) a in
+        spends_then l (emptied b a) (spends_then l (said OnConnectionRestarted d refl) (opened true k (with_context (restarted m.context) a)))
     lives_opening (opens_again tag k phase t m echoed resolution) = opened true k (in_open phase t m)
     lives_opening (maintains tag k t1 cookie t m echoed resolution) = said OnConnected (in_open Established t m) refl
     lives_opening act = same (before_opening act)

@@ -9,11 +9,11 @@ use Rattle.sctp_state.specs.Options.{Options}
 use Rattle.sctp_state.specs.Timer.{Timer}
 use Rattle.sctp_capabilities.specs.Capabilities.{announced_parameters, zero_checksum_enabled}
 use Rattle.sctp_capabilities.specs.StateCookie.{Cookie, read_cookie, refusal_text}
-use Rattle.sctp_state.specs.Events.{OnConnectionRestarted, OnAborted}
+use Rattle.sctp_state.specs.Events.{OnAborted}
 use Rattle.spec_endpoint.specs.Association.{Tcb, tcb, Phase, CookieEchoed, Established, ShutdownPending, ShutdownSent, ShutdownReceived, ShutdownAckSent, State, Closed, CookieWait, Open, Context, Endpoint}
-use Rattle.spec_endpoint.specs.Packets.{PacketDraft, fits, add, packet_to, new_packet, round_down_to_4, emit_event_in, emit}
+use Rattle.spec_endpoint.specs.Packets.{PacketDraft, fits, add, packet_to, new_packet, round_down_to_4, emit}
 use Rattle.spec_endpoint.specs.Sending.{is_before_cookie_ack}
-use Rattle.spec_endpoint.specs.Opening.{long_word, init_of, init_ack_of, next_first, send_init, t1_init, connect_in, connect, agreed_by, answers, answers_new, answers_again, on_init_open, on_init_in, on_init, cookie_in, without_cookie, t1_cookie, identity_of_init_ack, echo_or_abort, on_init_ack_in, on_init_ack, enter_connected, on_cookie_ack, CookieResolution, EstablishNew, RestartDetected, SimultaneousInit, MaintainExisting, Discard, InvalidTag, by_tags, new_if, new_unless, resolve_by_tags, resolve_cookie, cookie_ack, tcb_by, establishes as establishes_by, maintain_existing, too_late, restarts as restarts_by, restarts_in, on_resolution, on_read_cookie, on_cookie_echo}
+use Rattle.spec_endpoint.specs.Opening.{long_word, init_of, init_ack_of, next_first, send_init, t1_init, connect_in, connect, agreed_by, answers, answers_new, answers_again, on_init_open, on_init_in, on_init, cookie_in, without_cookie, t1_cookie, identity_of_init_ack, echo_or_abort, on_init_ack_in, on_init_ack, enter_connected, on_cookie_ack, CookieResolution, EstablishNew, RestartDetected, SimultaneousInit, MaintainExisting, Discard, InvalidTag, by_tags, new_if, new_unless, resolve_by_tags, resolve_cookie, cookie_ack, tcb_by, establishes as establishes_by, maintain_existing, too_late, restarts as restarts_by, restarts_in, on_resolution, on_read_cookie, on_cookie_echo, restarted}
 use Rattle.spec_endpoint.specs.Laws.{Call, Connect}
 use Rattle.proof_endpoint.proofs.ReceivedLemmas.{FitsCookie, FitsRead, read_fits}
 use Rattle.proof_endpoint.proofs.OwnChunksLemmas.{fair_shutdown_ack, fair_too_late, fair_missing}
@@ -230,7 +230,7 @@ module _ {P : Type 0} {call : Call} {R : EndWithPacket P → EndWithPacket P →
         → R (calm (end_in (Open phase t) s)) (calm (restarts_by a (end_in (Open phase t) s)))
     does_restarts phase t s is =
         let e : Endpoint P = end_in (Open phase t) s in
-        does_anew true (emit_event_in OnConnectionRestarted s.endpoint_state.context) e (calm e) (k.opening (restarts tag a phase t (calm e) h is))
+        does_anew true (restarted s.endpoint_state.context) e (calm e) (k.opening (restarts tag a phase t (calm e) h is))
 
     does_restarts_in : (phase : Phase) (t : Tcb) (s : Endpoint P) → resolve_by_tags tag t.identity a ≡ RestartDetected
         → R (calm (end_in (Open phase t) s)) (calm (restarts_in phase t a (end_in (Open phase t) s)))

@@ -11,11 +11,11 @@ use Rattle.spec_endpoint.specs.Association.{Identity, Tcb, tcb, Phase, CookieEch
 use Rattle.spec_endpoint.specs.Heartbeats.{restart_interval}
 use Rattle.spec_endpoint.specs.Packets.{PacketDraft, add, packet_to, new_packet, round_down_to_4, emit_event_in, emit_error, emit}
 use Rattle.spec_endpoint.specs.Sending.{AfterSending, open_with, send_buffered, send_cookie}
-use Rattle.spec_endpoint.specs.Shutdown.{cleared_if, send_shutdown_ack}
-use Rattle.spec_endpoint.specs.Opening.{tsn_from, tag_from, word, drew_word, long_word, drew_long_word, with_endpoint_state, init_of, send_init, t1_init, waiting, connect_in, connect, agreed_by, init_ack_of, answer, answers, answers_new, next_first, answers_again, on_init_open, on_init_in, on_init, cookie_in, maker, without_cookie, queue_anew, t1_cookie, echo, identity_of_init_ack, echo_or_abort, on_init_ack_in, on_init_ack, enter_connected, establish, on_cookie_ack, CookieResolution, EstablishNew, RestartDetected, SimultaneousInit, MaintainExisting, Discard, InvalidTag, resolve_cookie, cookie_ack, queue_for, tcb_by, anew, establishes, maintain_existing, maintain_existing_in, too_late, restarts, restarts_in, restart, emit_parse_error, on_resolution, on_read_cookie, on_cookie_echo}
+use Rattle.spec_endpoint.specs.Shutdown.{cleared_if, send_shutdown_ack, emptied_if}
+use Rattle.spec_endpoint.specs.Opening.{tsn_from, tag_from, word, drew_word, long_word, drew_long_word, with_endpoint_state, init_of, send_init, t1_init, waiting, connect_in, connect, agreed_by, init_ack_of, answer, answers, answers_new, next_first, answers_again, on_init_open, on_init_in, on_init, cookie_in, maker, without_cookie, queue_anew, t1_cookie, echo, identity_of_init_ack, echo_or_abort, on_init_ack_in, on_init_ack, enter_connected, establish, on_cookie_ack, CookieResolution, EstablishNew, RestartDetected, SimultaneousInit, MaintainExisting, Discard, InvalidTag, resolve_cookie, cookie_ack, queue_for, tcb_by, anew, establishes, maintain_existing, maintain_existing_in, too_late, restarts, restarts_in, restart, emit_parse_error, on_resolution, on_read_cookie, on_cookie_echo, restarted}
 use Rattle.proof_endpoint.specs.Mapped.{Mapping, map_context, map_endpoint_state, map_end}
 use Rattle.proof_endpoint.proofs.SendingMapsLemmas.{map_sent, maps_say, maps_emit_error, maps_emit, maps_send_with, maps_send_buffered, maps_send_cookie}
-use Rattle.proof_endpoint.proofs.RowMapsLemmas.{endpoint_state_in, beating_as, OpenMaps, maps_in_state, maps_closed_by, maps_send_shutdown_ack}
+use Rattle.proof_endpoint.proofs.RowMapsLemmas.{endpoint_state_in, beating_as, OpenMaps, maps_in_state, maps_closed_by, maps_send_shutdown_ack, maps_emptied_in}
 
 -- an end in a state
 abbrev end_in : {P : Type 0} → State → Endpoint P → Endpoint P
@@ -187,8 +187,11 @@ module _ {P Q : Type 0} (f : Mapping P Q) where
 
   maps_restarts : (k : Cookie) (s : Endpoint P) → restarts k (map_end f s) ≡ map_end f (restarts k s)
   maps_restarts k s =
-      ap (λ (d : Context Q). establishes true k d (map_end f s)) (maps_say f OnConnectionRestarted s.endpoint_state.context)
-      ∙ maps_establishes true k (emit_event_in OnConnectionRestarted s.endpoint_state.context) s
+      let c : Context P = s.endpoint_state.context in
+      let d : Context P = emptied_if c.options.avoid_stalls c in
+      ap (λ (x : Context Q). establishes true k (emit_event_in OnConnectionRestarted x) (map_end f s)) (maps_emptied_in f c.options.avoid_stalls c)
+      ∙ (ap (λ (x : Context Q). establishes true k x (map_end f s)) (maps_say f OnConnectionRestarted d)
+      ∙ maps_establishes true k (restarted c) s)
 
   maps_restarts_in : (phase : Phase) (t : Tcb) (k : Cookie) (s : Endpoint P) → restarts_in phase t k (map_end f s) ≡ map_end f (restarts_in phase t k s)
   maps_restarts_in (CookieEchoed t1 cookie) t k s = maps_restarts k s

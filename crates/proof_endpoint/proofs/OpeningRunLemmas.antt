@@ -23,7 +23,8 @@ use Rattle.spec_endpoint.specs.Input.{my_tag, abort_flag, complete_flag, has_shu
 use Rattle.spec_endpoint.specs.Shown.{Association, association_in}
 use Rattle.spec_endpoint.specs.Association.{heartbeats}
 use Rattle.spec_endpoint.specs.Heartbeats.{restart_interval}
-use Rattle.proof_endpoint.specs.FirstRun.{first_of, tag_of, init_tree, init_packet, init_ack_packet, cookie_echo_packet, cookie_ack_packet, give, drained, packet_event, asking, answering, echoing, accepting, opening, association, Shows, Opens}
+use Rattle.proof_endpoint.specs.FirstRun.{first_of, tag_of, init_tree, init_packet, init_ack_packet, cookie_echo_packet, cookie_ack_packet, give, packet_event, asking, answering, echoing, accepting, opening, association, Shows, Opens}
+use Rattle.spec_endpoint.specs.Packets.{drained}
 use Rattle.sctp_serial.proofs.NumberLemmas.{is_itself}
 
 -- ---- the ends, by their parts

@@ -8,14 +8,15 @@ use Rattle.sctp_capabilities.specs.Capabilities.{announced_parameters, negotiate
 use Rattle.sctp_capabilities.specs.StateCookie.{Cookie, read_cookie, refusal_text}
 use Rattle.sctp_state.specs.Events.{OnConnected, OnConnectionRestarted, OnAborted}
 use Rattle.spec_endpoint.specs.Association.{Identity, Tcb, tcb, Phase, CookieEchoed, Established, ShutdownPending, ShutdownSent, ShutdownReceived, ShutdownAckSent, State, Closed, CookieWait, Open, Context, EndpointState, Endpoint}
-use Rattle.spec_endpoint.specs.Packets.{PacketDraft, add, packet_to, new_packet, round_down_to_4, emit_event_in, emit_error, emit}
-use Rattle.spec_endpoint.specs.Shutdown.{send_shutdown_ack}
-use Rattle.spec_endpoint.specs.Opening.{tsn_from, tag_from, word, drew_word, long_word, init_of, send_init, connect_in, connect, agreed_by, init_ack_of, answer, answers, answers_new, next_first, answers_again, on_init_open, on_init_in, on_init, cookie_in, maker, without_cookie, queue_anew, echo, identity_of_init_ack, echo_or_abort, on_init_ack_in, on_init_ack, enter_connected, establish, on_cookie_ack, CookieResolution, EstablishNew, RestartDetected, SimultaneousInit, MaintainExisting, Discard, InvalidTag, resolve_cookie, cookie_ack, queue_for, tcb_by, anew, establishes, maintain_existing, maintain_existing_in, too_late, restarts, restarts_in, restart, emit_parse_error, on_resolution, on_read_cookie, on_cookie_echo}
+use Rattle.spec_endpoint.specs.Packets.{PacketDraft, add, packet_to, new_packet, round_down_to_4, emit_error, emit}
+use Rattle.spec_endpoint.specs.Shutdown.{send_shutdown_ack, emptied_if}
+use Rattle.spec_endpoint.specs.Opening.{tsn_from, tag_from, word, drew_word, long_word, init_of, send_init, connect_in, connect, agreed_by, init_ack_of, answer, answers, answers_new, next_first, answers_again, on_init_open, on_init_in, on_init, cookie_in, maker, without_cookie, queue_anew, echo, identity_of_init_ack, echo_or_abort, on_init_ack_in, on_init_ack, enter_connected, establish, on_cookie_ack, CookieResolution, EstablishNew, RestartDetected, SimultaneousInit, MaintainExisting, Discard, InvalidTag, resolve_cookie, cookie_ack, queue_for, tcb_by, anew, establishes, maintain_existing, maintain_existing_in, too_late, restarts, restarts_in, restart, emit_parse_error, on_resolution, on_read_cookie, on_cookie_echo, restarted}
 use Rattle.spec_endpoint.specs.Laws.{ends}
 use Rattle.proof_endpoint.proofs.StepsLemmas.{most_bytes, Goes, Steps, EndSteps}
-use Rattle.proof_endpoint.proofs.GoesLemmas.{IsSmall, small_empty, small_add, small_new, small_whole, rounded_down_le, goes_silent, goes_same, goes_then, goes_said, goes_emit_error, goes_emit}
+use Rattle.proof_endpoint.proofs.GoesLemmas.{IsSmall, small_empty, small_add, small_new, small_whole, rounded_down_le, goes_silent, goes_same, goes_then, goes_said, goes_emit_error, goes_emit, goes_by}
 use Rattle.proof_endpoint.proofs.SendingStepsLemmas.{goes_send_with, goes_send_buffered, goes_send_cookie}
 use Rattle.proof_endpoint.proofs.RowStepsLemmas.{StepsFrom, OpenSteps, steps_context, steps_same, steps_opened, goes_closed, goes_send_shutdown_ack}
+use Rattle.proof_endpoint.proofs.EmptiedLemmas.{emits_emptied}
 
 -- an end in a state
 abbrev pub end_in : {P : Type 0} → State → Endpoint P → Endpoint P
@@ -171,8 +172,11 @@ module _ {P : Type 0} where
 
   steps_restarts : (k : Cookie) (s : Endpoint P) → EndSteps s (restarts k s)
   steps_restarts k s =
-      let d : Context P = emit_event_in OnConnectionRestarted s.endpoint_state.context in
-      steps_establishes true k d s (goes_said 0 s.endpoint_state.context d OnConnectionRestarted refl refl refl tt refl)
+      let c : Context P = s.endpoint_state.context in
+      let d : Context P = emptied_if c.options.avoid_stalls c in
+      steps_establishes true k (restarted c) s (goes_then 0 c d (restarted c)
+      (goes_by 0 c d refl refl (emits_emptied c.pack (most_bytes c) c.options.avoid_stalls c.queue c.emitted))
+      (goes_said 0 d (restarted c) OnConnectionRestarted refl refl refl tt refl))
 
   steps_restarts_in : (phase : Phase) (t : Tcb) (k : Cookie) (s : Endpoint P) → EndSteps s (restarts_in phase t k s)
   steps_restarts_in (CookieEchoed t1 cookie) t k s = steps_restarts k s

@@ -11,12 +11,12 @@ use Rattle.sctp_state.specs.Events.{nothing_emitted}
 use Rattle.sctp_tx_outstanding.specs.Sack.{acked_bytes}
 use Rattle.sctp_tx.specs.RetransmissionQueue.{Sender, handle_sack}
 use Rattle.spec_endpoint.specs.Association.{Tcb, Established, Open, Context, EndpointState, Endpoint, where_open, Packing}
-use Rattle.spec_endpoint.specs.Packets.{has_chunks, new_packet}
+use Rattle.spec_endpoint.specs.Packets.{has_chunks, new_packet, drained}
 use Rattle.spec_endpoint.specs.Sending.{Filling, burst_step_if, continue_burst, burst, sent_by, open_with}
 use Rattle.spec_endpoint.specs.Sack.{sample_rtt, on_clean_sack, send_after_sack}
 use Rattle.spec_endpoint.specs.Shutdown.{cleared_if, phase_step}
 use Rattle.spec_endpoint.specs.Input.{count_packet_at, on_packet_end, packet_unless}
-use Rattle.proof_endpoint.specs.FirstRun.{first_of, tag_of, sack_packet, delivered_events, give, drained, resting, IsSmall}
+use Rattle.proof_endpoint.specs.FirstRun.{first_of, tag_of, sack_packet, delivered_events, give, resting, IsSmall}
 use Rattle.proof_endpoint.proofs.OpeningRunLemmas.{emitting, first_small, tag_some, own_taken, drawn, open_a}
 use Rattle.proof_endpoint.proofs.QueueRunLemmas.{emptied}
 use Rattle.proof_endpoint.proofs.IdleRunLemmas.{data_idle, none_kept}

@@ -88,12 +88,14 @@ module _ {P Q : Type 0} (f : Mapping P Q) where
   maps_go_on ShutdownReceived t c = maps_received (is_quiet t c) t c
   maps_go_on (ShutdownAckSent t2) t c = refl
 
+  pub maps_emptied_in : (b : Bool) (c : Context P) → emptied_if b (map_context f c) ≡ map_context f (emptied_if b c)
+  maps_emptied_in b c = ap (λ (x : Changed Q). changed_to (record (map_context f c) { errors = cleared_if b c.errors }) x) (maps_emptied f b c.queue c.emitted)
+
   pub maps_over : (e : Event P) (c : Context P) → over (map_event f e) (map_context f c) ≡ map_context f (over e c)
   maps_over e c =
       let b : Bool = c.options.avoid_stalls in
-      let d : Context P = ended e c in
       ap (λ (x : Context Q). emptied_if b x) (ap (λ (x : Context Q). beating_as x (stop_heartbeats c.heartbeats)) (maps_say f e c))
-      ∙ ap (λ (x : Changed Q). changed_to (record (map_context f d) { errors = cleared_if b d.errors }) x) (maps_emptied f b d.queue d.emitted)
+      ∙ maps_emptied_in b (ended e c)
 
   pub maps_closed : (e : Event P) (c : Context P) → close_with (map_event f e) (map_context f c) ≡ map_endpoint_state f (close_with e c)
   maps_closed e c = maps_in_state Closed (over e c) _ (maps_over e c)

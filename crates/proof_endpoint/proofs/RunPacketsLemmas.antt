@@ -25,8 +25,9 @@ use Rattle.spec_endpoint.specs.Opening.{init_of, cookie_for, init_ack_of}
 use Rattle.spec_endpoint.specs.Wire.{writing}
 use Rattle.spec_endpoint.specs.Receiving.{Receives}
 use Rattle.proof_endpoint.specs.Mapped.{Carried, as_written}
-use Rattle.proof_endpoint.specs.FirstRun.{first_of, tag_of, packet, init_tree, fragment, init_packet, init_ack_packet, cookie_echo_packet, cookie_ack_packet, data_packet, sack_packet, give, drained, asking, answering, echoing, accepting, sending, IsSmall, LeadsOn}
+use Rattle.proof_endpoint.specs.FirstRun.{first_of, tag_of, packet, init_tree, fragment, init_packet, init_ack_packet, cookie_echo_packet, cookie_ack_packet, data_packet, sack_packet, give, asking, answering, echoing, accepting, sending, IsSmall, LeadsOn}
 use Rattle.proof_endpoint.specs.ReceivedBack.{IsReceivable}
+use Rattle.spec_endpoint.specs.Packets.{drained}
 use Rattle.proof_endpoint.proofs.OpeningRunLemmas.{tag_small, first_small, asks, answers, echoes, accepts}
 use Rattle.proof_endpoint.proofs.SendRunLemmas.{sends, padding_small}
 use Rattle.proof_endpoint.proofs.ReceivedBackLemmas.{written_alone}

@@ -25,11 +25,11 @@ use Rattle.sctp_tx.specs.RetransmissionQueue.{Sender}
 use Rattle.sctp_tx.specs.Sending as fragments
 use Rattle.sctp_tx.specs.Sending.{filling, fill, take_turn, timed_filling}
 use Rattle.spec_endpoint.specs.Association.{Tcb, Established, Open, Context, EndpointState, Endpoint, with_context, where_open, Packing}
-use Rattle.spec_endpoint.specs.Packets.{PacketDraft, fits, added_if, room, has_chunks, new_packet}
+use Rattle.spec_endpoint.specs.Packets.{PacketDraft, fits, added_if, room, has_chunks, new_packet, drained}
 use Rattle.spec_endpoint.specs.Sending.{Filling, with_fragments, emit_packet, burst_step_if, continue_burst, burst, sent_by, open_with, send_in}
 use Rattle.spec_endpoint.specs.Calls.{send_refusal, offered, sent_unless, send}
 use Rattle.spec_endpoint.specs.Input.{in_endpoint_state}
-use Rattle.proof_endpoint.specs.FirstRun.{first_of, tag_of, fragment, data_packet, packet_event, drained, sending, IsSmall}
+use Rattle.proof_endpoint.specs.FirstRun.{first_of, tag_of, fragment, data_packet, packet_event, sending, IsSmall}
 use Rattle.proof_endpoint.proofs.OpeningRunLemmas.{emitting, first_small, drawn, block, open_a, opened_a, opens}
 use Rattle.proof_endpoint.proofs.QueueRunLemmas.{holding, emptied, queues, produces}
 use Rattle.proof_endpoint.proofs.IdleRunLemmas.{fill_idle, burst_ends}

@@ -21,10 +21,10 @@ use Rattle.sctp_tx.specs.ForwardPoints.{forward_chunk}
 use Rattle.sctp_tx.specs.Sending as fragments
 use Rattle.sctp_tx_outstanding.specs.Losses.{expire_outstanding}
 use Rattle.spec_endpoint.specs.Association.{Tcb, Phase, CookieEchoed, Established, ShutdownPending, ShutdownSent, ShutdownReceived, ShutdownAckSent, State, Closed, CookieWait, Open, Context, Packing}
-use Rattle.spec_endpoint.specs.Packets.{PacketDraft, room, clear_chunks, header_to, emit_event_in}
+use Rattle.spec_endpoint.specs.Packets.{PacketDraft, room, clear_chunks, header_to}
 use Rattle.spec_endpoint.specs.ResetRequests.{Requests, Outcome, Unsettled, Done, Denied, outcome, request_chunk}
 use Rattle.spec_endpoint.specs.Sending.{is_before_cookie_ack, selective_ack, add_reset_breakpoint, last_assigned, asks_at_once, fast_most}
-use Rattle.spec_endpoint.specs.Opening.{tag_from, tsn_from, next_first, word, long_word, drew_word, identity_of_init_ack, agreed_by, cookie_in, queue_if, other_mode, identity_of}
+use Rattle.spec_endpoint.specs.Opening.{tag_from, tsn_from, next_first, word, long_word, drew_word, identity_of_init_ack, agreed_by, cookie_in, queue_if, other_mode, identity_of, restarted}
 use Rattle.spec_endpoint.specs.Sack.{clean_blocks}
 use Rattle.spec_endpoint.specs.Calls.{lifecycle_end_events, refusal_events, refuse, queue_entry, set_low_threshold}
 use Rattle.spec_endpoint.specs.StreamReset.{on_outcome, prepare_reset_stream}
@@ -272,7 +272,9 @@ module _ {P : Type 0} (g : Start P) (call : Call) (a : Argument call) where
   goes_opening (establishes tag t1 cookie t m received) h = saying (in_the_state h (Open Established t) (tt, h.state.1)) OnConnected tt
   goes_opening (opens tag k m echoed none own) h = opened g m.context.options.avoid_stalls k m (echoed_fits tag k echoed a.fitting) h
   goes_opening (restarts tag k phase t m echoed resolution) h =
-      opened g true k (with_context (emit_event_in OnConnectionRestarted m.context) (in_open phase t m)) (echoed_fits tag k echoed a.fitting) (saying h OnConnectionRestarted tt)
+      let e : EndWithPacket P = in_open phase t m in
+      opened g true k (with_context (restarted m.context) e) (echoed_fits tag k echoed a.fitting)
+      (saying (emptied_sound g m.context.options.avoid_stalls e h) OnConnectionRestarted tt)
   goes_opening (opens_again tag k phase t m echoed resolution) h = opened g true k (in_open phase t m) (echoed_fits tag k echoed a.fitting) h
   goes_opening (maintains tag k t1 cookie t m echoed resolution) h = saying (in_the_state h (Open Established t) (tt, h.state.1)) OnConnected tt
   goes_opening (adds_cookie_ack tag back phase t m echoed late) h = with_the_packet h _ (good_add g.most m.packet _ own_cookie_ack h.packet)

@@ -17,12 +17,12 @@ use Rattle.sctp_rx.specs.ReassemblyStreams.{Streams}
 use Rattle.sctp_rx.specs.ReassemblyQueue.{Reassembly, admits_fragment}
 use Rattle.sctp_rx.specs.ReassemblyQueue as reassembly
 use Rattle.spec_endpoint.specs.Association.{Tcb, Established, Open, Context, EndpointState, Endpoint, open_as, where_open, Packing}
-use Rattle.spec_endpoint.specs.Packets.{add, new_packet}
+use Rattle.spec_endpoint.specs.Packets.{add, new_packet, drained}
 use Rattle.spec_endpoint.specs.Sending.{window, take_due_ack, without_duplicates, open_with, send_with}
 use Rattle.spec_endpoint.specs.Data.{is_full, accepts_fragment, added_unless, take_fragment, fragment_if, on_data_if, on_data}
 use Rattle.spec_endpoint.specs.Input as input
 use Rattle.spec_endpoint.specs.Input.{count_packet_at, on_packet_end}
-use Rattle.proof_endpoint.specs.FirstRun.{first_of, tag_of, fragment, data_packet, sack_packet, packet_event, give, drained, taking, IsSmall}
+use Rattle.proof_endpoint.specs.FirstRun.{first_of, tag_of, fragment, data_packet, sack_packet, packet_event, give, taking, IsSmall}
 use Rattle.proof_endpoint.proofs.OpeningRunLemmas.{emitting, open_b, first_small, tag_some, own_taken, drawn, block, opened_b, accepts}
 use Rattle.proof_endpoint.proofs.QueueRunLemmas.{not_below_itself}
 use Rattle.proof_endpoint.proofs.SendRunLemmas.{first_written}

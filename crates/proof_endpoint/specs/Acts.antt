@@ -15,7 +15,7 @@ use Rattle.sctp_state.specs.declared.api.errors.SendError.{SendError}
 use Rattle.sctp_capabilities.specs.Capabilities.{zero_checksum_enabled, announced_parameters, negotiate}
 use Rattle.sctp_capabilities.specs.StateCookie.{Cookie, read_cookie}
 use Rattle.sctp_state.specs.TxErrorCounter.{ErrorCounter, one_error}
-use Rattle.sctp_state.specs.Events.{Event, OnConnected, OnConnectionRestarted, OnClosed, OnIncomingStreamReset, numbers_of}
+use Rattle.sctp_state.specs.Events.{Event, OnConnected, OnClosed, OnIncomingStreamReset, numbers_of}
 use Rattle.sctp_state.specs.Handover.{HandoverState}
 use Rattle.sctp_state.specs.Options.{SendOptions}
 use Rattle.sctp_state.specs.RetransmissionTimeout.{Rtt}
@@ -40,7 +40,7 @@ use Rattle.spec_endpoint.specs.ResetRequests.{Request, Requests, request_chunk, 
 use Rattle.spec_endpoint.specs.Sending.{selective_ack, take_due_ack, force_ack, without_duplicates, request_started, data_chunks, asks_at_once, is_before_cookie_ack, fast_most}
 use Rattle.spec_endpoint.specs.Heartbeats.{restart_interval_if}
 use Rattle.spec_endpoint.specs.Shutdown.{over}
-use Rattle.spec_endpoint.specs.Opening.{tsn_from, tag_from, word, drew_word, long_word, drew_long_word, init_of, t1_init, init_ack_of, next_first, agreed_by, cookie_in, maker, queue_anew, t1_cookie, identity_of_init_ack, enter_connected, RestartDetected, SimultaneousInit, MaintainExisting, resolve_by_tags, queue_for, tcb_by}
+use Rattle.spec_endpoint.specs.Opening.{tsn_from, tag_from, word, drew_word, long_word, drew_long_word, init_of, t1_init, init_ack_of, next_first, agreed_by, cookie_in, maker, queue_anew, t1_cookie, identity_of_init_ack, enter_connected, RestartDetected, SimultaneousInit, MaintainExisting, resolve_by_tags, queue_for, tcb_by, restarted}
 use Rattle.spec_endpoint.specs.Data.{accepts_tsn, take_fragment, handle_forward_tsn}
 use Rattle.spec_endpoint.specs.Sack.{clean_blocks, timed_by}
 use Rattle.spec_endpoint.specs.Calls.{shown_state, send_refusal, refuse, accept, set_low_threshold, set_priority, set_max_message_size}
@@ -309,7 +309,7 @@ after_opening (echoes tag i cookie my_tag first t1 m received brought) = echo_st
 after_opening (adds_cookie t1 cookie t m to) = with_chunk (cookie_echo_chunk cookie) (in_open (CookieEchoed t1 cookie) t m)
 after_opening (establishes tag t1 cookie t m received) = in_open Established t (with_context (enter_connected m.context) m)
 after_opening (opens tag k m echoed none own) = opened_by m.context.options.avoid_stalls k m
-after_opening (restarts tag k phase t m echoed resolution) = opened_by true k (with_context (emit_event_in OnConnectionRestarted m.context) m)
+after_opening (restarts tag k phase t m echoed resolution) = opened_by true k (with_context (restarted m.context) m)
 after_opening (opens_again tag k phase t m echoed resolution) = opened_by true k m
 after_opening (maintains tag k t1 cookie t m echoed resolution) = in_open Established t (with_context (enter_connected m.context) m)
 after_opening (adds_cookie_ack tag back phase t m echoed late) = with_chunk cookie_ack_chunk (in_open phase t m)

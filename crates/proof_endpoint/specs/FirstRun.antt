@@ -7,10 +7,10 @@ use Rattle.sctp_packet.specs.Chunk.{ChunkTree, FragmentTree, InitTree, init_chun
 use Rattle.sctp_state.specs.Options.{SendOptions, defaults}
 use Rattle.sctp_capabilities.specs.Capabilities.{announced_parameters}
 use Rattle.sctp_capabilities.specs.StateCookie.{cookie_bytes}
-use Rattle.sctp_state.specs.Events.{Event, SendPacket, OnConnected, OnBufferedAmountLow, OnLifecycleMessageDelivered, OnLifecycleEnd, nothing_emitted}
+use Rattle.sctp_state.specs.Events.{Event, SendPacket, OnConnected, OnBufferedAmountLow, OnLifecycleMessageDelivered, OnLifecycleEnd}
 use Rattle.sctp_tx_queue.specs.Produced.{fully_sent}
 use Rattle.spec_endpoint.specs.Association.{Endpoint, fresh, Packing}
-use Rattle.spec_endpoint.specs.Packets.{header_to}
+use Rattle.spec_endpoint.specs.Packets.{header_to, drained}
 use Rattle.spec_endpoint.specs.Opening.{tsn_from, tag_from, init_of, cookie_for, init_ack_of, connect}
 use Rattle.spec_endpoint.specs.Calls.{send_refusal_of, send, ready_in}
 use Rattle.spec_endpoint.specs.Input.{on_packet, in_endpoint_state}
@@ -80,10 +80,6 @@ sack_packet a m = packet (tag_of a) (sack_chunk (record {
 -- an end receives a packet
 abbrev pub give : {P : Type 0} → Carried → Endpoint P → Endpoint P
 give p s = on_packet (record { header = p.header; checksum = 0; chunks = p.chunks }) s
-
--- what was emitted is taken
-abbrev pub drained : {P : Type 0} → Endpoint P → Endpoint P
-drained s = record s { endpoint_state = record s.endpoint_state { context = record s.endpoint_state.context { emitted = nothing_emitted } } }
 
 module _ {P : Type 0} (pack : Packing P) (a b : Stream) where
   abbrev pub asking : Endpoint P

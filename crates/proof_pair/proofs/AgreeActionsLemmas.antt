@@ -16,8 +16,9 @@ use Rattle.spec_endpoint.specs.Input.{packet_refusal, count_packet_at, packet_un
 use Rattle.spec_endpoint.specs.Laws.{Call, Connect, ReceivePacket, ReceiveNoPacket, called}
 use Rattle.proof_endpoint.specs.Mapped.{Carried, as_carried}
 use Rattle.proof_endpoint.specs.Acts.{calm, is_opened, BringsChunk}
-use Rattle.proof_pair.specs.Trace.{Side, Pair, new_side, packets_in, emitted_packets, has_connected, EndAction, Calls, Gives, Refuses, drain, as_received, give_carried, foreign_if, act, goes, AreValidOptions, start, state_of}
+use Rattle.proof_pair.specs.Trace.{Side, Pair, new_side, emitted_packets, has_connected, EndAction, Calls, Gives, Refuses, drain, as_received, give_carried, foreign_if, act, goes, AreValidOptions, start, state_of}
 use Rattle.proof_pair.specs.Agreement.{Draw, Association, mirrored, Has, History, association_of, held_in, drawn_in, history_after, Histories, no_history, no_histories, histories_after, histories_along, AreDistinct, AreDistinctPerEnd, IsPlainCall, IsAllowed, AreAllowed, emitted_since, Agrees, AgreesAlong, EndsAgree}
+use Rattle.spec_endpoint.specs.Packets.{packets_in}
 use Rattle.proof_endpoint.proofs.PacketActsLemmas.{does_emit_error}
 use Rattle.proof_endpoint.proofs.ActsLemmas.{keeps_call, does_receive, does_repeats_if}
 use Rattle.proof_pair.proofs.AddedLemmas.{all_at, all_get}

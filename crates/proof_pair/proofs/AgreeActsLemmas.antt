@@ -6,12 +6,12 @@ use Rattle.std.proofs.Math.Bool.{or-false}
 use Rattle.sctp_packet.specs.Chunk.{ChunkTree, FragmentTree, init_chunk, init_ack_chunk, cookie_echo_chunk, cookie_ack_chunk, fragment_chunk}
 use Rattle.sctp_state.specs.Options.{Options}
 use Rattle.sctp_state.specs.Events.{Event, SendPacket}
-use Rattle.spec_endpoint.specs.Packets.{PacketDraft, fits, added_if, add, add_all, header_to}
+use Rattle.spec_endpoint.specs.Packets.{PacketDraft, fits, added_if, add, add_all, header_to, packets_in}
 use Rattle.spec_endpoint.specs.Association.{Tcb, Packing}
 use Rattle.spec_endpoint.specs.Sending.{data_chunks}
 use Rattle.proof_endpoint.specs.Mapped.{Carried, as_carried}
 use Rattle.proof_endpoint.specs.Acts.{EndWithPacket, is_plain}
-use Rattle.proof_pair.specs.Trace.{packets_in, has_connected}
+use Rattle.proof_pair.specs.Trace.{has_connected}
 use Rattle.proof_pair.proofs.EmittedLemmas.{is_no_packet_or_status}
 use Rattle.proof_pair.proofs.JoinActsLemmas.{no_packet_or_status_has_no_packets, no_packet_or_status_not_connected, connected_both, packets_now}
 use Rattle.proof_pair.proofs.AgreeLemmas.{Past, View, view_of, Says, says_later, Shape, is_load, shape_with, shape_plain, Stands, stands_later, Agreed, Bound, Tagged, Later, later_same, Said, said_later}

@@ -10,8 +10,8 @@ use Rattle.sctp_state.specs.Events.{Event, OnConnected, OnConnectionRestarted}
 use Rattle.sctp_state.specs.Options.{Options}
 use Rattle.sctp_state.specs.declared.api.ErrorKind.TheVariants.{ParseFailed, WrongSequence}
 use Rattle.spec_endpoint.specs.Association.{Tcb, Phase, CookieEchoed, Established, ShutdownPending, ShutdownSent, ShutdownReceived, ShutdownAckSent, State, Closed, CookieWait, Open, Context, Endpoint}
-use Rattle.spec_endpoint.specs.Packets.{PacketDraft, new_packet, fits, add, emit_event_in, emit}
-use Rattle.spec_endpoint.specs.Opening.{long_word, enter_connected, cookie_ack, tcb_by, establishes, CookieResolution, EstablishNew, RestartDetected, SimultaneousInit, MaintainExisting, Discard, InvalidTag, new_if, resolve_cookie, resolve_by_tags, by_tags, maintain_existing, too_late, restarts_in, on_resolution, new_unless}
+use Rattle.spec_endpoint.specs.Packets.{PacketDraft, new_packet, fits, add, emit}
+use Rattle.spec_endpoint.specs.Opening.{long_word, enter_connected, cookie_ack, tcb_by, establishes, CookieResolution, EstablishNew, RestartDetected, SimultaneousInit, MaintainExisting, Discard, InvalidTag, new_if, resolve_cookie, resolve_by_tags, by_tags, maintain_existing, too_late, restarts_in, on_resolution, new_unless, restarted as restarted_in}
 use Rattle.spec_endpoint.specs.Laws.{ReceiveNoPacket}
 use Rattle.proof_endpoint.specs.Mapped.{Carried}
 use Rattle.proof_endpoint.proofs.OpeningStepsLemmas.{end_in}
@@ -22,9 +22,12 @@ use Rattle.proof_endpoint.proofs.BundledLemmas.{added_more, first_more, plain_ad
 use Rattle.proof_endpoint.proofs.PacketActsLemmas.{new_addressed, whole_addressed, does_begin, does_out, does_emit_error, does_send_with}
 use Rattle.proof_endpoint.proofs.OpeningActsLemmas.{accepting}
 use Rattle.proof_pair.proofs.AgreeLemmas.{Past, View, holds, view_of, own_in, peer_in, SaysEcho, SaysAck, Holds, Tagged, Later, later_same, one_draw}
-use Rattle.proof_pair.proofs.AgreeActsLemmas.{Setting, Inv, InvAt, inv_view, inv_silent, inv_later, inv_grown, inv_bound, adds}
+use Rattle.proof_pair.proofs.AgreeActsLemmas.{Setting, Inv, InvAt, inv_view, inv_silent, inv_later, inv_grown, inv_bound, adds, inv_no_packet_or_status}
 use Rattle.proof_pair.proofs.AgreeNotesLemmas.{noted}
 use Rattle.proof_pair.proofs.AgreeOpeningLemmas.{Known, kept_quiet}
+use Rattle.spec_endpoint.specs.Shutdown.{emptied_if}
+use Rattle.proof_pair.proofs.UntilLemmas.{restart_gives_up}
+use Rattle.proof_pair.proofs.EmittedLemmas.{EmitsNoPacketOrStatus}
 
 abbrev pub past_of : History → List Association → Past
 past_of n echoed = record { drawn = n.drawn; held = n.held; echoed = echoed }
@@ -219,12 +222,13 @@ module _ (o : Options) (past : List (Event Carried)) (y : Past) (fine : AreValid
         does_emit_error quiet_here WrongSequence (codes "Received COOKIE-ECHO while shutting down") s (emit (add chunk q) c) w (does_out quiet_here s c w (add chunk q) (all_along (added_more chunk q (first_more shutdown_ack_chunk p refl refl) refl)) two)
 
     restarts_by : (phase : Phase) (t : Tcb) (c : Context Carried) (s : Endpoint Carried) → InvAt g x y (idle (Open phase t) c s.draws)
-        → Goes g y n echoed (noted [] (establishes true k (emit_event_in OnConnectionRestarted c) s).endpoint_state.state n) (establishes true k (emit_event_in OnConnectionRestarted c) s)
+        → Goes g y n echoed (noted [] (establishes true k (restarted_in c) s).endpoint_state.state n) (establishes true k (restarted_in c) s)
     restarts_by phase t c s inv =
         let v : View = view_of (Open phase t) in
-        let es : List (Event Carried) = c.emitted.events in
-        anew true v (emit_event_in OnConnectionRestarted c) s
-        (inv_light_restart v c es inv)
+        let l : EmitsNoPacketOrStatus c.emitted (emptied_if c.options.avoid_stalls c).emitted = restart_gives_up c in
+        let es : List (Event Carried) = (emptied_if c.options.avoid_stalls c).emitted.events in
+        anew true v (restarted_in c) s
+        (inv_light_restart v c es (inv_no_packet_or_status g x y v c.options c.pack c.emitted.events no_packet.tag [] inv l.events es l.behind l.all))
       where
         inv_light_restart : (v : View) (c : Context Carried) (es : List (Event Carried)) → Inv g x y v c.options c.pack es no_packet.tag []
             → Inv g x y v c.options c.pack (es ++ OnConnectionRestarted ∷ []) no_packet.tag []

@@ -17,8 +17,9 @@ use Rattle.spec_endpoint.specs.Laws.{Call, Connect, Restore, ReceivePacket, call
 use Rattle.proof_endpoint.specs.Mapped.{Carried, as_carried}
 use Rattle.proof_endpoint.proofs.OpeningStepsLemmas.{end_in}
 use Rattle.proof_endpoint.specs.Acts.{calm, no_packet}
-use Rattle.proof_pair.specs.Trace.{Side, new_side, packets_in, emitted_packets, has_connected, EndAction, Calls, Gives, Refuses, drain, as_received, give_carried, foreign_if, act, AreValidOptions, state_of}
+use Rattle.proof_pair.specs.Trace.{Side, new_side, emitted_packets, has_connected, EndAction, Calls, Gives, Refuses, drain, as_received, give_carried, foreign_if, act, AreValidOptions, state_of}
 use Rattle.proof_pair.specs.Agreement.{Association, mirrored, Has, History, held_in, drawn_to_connect, no_history, AreDistinct, IsAllowed, emitted_since}
+use Rattle.spec_endpoint.specs.Packets.{packets_in}
 use Rattle.proof_endpoint.proofs.PacketActsLemmas.{does_emit_error}
 use Rattle.proof_endpoint.proofs.ActsLemmas.{keeps_call}
 use Rattle.proof_pair.proofs.AddedLemmas.{all_get}

@@ -7,7 +7,7 @@ use Rattle.sctp_packet.specs.Chunk.{FragmentTree, init_ack_chunk}
 use Rattle.sctp_chunk.specs.declared.forward_tsn.SkippedStream.{SkippedStream}
 use Rattle.sctp_capabilities.specs.Capabilities.{announced_by, negotiate}
 use Rattle.sctp_capabilities.specs.StateCookie.{Cookie}
-use Rattle.sctp_state.specs.Events.{OnConnected, OnConnectionRestarted}
+use Rattle.sctp_state.specs.Events.{OnConnected}
 use Rattle.sctp_state.specs.RetransmissionTimeout.{Rtt}
 use Rattle.sctp_state.specs.Handover.{HandoverState}
 use Rattle.sctp_state.specs.Options.{SendOptions}
@@ -27,14 +27,14 @@ use Rattle.spec_endpoint.specs.Sending.{request_started, fast_most}
 use Rattle.spec_endpoint.specs.Sack.{timed_by}
 use Rattle.spec_endpoint.specs.Handover.{tcb_from, queue_restored}
 use Rattle.spec_endpoint.specs.Opening as opening
-use Rattle.spec_endpoint.specs.Opening.{tsn_from, tag_from, identity_of, tcb_by, long_word, word, drew_word, enter_connected, queue_for}
+use Rattle.spec_endpoint.specs.Opening.{tsn_from, tag_from, identity_of, tcb_by, long_word, word, drew_word, enter_connected, queue_for, restarted}
 use Rattle.spec_endpoint.specs.Data.{added_unless, skipped_if, take_fragment, handle_forward_tsn}
 use Rattle.spec_endpoint.specs.Calls.{send_refusal_by, is_shutting_down, is_queue_full, shown_state, send_refusal, queue_entry, accept}
 use Rattle.spec_endpoint.specs.StreamReset.{on_outcome}
-use Rattle.spec_endpoint.specs.Shutdown.{ended}
+use Rattle.spec_endpoint.specs.Shutdown.{ended, emptied_if}
 use Rattle.spec_endpoint.specs.Laws.{Call, Restore}
 use Rattle.proof_endpoint.specs.HandoverRoundTrip.{IsNumberedOnce, CallsNumberOnce, MadeConnected}
-use Rattle.proof_endpoint.specs.Acts.{EndWithPacket, end_of, point_of, IsOffered, fragments_of, PacketAct, begins, adds_plain, emits, emits_error, counts, before_packets, after_packets, OpeningAct, connects, adds_init, answers_new, answers_waiting, answers_echoed, answers_again, echoes, adds_cookie, establishes, opens, restarts, opens_again, maintains, adds_cookie_ack, before_opening, after_opening, ClosingAct, closes, shuts, shuts_on, before_closing, after_closing, DataAct, takes_data, takes_idata, takes_forward, takes_iforward, before_data, after_data, SackAct, takes_sack, samples, counts_errors, before_sack, after_sack, SendingAct, asks, forces_ack, adds_ack, expires, adds_forward, forwards_later, asks_no_reset, asks_reset, adds_request, sends, sends_fast, before_sending, after_sending, TimeAct, advances, delay_ends, times_out, beats, times_init, times_cookie, times_request, times_items, wakes_request, before_time, after_time, CallAct, accepts, refuses, takes_message, sets_low_threshold, sets_priority, sets_max_message_size, before_call, after_call, ResetAct, prepares, defers, performs, processes, takes_response, adds_responses, before_reset, after_reset, HandoverAct, leaves, takes_up, before_handover, after_handover, InputAct, ends_packet, before_input, after_input, Preserves}
+use Rattle.proof_endpoint.specs.Acts.{EndWithPacket, end_of, point_of, IsOffered, fragments_of, PacketAct, begins, adds_plain, emits, emits_error, counts, before_packets, after_packets, OpeningAct, connects, adds_init, answers_new, answers_waiting, answers_echoed, answers_again, echoes, adds_cookie, establishes, opens, restarts, opens_again, maintains, adds_cookie_ack, before_opening, after_opening, ClosingAct, closes, shuts, shuts_on, before_closing, after_closing, DataAct, takes_data, takes_idata, takes_forward, takes_iforward, before_data, after_data, SackAct, takes_sack, samples, counts_errors, before_sack, after_sack, SendingAct, asks, forces_ack, adds_ack, expires, adds_forward, forwards_later, asks_no_reset, asks_reset, adds_request, sends, sends_fast, before_sending, after_sending, TimeAct, advances, delay_ends, times_out, beats, times_init, times_cookie, times_request, times_items, wakes_request, before_time, after_time, CallAct, accepts, refuses, takes_message, sets_low_threshold, sets_priority, sets_max_message_size, before_call, after_call, ResetAct, prepares, defers, performs, processes, takes_response, adds_responses, before_reset, after_reset, HandoverAct, leaves, takes_up, before_handover, after_handover, InputAct, ends_packet, before_input, after_input, Preserves, in_open, with_context}
 use Rattle.proof_pair.specs.HandoverInvariants.{IsOrdered, HandoverInvariantOf, HandsIn}
 use Rattle.proof_pair.proofs.StayLemmas.{stays_same, alike_all, alike_outstanding, alike_received, added_mode, forwarded_mode, reset_mode, Lasts, lasts_same, lasts_sent, stays_fast}
 use Rattle.proof_pair.proofs.QueueGoesLemmas.{Goes, goes_same, goes_threshold, goes_priority, goes_prepared, goes_steps, goes_emptied, put_opened_sorted, sent_stays, sent_goes}
@@ -228,7 +228,11 @@ module _ (once : CallsNumberOnce) (made : MadeConnected) (call : Call) (fits : H
   keeps_opening (establishes tag t1 cookie t m received) = block (CookieEchoed t1 cookie) Established t t m.context (enter_connected m.context) (lasts_same t) (goes_same m.context.queue) refl
   keeps_opening (opens tag k m echoed none own) = opens_by m.context.options.avoid_stalls k (long_word (end_of m)) m.state m.context m.context (echo_named call fits tag k echoed) refl
   keeps_opening (restarts tag k phase t m echoed resolution) =
-      opens_by true k _ (Open phase t) m.context (emit_event_in OnConnectionRestarted m.context) (echo_named call fits tag k echoed) refl
+      let c : Context (List ℕ) = m.context in
+      let d : Context (List ℕ) = emptied_if c.options.avoid_stalls c in
+      through (in_open phase t m) (in_open phase t (with_context d m)) (after_opening {call = call} (restarts tag k phase t m echoed resolution))
+      (block phase phase t t c d (lasts_same t) (goes_emptied once c.options.avoid_stalls c.queue c.emitted) refl)
+      (opens_by true k (long_word (end_of m)) (Open phase t) d (restarted c) (echo_named call fits tag k echoed) refl)
   keeps_opening (opens_again tag k phase t m echoed resolution) =
       opens_by true k (long_word (end_of m)) (Open phase t) m.context m.context (echo_named call fits tag k echoed) refl
   keeps_opening (maintains tag k t1 cookie t m echoed resolution) =

@@ -8,12 +8,12 @@ use Rattle.sctp_packet.specs.Chunk.{ChunkTree, FragmentTree, init_chunk, init_ac
 use Rattle.sctp_state.specs.Options.{Options}
 use Rattle.sctp_state.specs.Events.{Event, SendPacket, OnConnected}
 use Rattle.spec_endpoint.specs.Association.{Tcb, State, Packing}
-use Rattle.spec_endpoint.specs.Packets.{header_to}
+use Rattle.spec_endpoint.specs.Packets.{header_to, packets_in}
 use Rattle.spec_endpoint.specs.Sending.{data_chunks}
 use Rattle.spec_endpoint.specs.Laws.{ending}
 use Rattle.proof_endpoint.specs.Mapped.{Carried, as_carried}
 use Rattle.proof_endpoint.specs.Acts.{EndWithPacket, is_plain}
-use Rattle.proof_pair.specs.Trace.{packets_in, has_connected}
+use Rattle.proof_pair.specs.Trace.{has_connected}
 use Rattle.proof_pair.proofs.EmittedLemmas.{is_no_packet_or_status}
 use Rattle.proof_pair.proofs.JoinLemmas.{View, view_of, Says, Leads, says_leads, received_leads, Stands}
 

@@ -17,20 +17,20 @@ use Rattle.sctp_tx.specs.ForwardPoints.{abandon_expired, chunk_if, forward_chunk
 use Rattle.sctp_tx.specs.Sending as fragments
 use Rattle.sctp_tx.specs.Sending.{Filling, append, queue_step_if, next_turn, fill, discard_all, without_discards, filled_with, send}
 use Rattle.spec_endpoint.specs.Association.{Tcb, tcb, Phase, CookieEchoed, Established, ShutdownPending, Closed, CookieWait, Open, Context, Packing}
-use Rattle.spec_endpoint.specs.Packets.{PacketDraft, add, add_all, header_to, room}
+use Rattle.spec_endpoint.specs.Packets.{PacketDraft, add, add_all, header_to, room, packets_in}
 use Rattle.spec_endpoint.specs.ResetRequests.{Outcome, Unsettled, Done, Denied, outcome, request_chunk}
 use Rattle.spec_endpoint.specs.StreamReset.{on_outcome}
 use Rattle.spec_endpoint.specs.Sending.{asks_at_once, selective_ack, data_chunks, fast_most}
 use Rattle.spec_endpoint.specs.Sack.{clean_blocks}
-use Rattle.spec_endpoint.specs.Shutdown.{ended, over}
+use Rattle.spec_endpoint.specs.Shutdown.{ended, over, emptied_if}
 use Rattle.spec_endpoint.specs.Opening.{init_of, init_ack_of, agreed_by, identity_of_init_ack, long_word, tcb_by}
 use Rattle.spec_endpoint.specs.Input.{misuse}
 use Rattle.spec_endpoint.specs.Laws.{Call, Restore}
 use Rattle.proof_endpoint.specs.Mapped.{Carried, as_carried}
 use Rattle.proof_endpoint.specs.Acts.{EndWithPacket, in_state, with_context, in_open, end_of, is_plain, may_shut, point_of, BringsChunk, IsEchoed, fragments_of, PacketAct, begins, adds_plain, emits, emits_error, counts, before_packets, after_packets, OpeningAct, connects, adds_init, answers_new, answers_waiting, answers_echoed, answers_again, echoes, adds_cookie, establishes, opens, restarts, opens_again, maintains, adds_cookie_ack, before_opening, after_opening, ClosingAct, closes, shuts, shuts_on, before_closing, after_closing, DataAct, takes_data, takes_idata, takes_forward, takes_iforward, before_data, after_data, SackAct, takes_sack, samples, counts_errors, before_sack, after_sack, SendingAct, asks, forces_ack, adds_ack, expires, adds_forward, forwards_later, asks_no_reset, asks_reset, adds_request, sends, sends_fast, before_sending, after_sending, TimeAct, advances, delay_ends, times_out, beats, times_init, times_cookie, times_request, times_items, wakes_request, before_time, timeout_of, after_time, CallAct, accepts, refuses, takes_message, sets_low_threshold, sets_priority, sets_max_message_size, before_call, after_call, ResetAct, prepares, defers, performs, processes, takes_response, adds_responses, before_reset, after_reset, HandoverAct, leaves, takes_up, before_handover, after_handover, InputAct, ends_packet, before_input, after_input, Preserves}
-use Rattle.proof_pair.specs.Trace.{packets_in, AreValidOptions}
+use Rattle.proof_pair.specs.Trace.{AreValidOptions}
 use Rattle.proof_pair.proofs.EmittedLemmas.{EmitsNoPacketOrStatus}
-use Rattle.proof_pair.proofs.UntilLemmas.{over_gives_up, sack_act_emits_no_packet_or_status, sending_act_emits_no_packet_or_status, time_act_emits_no_packet_or_status, call_act_emits_no_packet_or_status, reset_act_emits_no_packet_or_status}
+use Rattle.proof_pair.proofs.UntilLemmas.{over_gives_up, sack_act_emits_no_packet_or_status, sending_act_emits_no_packet_or_status, time_act_emits_no_packet_or_status, call_act_emits_no_packet_or_status, reset_act_emits_no_packet_or_status, restart_gives_up}
 use Rattle.proof_pair.proofs.AddedLemmas.{holds_added, holds_all_added}
 use Rattle.proof_pair.proofs.StayLemmas.{Stays, stays_same, stays_then, stays_resent, stays_timed, alike_all, alike_outstanding, alike_received, stays_fast}
 use Rattle.proof_pair.proofs.JoinActsLemmas.{no_packet_or_status_has_no_packets, ends_no_packet, packets_now}
@@ -255,9 +255,12 @@ module _ (g : Setting) (call : Call) (r : Receives g call) where
   keeps_opening (establishes tag t1 cookie t m h) inv = established t1 cookie t m inv
   keeps_opening (opens tag k m h none is) inv = opened (view_of m.state) m tag k (OnConnected ∷ []) (long_word (end_of m)) refl h inv
   keeps_opening (restarts tag k phase t m h resolution) inv =
+      let n : EndWithPacket Carried = with_context (emptied_if m.context.options.avoid_stalls m.context) m in
+      let v : View = view_of (Open phase t) in
       subst (λ (es : List (Event Carried)). Inv g (view_of (Open Established (tcb_by m.context.options k (long_word (end_of m))))) m.context.options m.context.pack es m.packet.chunks)
-      (sym (append_assoc m.context.emitted.events (OnConnectionRestarted ∷ []) (OnConnected ∷ [])))
-      (opened (view_of (Open phase t)) m tag k (OnConnectionRestarted ∷ OnConnected ∷ []) (long_word (end_of m)) refl h inv)
+      (sym (append_assoc n.context.emitted.events (OnConnectionRestarted ∷ []) (OnConnected ∷ [])))
+      (opened v n tag k (OnConnectionRestarted ∷ OnConnected ∷ []) (long_word (end_of m)) refl h
+      (inv_emitting_no_packet_or_status v v m n m.packet.chunks (restart_gives_up m.context) inv.able inv))
   keeps_opening (opens_again tag k phase t m h resolution) inv = opened (view_of (Open phase t)) m tag k (OnConnected ∷ []) (long_word (end_of m)) refl h inv
   keeps_opening (maintains tag k t1 cookie t m h resolution) inv = established t1 cookie t m inv
   keeps_opening (adds_cookie_ack tag back phase t m h late) inv =

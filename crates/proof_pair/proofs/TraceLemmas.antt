@@ -19,7 +19,8 @@ use Rattle.spec_endpoint.specs.Laws.{Call, ReceivePacket, called, endings}
 use Rattle.proof_endpoint.specs.Mapped.{Carried, as_carried}
 use Rattle.proof_endpoint.proofs.EmitsLemmas.{endings_append}
 use Rattle.proof_endpoint.specs.Acts.{calm, no_packet, BringsChunk}
-use Rattle.proof_pair.specs.Trace.{Side, Pair, new_side, packets_in, emitted_packets, has_connected, EndAction, Calls, Gives, Refuses, drain, as_received, give_carried, foreign_if, act, goes, run, MayCall, MayAct, side_of, KeepsRules, NoAssociationHasEnded, AreValidOptions, start, state_of, AreConsistent}
+use Rattle.proof_pair.specs.Trace.{Side, Pair, new_side, emitted_packets, has_connected, EndAction, Calls, Gives, Refuses, drain, as_received, give_carried, foreign_if, act, goes, run, MayCall, MayAct, side_of, KeepsRules, NoAssociationHasEnded, AreValidOptions, start, state_of, AreConsistent}
+use Rattle.spec_endpoint.specs.Packets.{packets_in}
 use Rattle.proof_pair.proofs.UntilLemmas.{until_end}
 use Rattle.proof_pair.proofs.AddedLemmas.{all_at, all_get}
 use Rattle.proof_pair.proofs.JoinLemmas.{Draw, View, own_draw, peer_draw, view_of, Says, says_carried, Faces, Can, Stands}

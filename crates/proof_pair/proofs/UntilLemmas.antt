@@ -8,12 +8,13 @@ use Rattle.spec_endpoint.specs.Sack.{clean_blocks}
 use Rattle.spec_endpoint.specs.ResetRequests.{Outcome, Unsettled, Done, Denied, outcome}
 use Rattle.spec_endpoint.specs.Packets.{room}
 use Rattle.spec_endpoint.specs.StreamReset.{on_outcome}
-use Rattle.spec_endpoint.specs.Shutdown.{ended, over}
+use Rattle.spec_endpoint.specs.Shutdown.{ended, over, emptied_if}
 use Rattle.spec_endpoint.specs.Laws.{Call, called, ending, endings}
 use Rattle.proof_endpoint.specs.Acts.{EndWithPacket, in_state, with_context, calm, PacketAct, begins, adds_plain, emits, emits_error, counts, before_packets, after_packets, OpeningAct, connects, adds_init, answers_new, answers_waiting, answers_echoed, answers_again, echoes, adds_cookie, establishes, opens, restarts, opens_again, maintains, adds_cookie_ack, before_opening, after_opening, ClosingAct, closes, shuts, shuts_on, before_closing, after_closing, DataAct, takes_data, takes_idata, takes_forward, takes_iforward, before_data, after_data, SackAct, takes_sack, samples, counts_errors, point_of, before_sack, after_sack, SendingAct, asks, forces_ack, adds_ack, expires, adds_forward, forwards_later, asks_no_reset, asks_reset, adds_request, sends, sends_fast, before_sending, after_sending, TimeAct, advances, delay_ends, times_out, beats, times_init, times_cookie, times_request, times_items, wakes_request, before_time, after_time, CallAct, accepts, refuses, takes_message, sets_low_threshold, sets_priority, sets_max_message_size, before_call, after_call, ResetAct, prepares, defers, performs, processes, takes_response, adds_responses, before_reset, after_reset, HandoverAct, leaves, takes_up, before_handover, after_handover, InputAct, ends_packet, before_input, after_input, Preserves, HasNoEnd, PreservesUntilEnd}
 use Rattle.proof_pair.proofs.EmittedLemmas.{is_no_packet_or_status, EmitsNoPacketOrStatus, emits_same, emits_all, emits_nack_all, emits_expired, emits_sack, emits_threshold, emits_sent, emits_prepared, emits_emptied, emits_refused}
 use Rattle.proof_endpoint.proofs.ActsLemmas.{keeps_call}
 use Rattle.proof_endpoint.proofs.EmitsLemmas.{endings_append}
+use Rattle.spec_endpoint.specs.Opening.{restarted}
 
 -- ---- acts that emit nothing of how the association stands
 
@@ -91,6 +92,18 @@ module _ {P : Type 0} where
   pub over_emits : (e : Event P) (c : Context P) → (over e c).emitted.events ≡ c.emitted.events ++ e ∷ (over_gives_up e c).events
   over_emits e c = (over_gives_up e c).behind ∙ append_assoc c.emitted.events (e ∷ []) (over_gives_up e c).events
 
+  -- before the event of a restart
+  pub restart_gives_up : (c : Context P) → EmitsNoPacketOrStatus c.emitted (emptied_if c.options.avoid_stalls c).emitted
+  restart_gives_up c = emits_emptied c.options.avoid_stalls c.queue c.emitted
+
+  pub restart_emits : (c : Context P)
+      → (restarted c).emitted.events ++ OnConnected ∷ [] ≡ c.emitted.events ++ ((restart_gives_up c).events ++ OnConnectionRestarted ∷ OnConnected ∷ [])
+  restart_emits c =
+      let more : List (Event P) = (restart_gives_up c).events in
+      let last : List (Event P) = OnConnectionRestarted ∷ OnConnected ∷ [] in
+      append_assoc (emptied_if c.options.avoid_stalls c).emitted.events (OnConnectionRestarted ∷ []) (OnConnected ∷ [])
+      ∙ (ap (λ (es : List (Event P)). es ++ last) (restart_gives_up c).behind ∙ append_assoc c.emitted.events more last)
+
 -- ---- what was emitted stands
 
 pub record Grows {P : Type 0} (before after : EndWithPacket P) : Type 0 where
@@ -133,8 +146,8 @@ module _ {P : Type 0} {call : Call} where
   grows_opening (establishes tag t1 cookie t m received) = record { events = OnConnected ∷ []; behind = refl }
   grows_opening (opens tag k m echoed none own) = record { events = OnConnected ∷ []; behind = refl }
   grows_opening (restarts tag k phase t m echoed resolution) = record {
-    events = OnConnectionRestarted ∷ OnConnected ∷ [];
-    behind = append_assoc m.context.emitted.events (OnConnectionRestarted ∷ []) (OnConnected ∷ []);
+    events = (restart_gives_up m.context).events ++ OnConnectionRestarted ∷ OnConnected ∷ [];
+    behind = restart_emits m.context;
   }
   grows_opening (opens_again tag k phase t m echoed resolution) = record { events = OnConnected ∷ []; behind = refl }
   grows_opening (maintains tag k t1 cookie t m echoed resolution) = record { events = OnConnected ∷ []; behind = refl }
@@ -280,7 +293,9 @@ module _ {P : Type 0} {call : Call} {R : EndWithPacket P → EndWithPacket P →
       quiet (adds_cookie t1 cookie t m to) = refl
       quiet (establishes tag t1 cookie t m received) = refl
       quiet (opens tag c m echoed none own) = refl
-      quiet (restarts tag c phase t m echoed resolution) = refl
+      quiet (restarts tag c phase t m echoed resolution) =
+          let l : EmitsNoPacketOrStatus m.context.emitted (emptied_if m.context.options.avoid_stalls m.context).emitted = restart_gives_up m.context in
+          omega (arith, endings_append l.events (OnConnectionRestarted ∷ OnConnected ∷ []), no_packet_or_status_has_no_end l.events l.all)
       quiet (opens_again tag c phase t m echoed resolution) = refl
       quiet (maintains tag c t1 cookie t m echoed resolution) = refl
       quiet (adds_cookie_ack tag back phase t m echoed late) = refl

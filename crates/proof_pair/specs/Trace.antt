@@ -6,11 +6,12 @@ use Rattle.sctp_packet.specs.Grammar.{carried}
 use Rattle.sctp_packet.specs.Packet.{PacketTree}
 use Rattle.sctp_state.specs.Options.{Options, IsValid}
 use Rattle.sctp_capabilities.specs.Capabilities.{agreed, mirrored_capabilities}
-use Rattle.sctp_state.specs.Events.{Event, SendPacket, OnConnected, nothing_emitted}
+use Rattle.sctp_state.specs.Events.{Event, OnConnected}
 use Rattle.spec_endpoint.specs.Association.{Identity, Tcb, Phase, State, Open, Endpoint, fresh}
 use Rattle.spec_endpoint.specs.Input.{packet_refusal}
 use Rattle.spec_endpoint.specs.Laws.{Call, Connect, Shutdown, Restore, ReceivePacket, called, endings}
 use Rattle.proof_endpoint.specs.Mapped.{Carried, as_carried}
+use Rattle.spec_endpoint.specs.Packets.{packets_in, drained}
 
 -- ---- an end, and what it emitted
 
@@ -27,11 +28,6 @@ abbrev pub new_side : Options → Stream → Side
 new_side o draws = record { end = fresh o as_carried draws; emitted = []; got_init = false }
 
 -- all packets that it ever emitted
-abbrev pub packets_in : List (Event Carried) → List Carried
-packets_in [] = []
-packets_in (SendPacket p ∷ es) = p ∷ packets_in es
-packets_in (e ∷ es) = packets_in es
-
 abbrev pub emitted_packets : Side → List Carried
 emitted_packets x = packets_in x.emitted
 
@@ -50,10 +46,7 @@ pub data EndAction : Type 0 where
 
 -- what was emitted is taken
 abbrev pub drain : Endpoint Carried → Side → Side
-drain e x = record x {
-  end = record e { endpoint_state = record e.endpoint_state { context = record e.endpoint_state.context { emitted = nothing_emitted } } };
-  emitted = x.emitted ++ e.endpoint_state.context.emitted.events;
-}
+drain e x = record x { end = drained e; emitted = x.emitted ++ e.endpoint_state.context.emitted.events }
 
 -- as it is received: fields that a kind of chunk doesn't write are zero
 abbrev pub as_received : Carried → (checksum : ℕ) → PacketTree

@@ -32,12 +32,14 @@ use Rattle.proof_pair.specs.Trace as traces
 use Rattle.proof_pair.specs.Trace.{EndAction, Calls, Refuses, drain, emitted_packets, give_carried, foreign_if, act, as_received}
 use Rattle.proof_delivery.specs.GivenUp as giving
 use Rattle.spec_world.specs.Observations.{End, A, B, same_end, Entry, Given, given_up}
-use Rattle.spec_world.specs.World.{Side, association, ready_at, news_of, take_emitted}
+use Rattle.spec_world.specs.World.{Side, association, news_of, take_emitted}
+use Rattle.spec_endpoint.specs.Calls.{ready_at}
 use Rattle.proof_world.specs.Traces.{is_let_through, give_action, IsGiveAction, IsForeign}
 use Rattle.proof_world.specs.Consistent.{gets_init, is_init, is_some_init}
 use Rattle.proof_world.proofs.EventLemmas.{Readable, all_readable, same_itself}
 use Rattle.proof_world.proofs.LoggedLemmas.{given_up_news}
 use Rattle.proof_world.proofs.SidesLemmas.{IsFirst, IsSilentOf, silent_first, silent_news, Good, stays_good, goes_good}
+use Rattle.spec_endpoint.specs.Packets.{packets_in}
 
 -- ---- one action of an end
 
@@ -53,9 +55,9 @@ pub record Goes (word_of : List ℕ → ℕ) (x : End) (log : List Entry) (other
 
 -- ---- what is emitted can be read back
 
-readable_after : (c d : Context Carried) → c.emitted ≡ nothing_emitted → c.options.mtu ≤ 65535 → c.pack ≡ as_carried → EmitsWhatCanBeRead c d → All Readable (traces.packets_in d.emitted.events)
+readable_after : (c d : Context Carried) → c.emitted ≡ nothing_emitted → c.options.mtu ≤ 65535 → c.pack ≡ as_carried → EmitsWhatCanBeRead c d → All Readable (packets_in d.emitted.events)
 readable_after c d quiet small is t =
-    subst (λ (es : List (Event Carried)). All Readable (traces.packets_in es)) (sym (t.behind ∙ ap (λ (z : Emitted Carried). z.events ++ t.events) quiet))
+    subst (λ (es : List (Event Carried)). All Readable (packets_in es)) (sym (t.behind ∙ ap (λ (z : Emitted Carried). z.events ++ t.events) quiet))
     (all_readable c.options.mtu c.pack small is t.events t.can_be_read)
 
 -- ---- an INIT
@@ -94,7 +96,7 @@ module _ (word_of : List ℕ → ℕ) (x : End) (log : List Entry) (first : Entr
   -- such an end as this went on to
   goes_by : (action : EndAction) (s : Endpoint Carried) (asked : Bool) → act action end beside ≡ record (drain s end) { got_init = asked }
       → s.endpoint_state.context.emitted.given_up ≡ (giving.emitted_by action end beside).given_up
-      → IsSound s → s.endpoint_state.context.pack ≡ as_carried → All Readable (traces.packets_in s.endpoint_state.context.emitted.events)
+      → IsSound s → s.endpoint_state.context.pack ≡ as_carried → All Readable (packets_in s.endpoint_state.context.emitted.events)
       → (asked ≡ true → list_any (gets_init x others) (log ++ first ∷ news_of x side (map_end written_of s)) ≡ true)
       → (after : Endpoint (List ℕ)) → after ≡ map_end written_of s → new ≡ take_emitted side after → longer ≡ log ++ first ∷ news_of x side after
       → Goes word_of x log others side end beside action new longer

@@ -21,7 +21,9 @@ use Rattle.proof_pair.proofs.AgreeTraceLemmas.{drop_emitted}
 use Rattle.proof_pair.proofs.AgreeWithinLemmas.{has_either}
 use Rattle.proof_pair.proofs.AgreeActionsLemmas.{ends_agree}
 use Rattle.spec_world.specs.Observations.{End, A, B, same_end, none_unless, same_association, Entry, Associated, EmittedPacket, EmittedEvent, GaveUp, BecameReady, Call, Connect, Shutdown, Close, Send, SendMany, TakeMessage, Reset, SetPriority, SetMaxMessageSize, SetLowThreshold, HandOver, connected_by, times_connected, held_after, held_from, held}
-use Rattle.spec_world.specs.World.{Side, World, Action, CallOf, Give, GiveForeign, AdvanceTime, MeetsForeignAt, given, withheld, Happens, Runs, side_of, other, packets_in, news_of, emitted_entries, given_up_entries, ready_entries, ready_before, ready_at, association, associated_unless, association_entries, call_entry, after_call, time_entry, after_time, table_call}
+use Rattle.spec_world.specs.World.{Side, World, Action, CallOf, Give, GiveForeign, AdvanceTime, MeetsForeignAt, given, withheld, Happens, Runs, side_of, other, news_of, emitted_entries, given_up_entries, ready_entries, ready_before, association, associated_unless, association_entries, call_entry, after_call, time_entry, after_time, table_call}
+use Rattle.spec_endpoint.specs.Packets.{packets_in}
+use Rattle.spec_endpoint.specs.Calls.{ready_at}
 use Rattle.proof_world.specs.Reachable.{ActionFits, IsInBytes, initial_world}
 use Rattle.proof_world.specs.Traces.{is_a, end_of, give_action, IsForeign, IsActionOf, AreActionsOf, emitted_in}
 use Rattle.proof_world.specs.Agreed.{IsAgreed, WorldAgrees, EachEndDrawsDistinctTags, WorldsAgree}

@@ -10,12 +10,12 @@ use Rattle.sctp_state.specs.Events.{Event, SendPacket, OnError, OnConnected, OnC
 use Rattle.sctp_capabilities.specs.StateCookie.{Cookie}
 use Rattle.sctp_tx_queue.specs.SendQueue.{Queued, stream}
 use Rattle.sctp_tx_queue.specs.Resets.{is_partly, emit_unsent}
-use Rattle.spec_endpoint.specs.Association.{Endpoint, Packing}
-use Rattle.spec_endpoint.specs.Packets.{header_to, room, emit_event_in}
+use Rattle.spec_endpoint.specs.Association.{Endpoint, Packing, Context}
+use Rattle.spec_endpoint.specs.Packets.{header_to, room, packets_in}
 use Rattle.spec_endpoint.specs.ResetRequests.{Outcome, Unsettled, Done, Denied, outcome}
 use Rattle.spec_endpoint.specs.Sack.{clean_blocks}
 use Rattle.spec_endpoint.specs.Calls.{lifecycle_end_events, refusal_events}
-use Rattle.spec_endpoint.specs.Shutdown.{ended, over}
+use Rattle.spec_endpoint.specs.Shutdown.{ended, over, emptied_if}
 use Rattle.spec_endpoint.specs.StreamReset.{on_outcome}
 use Rattle.spec_endpoint.specs.Input.{packet_refusal}
 use Rattle.spec_endpoint.specs.Laws.{Call, ReceivePacket, called, IsShort, ending}
@@ -25,8 +25,9 @@ use Rattle.proof_endpoint.proofs.ActsLemmas.{keeps_call}
 use Rattle.proof_endpoint.proofs.StepsLemmas.{Emits}
 use Rattle.proof_endpoint.proofs.EmptiedLemmas.{emits_emptied}
 use Rattle.proof_endpoint.proofs.EmitsLemmas.{quiet_both, quiet_expiry, quiet_end, quiet_refusal, emits_nothing, emits_given_up, emits_all, emits_then, emits_sack, emits_expired, emits_sent, emits_nack_all, emits_threshold}
-use Rattle.proof_pair.specs.Trace.{Side, new_side, packets_in, emitted_packets, EndAction, Calls, Gives, Refuses, drain, as_received, give_carried, foreign_if, act}
+use Rattle.proof_pair.specs.Trace.{Side, new_side, emitted_packets, EndAction, Calls, Gives, Refuses, drain, as_received, give_carried, foreign_if, act}
 use Rattle.proof_pair.proofs.JoinActsLemmas.{packets_both}
+use Rattle.spec_endpoint.specs.Opening.{restarted}
 
 abbrev EventIsBundled : Event Carried → Type 0
 EventIsBundled (SendPacket p) = IsBundled p.chunks
@@ -97,8 +98,10 @@ module _ (call : Call) where
   b_opening (establishes tag t1 cookie t m received) h = saying m.context.pack m.context.emitted.events OnConnected tt h
   b_opening (opens tag k m echoed none own) h = opened m.context.options.avoid_stalls k m h
   b_opening (restarts tag k phase t m echoed resolution) h =
-      let a : EndWithPacket Carried = in_open phase t m in
-      opened true k (with_context (emit_event_in OnConnectionRestarted m.context) a) (saying m.context.pack m.context.emitted.events OnConnectionRestarted tt h)
+      let c : Context Carried = m.context in
+      let d : Context Carried = emptied_if c.options.avoid_stalls c in
+      opened true k (with_context (restarted c) (in_open phase t m)) (saying c.pack d.emitted.events OnConnectionRestarted tt
+      (quietly c.pack c.emitted d.emitted (emits_emptied as_carried 0 c.options.avoid_stalls c.queue c.emitted) h))
   b_opening (opens_again tag k phase t m echoed resolution) h = opened true k (in_open phase t m) h
   b_opening (maintains tag k t1 cookie t m echoed resolution) h = saying m.context.pack m.context.emitted.events OnConnected tt h
   b_opening act h = h

@@ -35,6 +35,7 @@ use Rattle.proof_world.proofs.EmittingLemmas.{not_other, BeginsWith, call_begins
 use Rattle.proof_world.proofs.PrefixLemmas.{none_before, Longer, one_is_longer, split_head, split_tail}
 use Rattle.proof_world.proofs.BlockLemmas.{same_front}
 use Rattle.proof_world.proofs.DeliveredLemmas.{calls_log, time_log}
+use Rattle.spec_endpoint.specs.Calls.{ready_at}
 
 -- ---- an event's entries
 
@@ -73,7 +74,7 @@ module _ (f : Mapping Carried (List ℕ)) (x : End) (own : traces.Side) (w u : W
       let es : List (Event (List ℕ)) = after.endpoint_state.context.emitted.events in
       let start : List Entry = association_entries x old (association after) in
       let given_up_part : List Entry = given_up_entries x after.endpoint_state.context.emitted.given_up in
-      let last : List Entry = ready_entries x (ready_before (observations.same_association old (association after)) (length (worlds.ready_at s))) (worlds.ready_at after) in
+      let last : List Entry = ready_entries x (ready_before (observations.same_association old (association after)) (length (ready_at s))) (ready_at after) in
       let same : Bool = observations.same_association old (association after) in
       record {
         first = first;
@@ -91,7 +92,7 @@ module _ (f : Mapping Carried (List ℕ)) (x : End) (own : traces.Side) (w u : W
         ended = λ y.
             flat_map-append (association_ends_by y) given_up_part last
             ∙ (ap (λ (l : List End). l ++ flat_map (association_ends_by y) last) (none_over x y after.endpoint_state.context.emitted.given_up)
-            ∙ none_ready (association_ends_by y) x (λ m. refl) (drop (ready_before (observations.same_association old (association after)) (length (worlds.ready_at s))) (worlds.ready_at after)));
+            ∙ none_ready (association_ends_by y) x (λ m. refl) (drop (ready_before (observations.same_association old (association after)) (length (ready_at s))) (ready_at after)));
       }
 
   call_parted : (call : Call) → turn ≡ Calls (table_call call) → u ≡ call_socket x call w → IsParted x turn own w.log u.log

@@ -5,7 +5,8 @@ use Rattle.std.proofs.lemmas.Grind.{flat_map-append}
 use Rattle.std.proofs.lemmas.Bool.{or_parts}
 use Rattle.spec_endpoint.specs.Association.{Endpoint}
 use Rattle.spec_world.specs.Observations.{End, A, Entry, Called, Given, Foreign, Timed, Associated, EmittedPacket, EmittedEvent, GaveUp, BecameReady, Call, Connect, Shutdown, Close, Send, SendMany, TakeMessage, Reset, SetPriority, SetMaxMessageSize, SetLowThreshold, HandOver}
-use Rattle.spec_world.specs.World.{Side, World, Action, CallOf, Give, GiveForeign, AdvanceTime, MeetsForeignAt, given, withheld, Happens, Runs, side_of, association, ready_at, news_of, clock, call_entry, after_call, time_entry, after_time}
+use Rattle.spec_world.specs.World.{Side, World, Action, CallOf, Give, GiveForeign, AdvanceTime, MeetsForeignAt, given, withheld, Happens, Runs, side_of, association, news_of, clock, call_entry, after_call, time_entry, after_time}
+use Rattle.spec_endpoint.specs.Calls.{ready_at}
 use Rattle.proof_world.specs.Consistent.{MayFollow, WorldKeepsRules}
 use Rattle.proof_world.proofs.LoggedLemmas.{IsQuietOn, none_in_news}
 use Rattle.proof_world.proofs.PrefixLemmas.{none_behind, none_before}

@@ -9,7 +9,7 @@ use Rattle.sctp_state.specs.Events.{Event, SendPacket, OnBufferedAmountLow}
 use Rattle.spec_endpoint.specs.Association.{Endpoint}
 use Rattle.spec_endpoint.specs.Calls.{send, send_refusal_of}
 use Rattle.spec_endpoint.specs.Input.{in_endpoint_state}
-use Rattle.proof_endpoint.specs.FirstRun.{init_packet, init_ack_packet, cookie_echo_packet, cookie_ack_packet, data_packet, sack_packet, drained, accepting, sending, taking, resting, association, IsSmall, LeadsOn}
+use Rattle.proof_endpoint.specs.FirstRun.{init_packet, init_ack_packet, cookie_echo_packet, cookie_ack_packet, data_packet, sack_packet, accepting, sending, taking, resting, association, IsSmall, LeadsOn}
 use Rattle.sctp_tx_queue.specs.Produced.{fully_sent}
 use Rattle.proof_endpoint.proofs.OpeningRunLemmas.{emitting, opened_a, opened_b, opens, accepts}
 use Rattle.proof_endpoint.proofs.SendRunLemmas.{sent_end, sends, accepts_message}
@@ -17,7 +17,8 @@ use Rattle.proof_endpoint.proofs.TakeRunLemmas.{taken_end, takes_it}
 use Rattle.proof_endpoint.proofs.RunPacketsLemmas.{leads_on}
 use Rattle.proof_endpoint.proofs.FirstRunLemmas.{it_rests}
 use Rattle.spec_world.specs.Observations.{A, B, Send, Sent, Entry, Called, Given, EmittedPacket, accepted, ready}
-use Rattle.spec_world.specs.World.{Action, World, Takes, Gives, Runs, record_news, call_socket, packets_in, emitted_entries, associated_unless, ready_entries, ready_before, is_at_rest, fresh_world}
+use Rattle.spec_world.specs.World.{Action, World, Takes, Gives, Runs, record_news, call_socket, emitted_entries, associated_unless, ready_entries, ready_before, is_at_rest, fresh_world}
+use Rattle.spec_endpoint.specs.Packets.{packets_in, drained}
 use Rattle.proof_world.specs.FirstRun.{opening, crossing, acknowledging, IsFresh, HasCrossed}
 use Rattle.proof_world.proofs.FirstRunLemmas.{given_to_a, given_to_b, takes_on, same_self, pack, bytes_of, opened, opened_then, opened_log}
 

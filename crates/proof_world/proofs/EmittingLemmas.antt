@@ -6,7 +6,7 @@ use Rattle.sctp_serial.specs.Messages.{Message}
 use Rattle.sctp_state.specs.Events.{Event, GivenUp}
 use Rattle.proof_refines.specs.Reachable.{delivered_ids}
 use Rattle.spec_endpoint.specs.Association.{State, Closed, CookieWait, Open, Endpoint}
-use Rattle.spec_endpoint.specs.Calls.{shown_state, send_refusal, ready_in}
+use Rattle.spec_endpoint.specs.Calls.{shown_state, send_refusal, ready_in, ready_at}
 use Rattle.spec_endpoint.specs.Handover.{readiness}
 use Rattle.spec_endpoint.specs.StreamReset.{reset_refusal}
 use Rattle.spec_endpoint.specs.Shown.{Association, association_in}
@@ -22,7 +22,6 @@ use Rattle.proof_delivery.specs.Justified as turns
 use Rattle.proof_delivery.specs.Justified.{reset_unless}
 use Rattle.spec_world.specs.Observations.{End, A, B, same_end, same_association, same_numbers, all_if, Call, Connect, Shutdown, Close, Send, SendMany, TakeMessage, Reset, SetPriority, SetMaxMessageSize, SetLowThreshold, HandOver, Entry, Given, Foreign, ready_by, handed_out_in, handed_out_by, given_up}
 use Rattle.spec_world.specs.Observations as observations
-use Rattle.spec_world.specs.World as worlds
 use Rattle.spec_world.specs.World.{Side, other, association, ready_before, news_of, take_emitted, handed_by as record_by, table_call, answer_to, call_entry, time_entry, clock}
 use Rattle.proof_world.specs.Traces.{give_action, IsGiveAction, IsForeign}
 use Rattle.proof_world.specs.Delivered.{accepted_messages_in, accepted_messages_by, emitted_events_by, emitted_events, reset_in, reset_by, given_up_places, reported_by, reported}
@@ -87,7 +86,7 @@ module _ (f : Mapping Carried (List ℕ)) (x : End) (end : traces.Side) (s : End
   none_handed (suc n) = refl
 
   call_hands : (call : Call) → handed_out_in (answer_to call s) ≡ handed_by (Calls (table_call call)) end
-  call_hands TakeMessage = first_handed (worlds.ready_at s) ∙ ap (λ (z : Endpoint (List ℕ)). take 1 (ready_in z.endpoint_state.state)) is
+  call_hands TakeMessage = first_handed (ready_at s) ∙ ap (λ (z : Endpoint (List ℕ)). take 1 (ready_in z.endpoint_state.state)) is
   call_hands HandOver = none_handed (readiness s.endpoint_state)
   call_hands (Send m o) = refl
   call_hands (SendMany ms o) = refl
@@ -190,7 +189,7 @@ module _ (f : Mapping Carried (List ℕ)) (x : End) (action : EndAction) (own be
   pub goes_on_emitted : (after : Endpoint (List ℕ)) → new ≡ take_emitted side after → longer ≡ log ++ first ∷ news_of x side after → IsEmitted x action own beside next log longer
   goes_on_emitted after at logged =
       let n : ℕ = length side.packets in
-      let m : ℕ = length (worlds.ready_at side.socket) in
+      let m : ℕ = length (ready_at side.socket) in
       let news : List Entry = news_of x side after in
       let then : after.endpoint_state.state ≡ traces.state_of next =
       ap (λ (z : Side). z.socket.endpoint_state.state) (sym at) ∙ ap (λ (z : Endpoint (List ℕ)). z.endpoint_state.state) is_next in

@@ -11,7 +11,8 @@ use Rattle.spec_endpoint.specs.Receiving.{Receives, read, not_read}
 use Rattle.proof_endpoint.specs.Lifecycles.{end_count, end_total, alive_count, handed_in_count, is_restore, EndsWithin}
 use Rattle.proof_endpoint.proofs.LifecycleLemmas.{ends_within}
 use Rattle.spec_world.specs.Observations.{End, A, B, Call, Connect, Shutdown, Close, Send, SendMany, TakeMessage, Reset, SetPriority, SetMaxMessageSize, SetLowThreshold, HandOver, Entry, Associated, GaveUp, BecameReady, same_end, same_association}
-use Rattle.spec_world.specs.World.{Side, World, Action, CallOf, Give, GiveForeign, AdvanceTime, TakesBytes, MeetsForeignAt, given, withheld, MeetsForeign, Gives, Happens, Runs, fresh_world, emitted_entries, given_up_entries, association, associated_unless, association_entries, ready_at, ready_before, ready_entries, news, news_of, take_emitted, table_call, after_call, after_time, call_entry, time_entry}
+use Rattle.spec_world.specs.World.{Side, World, Action, CallOf, Give, GiveForeign, AdvanceTime, TakesBytes, MeetsForeignAt, given, withheld, MeetsForeign, Gives, Happens, Runs, fresh_world, emitted_entries, given_up_entries, association, associated_unless, association_entries, ready_before, ready_entries, news, news_of, take_emitted, table_call, after_call, after_time, call_entry, time_entry}
+use Rattle.spec_endpoint.specs.Calls.{ready_at}
 use Rattle.proof_world.specs.Ended.{only_if, total, handed_by, handed_to, lifecycle_ends_by, lifecycle_ends_at, EndedAreHandedIn, NoLifecycleEndsTwiceHere}
 
 total_append : (f : Entry → ℕ) (xs ys : List Entry) → total f (xs ++ ys) ≡ total f xs + total f ys

@@ -8,10 +8,10 @@ use Rattle.spec_endpoint.specs.Association.{Packing}
 use Rattle.spec_endpoint.specs.Laws.{endings}
 use Rattle.proof_endpoint.specs.Mapped.{Mapping, Carried, map_event, as_carried}
 use Rattle.proof_endpoint.specs.ReadBack.{ReadsBack, CanBeRead}
-use Rattle.proof_pair.specs.Trace as traces
 use Rattle.proof_pair.specs.Trace.{has_connected}
 use Rattle.spec_world.specs.Observations.{End, A, B, same_end, none_unless, Entry, EmittedPacket, EmittedEvent, connected_by}
-use Rattle.spec_world.specs.World.{packets_in, emitted_entries}
+use Rattle.spec_world.specs.World.{emitted_entries}
+use Rattle.spec_endpoint.specs.Packets.{packets_in}
 use Rattle.proof_world.specs.Traces.{emitted_in}
 use Rattle.proof_world.specs.Consistent.{association_ends_by}
 
@@ -21,7 +21,7 @@ module _ (f : Mapping Carried (List ℕ)) where
   abbrev pub mapped : List (Event Carried) → List (Event (List ℕ))
   mapped es = map (map_event f) es
 
-  pub packets_mapped : (es : List (Event Carried)) → packets_in (mapped es) ≡ map f.of (traces.packets_in es)
+  pub packets_mapped : (es : List (Event Carried)) → packets_in (mapped es) ≡ map f.of (packets_in es)
   packets_mapped [] = refl
   packets_mapped (SendPacket p ∷ es) = ap (λ (ps : List (List ℕ)). f.of p ∷ ps) (packets_mapped es)
   packets_mapped (OnConnected ∷ es) = packets_mapped es
@@ -136,10 +136,10 @@ readable_of most pack p small is w =
     })
 
 pub all_readable : (most : ℕ) (pack : Packing Carried) → most ≤ 65535 → pack ≡ as_carried → (es : List (Event Carried)) → All (CanBeRead pack most) es
-    → All Readable (traces.packets_in es)
+    → All Readable (packets_in es)
 all_readable most pack small is [] h = All-nil Readable
 all_readable most pack small is (SendPacket p ∷ es) h =
-    All-cons Readable p (traces.packets_in es) (readable_of most pack p small is (All-head (CanBeRead pack most) (SendPacket p) es h))
+    All-cons Readable p (packets_in es) (readable_of most pack p small is (All-head (CanBeRead pack most) (SendPacket p) es h))
     (all_readable most pack small is es (All-tail (CanBeRead pack most) (SendPacket p) es h))
 all_readable most pack small is (OnConnected ∷ es) h = all_readable most pack small is es (All-tail (CanBeRead pack most) OnConnected es h)
 all_readable most pack small is (OnClosed ∷ es) h = all_readable most pack small is es (All-tail (CanBeRead pack most) OnClosed es h)

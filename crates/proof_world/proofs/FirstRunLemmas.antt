@@ -11,11 +11,12 @@ use Rattle.spec_endpoint.specs.Shown.{Association}
 use Rattle.spec_endpoint.specs.Receiving.{Receives}
 use Rattle.spec_endpoint.specs.Wire.{writing}
 use Rattle.proof_endpoint.specs.Mapped.{Carried, as_written}
-use Rattle.proof_endpoint.specs.FirstRun.{init_packet, init_ack_packet, cookie_echo_packet, cookie_ack_packet, drained, asking, answering, echoing, accepting, opening, association, IsSmall, Leads, LeadsOn}
+use Rattle.proof_endpoint.specs.FirstRun.{init_packet, init_ack_packet, cookie_echo_packet, cookie_ack_packet, asking, answering, echoing, accepting, opening, association, IsSmall, Leads, LeadsOn}
 use Rattle.proof_endpoint.proofs.OpeningRunLemmas.{waiting, answered, echoed, opened_a, opened_b, asks, answers, echoes, accepts, opens}
 use Rattle.proof_endpoint.proofs.RunPacketsLemmas.{leads_on}
 use Rattle.spec_world.specs.Observations.{A, B, same_association, Connect, Done, Entry, Called, Given, Associated, EmittedPacket, EmittedEvent}
 use Rattle.spec_world.specs.World.{Action, Side, World, Takes, Gives, Runs, record_news, take_emitted, news_of, clock, call_socket, associated_unless, ready_entries, ready_before, fresh_side, fresh_world}
+use Rattle.spec_endpoint.specs.Packets.{drained}
 use Rattle.proof_world.specs.FirstRun as first_run
 use Rattle.proof_world.specs.FirstRun.{IsOpen, IsFresh}
 use Rattle.sctp_serial.proofs.NumberLemmas.{is_itself}

@@ -11,7 +11,8 @@ use Rattle.proof_pair.specs.Trace as traces
 use Rattle.proof_delivery.specs.Answered.{performed_in}
 use Rattle.proof_delivery.specs.StreamEpochs.{are_named, performed_of, resets_emitted, failed_in}
 use Rattle.spec_world.specs.Observations.{End, A, B, same_end, same_association, none_unless, Entry, Called, Given, Foreign, Timed, Associated, EmittedPacket, EmittedEvent, GaveUp, BecameReady, ready_by}
-use Rattle.spec_world.specs.World.{Side, association, ready_at, associated_unless, emitted_entries, given_up_entries, ready_before, news}
+use Rattle.spec_world.specs.World.{Side, association, associated_unless, emitted_entries, given_up_entries, ready_before, news}
+use Rattle.spec_endpoint.specs.Calls.{ready_at}
 use Rattle.proof_world.specs.Traces.{emitted_by, emitted_in}
 use Rattle.proof_world.specs.Delivered.{emitted_events_by, emitted_events, reset_by, begins_event}
 use Rattle.proof_world.proofs.EventLemmas.{mapped, same_itself}

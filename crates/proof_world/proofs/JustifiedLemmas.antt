@@ -20,8 +20,9 @@ use Rattle.proof_delivery.proofs.JustifiedActsLemmas.{IsJustifiedAt}
 use Rattle.proof_delivery.proofs.JustifiedOffersLemmas.{shorter}
 use Rattle.proof_delivery.proofs.JustifiedTraceLemmas.{Rests, Actions, accepted_now, goes_on, offers_back, at_first}
 use Rattle.spec_world.specs.Observations.{End, A, B, same_end, none_unless, Entry, Called, Given, Foreign, Timed, GaveUp, Call, Connect, given_up_by, given_up}
-use Rattle.spec_world.specs.World.{Side, World, Action, CallOf, Give, GiveForeign, AdvanceTime, MeetsForeignAt, given, withheld, Gives, Happens, Runs, side_of, other, take_emitted, news_of, call_socket, call_entry, after_call, advance_time, time_entry, after_time, table_call, answer_to, association, ready_at, fresh_world}
+use Rattle.spec_world.specs.World.{Side, World, Action, CallOf, Give, GiveForeign, AdvanceTime, MeetsForeignAt, given, withheld, Gives, Happens, Runs, side_of, other, take_emitted, news_of, call_socket, call_entry, after_call, advance_time, time_entry, after_time, table_call, answer_to, association, fresh_world}
 use Rattle.spec_world.specs.World as worlds
+use Rattle.spec_endpoint.specs.Calls.{ready_at}
 use Rattle.proof_world.specs.Reachable.{ActionFits, IsInBytes}
 use Rattle.proof_world.specs.Traces.{is_a, end_of, give_action, IsForeign, IsActionOf}
 use Rattle.proof_world.specs.Delivered.{accepted_messages_by, accepted_messages, reset_in}

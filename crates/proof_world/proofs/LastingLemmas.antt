@@ -35,7 +35,8 @@ use Rattle.proof_delivery.proofs.LawLemmas.{accepted_more}
 use Rattle.proof_delivery.proofs.TraceResetLemmas.{emitted_turned}
 use Rattle.proof_delivery.proofs.ResetEventsLemmas.{failed_more}
 use Rattle.spec_world.specs.Observations.{End, A, B, Entry, BecameReady, ready, handed_out, handed_out_by, ready_by, given_up_by}
-use Rattle.spec_world.specs.World.{World, Action, Happens, other, is_at_rest, packets_in, emitted_entries}
+use Rattle.spec_world.specs.World.{World, Action, Happens, other, is_at_rest, emitted_entries}
+use Rattle.spec_endpoint.specs.Packets.{packets_in}
 use Rattle.proof_world.specs.Reachable.{ActionFits, Origin, IsReachable, initial_world}
 use Rattle.proof_world.specs.Traces.{is_a, end_of, emitted_in}
 use Rattle.proof_world.specs.Delivered.{given_up_places, reported_by, reported, AlongRun, ready_places, world_numbered, ActionIsTimely, WorldKeepsWindows, WorldKeepsRequests, accepted_messages_by, accepted_messages, emitted_events_by, emitted_events, IsInItsEpoch}

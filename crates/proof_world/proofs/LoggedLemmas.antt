@@ -11,12 +11,12 @@ use Rattle.sctp_state.specs.Options.{Options, SendOptions}
 use Rattle.sctp_state.specs.Events.{Event, GivenUp, SendPacket, OnConnected, OnClosed, OnConnectionRestarted, OnAborted, OnError, OnBufferedAmountLow, OnTotalBufferedAmountLow, OnStreamsResetFailed, OnStreamsResetPerformed, OnIncomingStreamReset, OnLifecycleMessageFullySent, OnLifecycleMessageMaybeExpired, OnLifecycleMessageExpired, OnLifecycleMessageDelivered, OnLifecycleEnd, first_of}
 use Rattle.spec_endpoint.specs.Association.{Context, Endpoint}
 use Rattle.sctp_tx_queue.specs.SendQueue.{Queue, add}
-use Rattle.spec_endpoint.specs.Calls.{send_refusal, refusals, with_refusal, queue_entry, offered, offer}
+use Rattle.spec_endpoint.specs.Calls.{send_refusal, refusals, with_refusal, queue_entry, offered, offer, ready_at}
 use Rattle.spec_endpoint.specs.Shown.{Association}
 use Rattle.proof_endpoint.specs.Mapped.{Carried}
 use Rattle.proof_delivery.specs.Accepted.{AcceptedMessage, unless_refused, accepted_of}
 use Rattle.spec_world.specs.Observations.{End, same_end, same_association, none_unless, some_unless, unrefused, Send, Sent, TookMessage, Entry, Associated, EmittedPacket, EmittedEvent, GaveUp, BecameReady, ready_by, handed_out_in, handed_out_by, given_up_by, given_up}
-use Rattle.spec_world.specs.World.{association, ready_at, associated_unless, association_entries, ready_before, ready_entries, given_up_entries, emitted_entries, news}
+use Rattle.spec_world.specs.World.{association, associated_unless, association_entries, ready_before, ready_entries, given_up_entries, emitted_entries, news}
 use Rattle.proof_world.specs.Delivered.{accepted_messages_in, accepted_messages_by, reported_by}
 
 -- ---- what an event adds behind its first entry

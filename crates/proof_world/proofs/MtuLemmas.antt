@@ -11,7 +11,8 @@ use Rattle.spec_endpoint.specs.Laws as table
 use Rattle.spec_endpoint.specs.Receiving.{Receives, read, not_read}
 use Rattle.proof_endpoint.proofs.LawsLemmas.{stays_within, sends_at_most}
 use Rattle.spec_world.specs.Observations.{End, Entry, A, B}
-use Rattle.spec_world.specs.World.{Side, World, Action, CallOf, Give, GiveForeign, AdvanceTime, TakesBytes, MeetsForeignAt, given, withheld, MeetsForeign, Gives, Happens, Runs, IsShort, IsShortSide, AreShort, fresh_side, fresh_world, packets_in, take_emitted, table_call}
+use Rattle.spec_world.specs.World.{Side, World, Action, CallOf, Give, GiveForeign, AdvanceTime, TakesBytes, MeetsForeignAt, given, withheld, MeetsForeign, Gives, Happens, Runs, IsShort, IsShortSide, AreShort, fresh_side, fresh_world, take_emitted, table_call}
+use Rattle.spec_endpoint.specs.Packets.{packets_in}
 
 packets_short : (mtu : ℕ) (events : List (Event (List ℕ))) → All (HasAtMost mtu) events → All (IsShort mtu) (packets_in events)
 packets_short mtu [] h = All-nil (IsShort mtu)

@@ -8,7 +8,8 @@ use Rattle.sctp_state.specs.Events.{Event, GivenUp, SendPacket, OnConnected, OnC
 use Rattle.spec_endpoint.specs.Association.{Endpoint}
 use Rattle.spec_endpoint.specs.Shown.{Association}
 use Rattle.spec_world.specs.Observations.{End, A, B, same_end, same_association, none_unless, Entry, Called, Given, Foreign, Timed, Associated, EmittedPacket, EmittedEvent, GaveUp, BecameReady, newer, held_after, held_from, connected_by}
-use Rattle.spec_world.specs.World.{association, ready_at, associated_unless, association_entries, ready_before, ready_entries, given_up_entries, emitted_entries, news}
+use Rattle.spec_world.specs.World.{association, associated_unless, association_entries, ready_before, ready_entries, given_up_entries, emitted_entries, news}
+use Rattle.spec_endpoint.specs.Calls.{ready_at}
 use Rattle.proof_world.specs.Traces.{emitted_by, emitted_in}
 use Rattle.proof_world.specs.Consistent.{association_ends_by}
 use Rattle.proof_world.proofs.EventLemmas.{emitted_own, emitted_other}

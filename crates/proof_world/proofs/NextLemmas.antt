@@ -30,6 +30,7 @@ use Rattle.proof_world.proofs.EventLemmas.{Readable}
 use Rattle.proof_world.proofs.ActionsLemmas.{field_in}
 use Rattle.proof_world.proofs.WorldLemmas.{Both, all_front, Stepped, steps}
 use Rattle.proof_world.proofs.RunsLemmas.{fresh_both}
+use Rattle.spec_endpoint.specs.Packets.{packets_in}
 
 -- ---- each packet of the other end is received, or refused for its checksum
 
@@ -179,9 +180,9 @@ turned_more (Refuses p) x y = foreign_more (packet_refusal p.header.verification
 
 bytes_front : (f : List ℕ → ℕ) (x y : traces.Side) → EmitsMore x y → EmitsBytes f y → EmitsBytes f x
 bytes_front f x y m h =
-    all_front AreBytes (map (as_written f) (emitted_packets x)) (map (as_written f) (traces.packets_in m.0)) (map (as_written f) (emitted_packets y))
-    (ap (λ (es : List (Event Carried)). map (as_written f) (traces.packets_in es)) m.1
-    ∙ (ap (map (as_written f)) (packets_both x.emitted m.0) ∙ map-append (as_written f) (emitted_packets x) (traces.packets_in m.0))) h
+    all_front AreBytes (map (as_written f) (emitted_packets x)) (map (as_written f) (packets_in m.0)) (map (as_written f) (emitted_packets y))
+    (ap (λ (es : List (Event Carried)). map (as_written f) (packets_in es)) m.1
+    ∙ (ap (map (as_written f)) (packets_both x.emitted m.0) ∙ map-append (as_written f) (emitted_packets x) (packets_in m.0))) h
 
 module _ (word_of_a word_of_b : List ℕ → ℕ) where
   bytes_action : (at_a : Bool) (t : EndAction) (c : Pair) → BothEmitBytes word_of_a word_of_b (goes at_a t c) → BothEmitBytes word_of_a word_of_b c

@@ -23,7 +23,8 @@ use Rattle.proof_endpoint.proofs.ReceivedBackLemmas.{is_accepted}
 use Rattle.proof_endpoint.proofs.SoundLawsLemmas.{is_new, stays_sound, stays_sound_refused, can_be_read, can_be_read_refused}
 use Rattle.proof_endpoint.proofs.SoundReceivedLemmas.{emitted_fit}
 use Rattle.spec_world.specs.Observations.{End, A, B, Entry}
-use Rattle.spec_world.specs.World.{Side, World, Action, CallOf, Give, GiveForeign, AdvanceTime, TakesBytes, MeetsForeignAt, given, withheld, MeetsForeign, Gives, Happens, Runs, fresh_side, packets_in, take_emitted, table_call, after_call, after_time}
+use Rattle.spec_world.specs.World.{Side, World, Action, CallOf, Give, GiveForeign, AdvanceTime, TakesBytes, MeetsForeignAt, given, withheld, MeetsForeign, Gives, Happens, Runs, fresh_side, take_emitted, table_call, after_call, after_time}
+use Rattle.spec_endpoint.specs.Packets.{packets_in}
 use Rattle.proof_world.specs.Readable.{IsReadBack, CanBeReadBack, IsReadableSide, IsReadable, GivesBytes, NewWorldsAreReadable, EachActionKeepsWorldsReadable, RunsKeepWorldsReadable}
 use Rattle.proof_pair.proofs.AddedLemmas.{all_get}
 

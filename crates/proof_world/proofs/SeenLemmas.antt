@@ -4,7 +4,7 @@ use Rattle.std.proofs.lemmas.List.{map-append}
 use Rattle.sctp_serial.specs.Messages.{Message}
 use Rattle.sctp_state.specs.Events.{Event, GivenUp}
 use Rattle.spec_endpoint.specs.Association.{State, Endpoint}
-use Rattle.spec_endpoint.specs.Calls.{ready_in}
+use Rattle.spec_endpoint.specs.Calls.{ready_in, ready_at}
 use Rattle.spec_endpoint.specs.Input.{packet_refusal}
 use Rattle.spec_endpoint.specs.Shown.{Association, association_in}
 use Rattle.proof_endpoint.specs.Mapped.{Mapping, Carried, map_event, as_bytes}
@@ -13,7 +13,8 @@ use Rattle.proof_pair.specs.Trace.{EndAction, Calls, Gives, Refuses, emitted_pac
 use Rattle.proof_delivery.specs.Justified.{records_by}
 use Rattle.proof_draws.specs.Alike.{AreEventsAlike}
 use Rattle.spec_world.specs.Observations.{End, Entry, BecameReady, same_association, given_up}
-use Rattle.spec_world.specs.World.{Side, association_entries, association, emitted_entries, given_up_entries, ready_entries, ready_before, ready_at, news_of, packets_in, take_emitted}
+use Rattle.spec_world.specs.World.{Side, association_entries, association, emitted_entries, given_up_entries, ready_entries, ready_before, news_of, take_emitted}
+use Rattle.spec_endpoint.specs.Packets.{packets_in}
 use Rattle.proof_world.specs.Traces.{emitted_in}
 use Rattle.proof_world.proofs.EventLemmas.{mapped, entries_both, same_itself}
 use Rattle.proof_world.proofs.NewsLemmas.{emitted_both, news_own, one_association}

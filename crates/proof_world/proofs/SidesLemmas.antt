@@ -15,7 +15,9 @@ use Rattle.proof_pair.specs.Trace as traces
 use Rattle.proof_pair.specs.Trace.{drain, emitted_packets}
 use Rattle.proof_pair.proofs.JoinActsLemmas.{packets_both}
 use Rattle.spec_world.specs.Observations.{End, same_end, Entry, Called, Given, Foreign, Timed, Associated, EmittedPacket, EmittedEvent, GaveUp, BecameReady, held_after, held_from, held, given_up_by, given_up}
-use Rattle.spec_world.specs.World.{Side, association, ready_at, packets_in, emitted_entries, news_of, take_emitted}
+use Rattle.spec_world.specs.World.{Side, association, emitted_entries, news_of, take_emitted}
+use Rattle.spec_endpoint.specs.Calls.{ready_at}
+use Rattle.spec_endpoint.specs.Packets.{packets_in}
 use Rattle.proof_world.specs.Traces.{emitted_by, emitted_in, IsWrittenAs}
 use Rattle.proof_world.specs.Consistent.{gets_init, is_some_init}
 use Rattle.proof_world.proofs.EventLemmas.{mapped, packets_mapped, entries_both, Readable}
@@ -135,7 +137,7 @@ module _ (word_of : List ℕ → ℕ) (x : End) (log : List Entry) (first : Entr
   packets_now e =
       ap (λ (ps : List (List ℕ)). ps ++ packets_in (mapped f events)) e
       ∙ ap (λ (ps : List (List ℕ)). map f.of (emitted_packets end) ++ ps) (packets_mapped f events)
-      ∙ sym (map-append f.of (emitted_packets end) (traces.packets_in events))
+      ∙ sym (map-append f.of (emitted_packets end) (packets_in events))
       ∙ ap (map f.of) (sym (packets_both end.emitted events))
 
   numbered : side.packets ≡ map f.of (emitted_packets end) → length side.packets ≡ 0 + length (packets_in (mapped f end.emitted))
@@ -158,7 +160,7 @@ module _ (word_of : List ℕ → ℕ) (x : End) (log : List Entry) (first : Entr
       ∙ ap (λ (o : Option Association). held_from x o (news_of x side after)) (k.quiet x (held x log) ∙ h)
       ∙ held_own x (length side.packets) (length (ready_at side.socket)) (association side.socket) after
 
-  pub goes_good : IsFirst first → IsSound s → s.endpoint_state.context.pack ≡ as_carried → All Readable (traces.packets_in events)
+  pub goes_good : IsFirst first → IsSound s → s.endpoint_state.context.pack ≡ as_carried → All Readable (packets_in events)
       → (asked ≡ true → list_any (gets_init x others) (log ++ first ∷ news_of x side after) ≡ true)
       → Good word_of x log others side end → Good word_of x (log ++ first ∷ news_of x side after) others (take_emitted side after) now
   goes_good k sound pack readable was g = record {
@@ -170,7 +172,7 @@ module _ (word_of : List ℕ → ℕ) (x : End) (log : List Entry) (first : Entr
     };
     sound = record { options = sound.options; queue = sound.queue; state = sound.state };
     packing = pack;
-    readable = subst (All Readable) (sym (packets_both end.emitted events)) (All-append Readable (emitted_packets end) (traces.packets_in events) g.readable readable);
+    readable = subst (All Readable) (sym (packets_both end.emitted events)) (All-append Readable (emitted_packets end) (packets_in events) g.readable readable);
     held = held_now k g.held;
     asked = was;
   }

@@ -31,7 +31,7 @@ use Rattle.spec_endpoint.specs.Opening.{agreed_by, queue_anew, queue_if, other_m
 use Rattle.spec_endpoint.specs.Packets.{room}
 use Rattle.spec_endpoint.specs.Sack.{clean_blocks}
 use Rattle.spec_endpoint.specs.Sending.{fast_most}
-use Rattle.spec_endpoint.specs.Shutdown.{ended, empty_if}
+use Rattle.spec_endpoint.specs.Shutdown.{ended, empty_if, emptied_if}
 use Rattle.spec_endpoint.specs.StreamReset.{on_outcome}
 use Rattle.spec_endpoint.specs.Laws.{Call, Restore}
 use Rattle.proof_endpoint.specs.Acts.{EndWithPacket, point_of, fragments_of, IsOffered, PacketAct, begins, adds_plain, emits, emits_error, counts, before_packets, after_packets, OpeningAct, connects, adds_init, answers_new, answers_waiting, answers_echoed, answers_again, echoes, adds_cookie, establishes, opens, restarts, opens_again, maintains, adds_cookie_ack, before_opening, after_opening, ClosingAct, closes, shuts, shuts_on, before_closing, after_closing, DataAct, takes_data, takes_idata, takes_forward, takes_iforward, before_data, after_data, SackAct, takes_sack, samples, counts_errors, before_sack, after_sack, SendingAct, asks, forces_ack, adds_ack, expires, adds_forward, forwards_later, asks_no_reset, asks_reset, adds_request, sends, sends_fast, before_sending, after_sending, TimeAct, advances, delay_ends, times_out, beats, times_init, times_cookie, times_request, times_items, wakes_request, before_time, after_time, CallAct, accepts, refuses, takes_message, sets_low_threshold, sets_priority, sets_max_message_size, before_call, after_call, ResetAct, prepares, defers, performs, processes, takes_response, adds_responses, before_reset, after_reset, HandoverAct, leaves, takes_up, before_handover, after_handover, InputAct, ends_packet, before_input, after_input, Preserves}
@@ -230,12 +230,12 @@ module _ (all : ℕ) (most : ℕ → ℕ) where
         with_queue next point c.queue (each_stepped Refused streams c.queue) (count c.emitted) (count c.emitted) (omega arith) (of_each_stepped whole_cost Refused streams c.queue)
         (of_each_stepped left_cost Refused streams c.queue) (stands_each_stepped (λ id s. HasOrdered (most id) s) (keeps_ordered most) Refused streams c.queue) h
 
-    -- where stalls are avoided, what waits is given up as the association is over
-    over_uses : (b : Bool) (q : Queue) (t : Emitted P) → U origin origin q (count t) → U origin origin (empty_if b q t).queue (count (empty_if b q t).emitted)
-    over_uses true q t h =
-        with_queue origin origin q (empty q t).queue (count t) (count (empty q t).emitted) (empty_grow q t) (of_empty whole_cost q t) (of_empty left_cost q t)
+    -- where stalls are avoided, what waits is given up as the association is over, or the peer begins another one
+    over_uses : (b : Bool) (next point : ℕ) (q : Queue) (t : Emitted P) → U next point q (count t) → U next point (empty_if b q t).queue (count (empty_if b q t).emitted)
+    over_uses true next point q t h =
+        with_queue next point q (empty q t).queue (count t) (count (empty q t).emitted) (empty_grow q t) (of_empty whole_cost q t) (of_empty left_cost q t)
         (stands_empty (λ id s. HasOrdered (most id) s) (keeps_ordered most) q t) h
-    over_uses false q t h = h
+    over_uses false next point q t h = h
 
     module _ (call : Call) (offers : (m : Message) (o : SendOptions) → IsOffered call m o → ⊥) (no_restore : (s : HandoverState) → call ≡ Restore s → ⊥) where
       uses_packets : (act : PacketAct P call) → Onward (before_packets act) (after_packets act)
@@ -261,7 +261,12 @@ module _ (all : ℕ) (most : ℕ → ℕ) where
       uses_opening (opens tag k m echoed none own) h =
           for_opened m.context.options.avoid_stalls (negotiate m.context.options k.peer_capabilities).message_interleaving (next_in m.state) (point_in m.state) m.context.queue (count m.context.emitted) h
       uses_opening (restarts tag k phase t m echoed verdict) h =
-          for_opened true (negotiate m.context.options k.peer_capabilities).message_interleaving (next_in (Open phase t)) (point_in (Open phase t)) m.context.queue (count m.context.emitted) h
+          let c : Context P = m.context in
+          let d : Context P = emptied_if c.options.avoid_stalls c in
+          let next : ℕ = next_in (Open phase t) in
+          let point : ℕ = point_in (Open phase t) in
+          for_opened true (negotiate c.options k.peer_capabilities).message_interleaving next point d.queue (count d.emitted)
+          (over_uses c.options.avoid_stalls next point c.queue c.emitted h)
       uses_opening (opens_again tag k phase t m echoed verdict) h =
           for_opened true (negotiate m.context.options k.peer_capabilities).message_interleaving (next_in (Open phase t)) (point_in (Open phase t)) m.context.queue (count m.context.emitted) h
       uses_opening (maintains tag k t1 cookie t m echoed verdict) h = h
@@ -269,7 +274,7 @@ module _ (all : ℕ) (most : ℕ → ℕ) where
 
       uses_closing : (act : ClosingAct P call) → Onward (before_closing act) (after_closing act)
       uses_closing (closes e m there is) h =
-          over_uses m.context.options.avoid_stalls m.context.queue (ended e m.context).emitted
+          over_uses m.context.options.avoid_stalls origin origin m.context.queue (ended e m.context).emitted
           (at_origin (next_in m.state) (point_in m.state) m.context.queue m.context.queue (count m.context.emitted) (omega arith) (λ k. k) h)
       uses_closing (shuts phase t m is early) h = h
       uses_closing (shuts_on phase next t m late later) h = h

@@ -10,7 +10,8 @@ use Rattle.sctp_tx_queue.specs.SendQueue.{Queue, stream}
 use Rattle.spec_endpoint.specs.Association.{State, Closed, CookieWait, Open, Endpoint}
 use Rattle.proof_delivery.specs.Accepted.{AcceptedMessage}
 use Rattle.spec_world.specs.Observations.{End, A, B, same_end, Entry, given_up_by, given_up}
-use Rattle.spec_world.specs.World.{Side, World, Action, CallOf, Give, GiveForeign, AdvanceTime, TakesBytes, MeetsForeignAt, given, withheld, Happens, Runs, fresh_world, association, ready_at, news_of, take_emitted, after_call, after_time, call_entry, time_entry}
+use Rattle.spec_world.specs.World.{Side, World, Action, CallOf, Give, GiveForeign, AdvanceTime, TakesBytes, MeetsForeignAt, given, withheld, Happens, Runs, fresh_world, association, news_of, take_emitted, after_call, after_time, call_entry, time_entry}
+use Rattle.spec_endpoint.specs.Calls.{ready_at}
 use Rattle.proof_world.specs.Consistent.{NoEndingIsLogged}
 use Rattle.proof_world.specs.Delivered.{AlongRun, accepted_messages_by, accepted_messages}
 use Rattle.proof_world.specs.Few.{most_fragments, ordered_on, UsesFew, LogUsesFew}

@@ -7,7 +7,8 @@ use Rattle.spec_endpoint.specs.Shown.{Association}
 use Rattle.std.specs.Prelude.{Bool, true, false, Option}
 use Rattle.proof_draws.specs.Alike.{AreEventsAlike}
 use Rattle.spec_world.specs.Observations.{End, Entry, EmittedPacket, EmittedEvent}
-use Rattle.spec_world.specs.World.{packets_in, emitted_entries, associated_unless}
+use Rattle.spec_world.specs.World.{emitted_entries, associated_unless}
+use Rattle.spec_endpoint.specs.Packets.{packets_in}
 use Rattle.proof_world.proofs.EventLemmas.{mapped}
 use Rattle.proof_world.specs.Visible.{shown_by, visible}
 

@@ -51,7 +51,7 @@ fn head_of(kind: u32, error: u32, id: StreamId, length: usize) -> EventRecord
     }
 }
 
-fn input_on<S: DcSctpSocket>(
+fn take_packet<S: DcSctpSocket>(
     socket: &mut S,
     channels: &mut DataChannels,
     bytes: &[u8],
@@ -62,7 +62,19 @@ fn input_on<S: DcSctpSocket>(
     channels.collect(socket)
 }
 
-/// Takes the bytes of a packet that came, and what it brings to the channels, before the next one.
+/// What was emitted before goes first: the packet may be another association's.
+fn input_on<S: DcSctpSocket>(
+    socket: &mut S,
+    channels: &mut DataChannels,
+    bytes: &[u8],
+) -> Result<(), CallError>
+    ensures { OnOk result (Follows channels.old channels.new) }
+{
+    channels.collect(socket)?;
+    take_packet(socket, channels, bytes)
+}
+
+/// Takes the bytes of a packet that came, and what it brings to the channels, behind what was emitted before, and before the next one.
 pub fn handle_input<S: DcSctpSocket>(
     socket: &mut S,
     channels: &mut Option<DataChannels>,

@@ -105,7 +105,7 @@ passed_on e = Some (of_socket e)
 pub data Step : Type 0 where
   -- the socket handed out a message
   gets : (m : Message) → Step
-  -- it emitted an event; and the owner is told what is left of one
+  -- it emitted an event, or a part of one that says which streams were reset; and the owner is told what is left of one
   hears : (e : sockets.Event (List ℕ)) → Step
   passes_on : (e : sockets.Event (List ℕ)) → Step
   -- it has so many streams

@@ -6,12 +6,14 @@ ghost use Rattle.sctp_state.specs.Events.{event_of as socket_event_of, numbers_o
 ghost use Rattle.sctp_channels.specs.Channel.{count_received, takes_whole};
 ghost use Rattle.sctp_channels.specs.Views.{open_of};
 ghost use Rattle.sctp_channels.specs.Payload.{protocol_of};
-ghost use Rattle.sctp_channels.specs.Channels.{OnMessage, change, close, drain, is_own, negotiate, no_channels, on_incoming_reset, on_reset_denied, on_reset_performed, open_own, output_of, sent};
+ghost use Rattle.sctp_channels.specs.Channels.{OnMessage, change, close, is_own, negotiate, no_channels, on_incoming_reset, on_reset_denied, on_reset_performed, open_own, output_of, sent};
 ghost use Rattle.sctp_channels.specs.Entries.{channel_at};
 ghost use Rattle.sctp_channels.specs.DataChannels.{IsOpenAt, IsShortEnough};
 ghost use Rattle.sctp_channels.specs.Steps.{DataChannels, Follows, Gets, StaysTold, acknowledged_by, each, ended, event_of, heard, named, passed_on, told_by, with_channels, with_outputs};
 
-use crate::closing::{Closing, has_association};
+mod settling;
+
+use crate::closing::Closing;
 use crate::event::passed_on;
 use crate::unanswered::{Unanswered, answer_each, takes_answers};
 use crate::{
@@ -197,15 +199,52 @@ impl DataChannels {
         self.settle(socket)
     }
 
-    /// Takes what the socket has handed out and emitted: messages first, since a channel's are ready before the reset that closes it is emitted.
+    /// Takes what the socket has handed out and emitted. Messages come first, since a channel's are ready before the reset that closes it is
+    /// emitted, but for events that say how the association stands: behind these it is another one's messages that are ready.
     pub fn collect<S: DcSctpSocket>(&mut self, socket: &mut S) -> Result<(), CallError>
         ensures steps { OnOk result (Follows self.old self.new) }
         ensures done { OnOk result (self.new.channels.outputs ≡ []) }
         ensures told { StaysTold self.old self.new }
     {
+        let first = self.take_turns(socket)?;
+        self.take_ready(socket)?;
+        match first {
+            Some(event) => self.take_others(socket, event),
+            None => self.take_rest(socket),
+        }
+    }
+
+    /// What the socket has ready, and what is to be done then.
+    #[inline(always)]
+    fn take_ready<S: DcSctpSocket>(&mut self, socket: &mut S) -> Result<(), CallError>
+        ensures steps { OnOk result (Follows self.old self.new) }
+        ensures told { StaysTold self.old self.new }
+    {
         self.take_messages(socket)?;
-        self.settle(socket)?;
-        self.take_rest(socket)
+        self.settle(socket)
+    }
+
+    /// Where messages are ready, takes the first events, as far as they say how the association stands. The answer is the one behind them.
+    fn take_turns<S: DcSctpSocket>(
+        &mut self,
+        socket: &mut S,
+    ) -> Result<Option<SocketEvent>, CallError>
+        ensures steps { OnOk result (Follows self.old self.new) }
+        ensures told { StaysTold self.old self.new }
+    {
+        if socket.messages_ready_count() == 0 {
+            return Ok(None);
+        }
+        for _ in 0..MANY {
+            let Some(event) = socket.poll_event() else {
+                return Ok(None);
+            };
+            if !is_turn(&event) {
+                return Ok(Some(event));
+            }
+            self.take_event(socket, event)?;
+        }
+        Ok(None)
     }
 
     /// What the socket emitted, and what is to be done then.
@@ -281,6 +320,7 @@ impl DataChannels {
         event: SocketEvent,
     ) -> Result<(), CallError>
         ensures steps { OnOk result (Follows self.old self.new) }
+        ensures done { OnOk result (self.new.channels.outputs ≡ []) }
         ensures told { StaysTold self.old self.new }
     {
         self.take_event(socket, event)?;
@@ -577,101 +617,6 @@ impl DataChannels {
         self.carry_out(socket)
     }
 
-    /// Asks for the resets that are due. Before there is an association they wait for that.
-    #[tactic(auto, using(crate::proofs::FollowsLemmas::follows_then, crate::proofs::FollowsLemmas::follows_same, crate::proofs::FollowsLemmas::told_then, crate::proofs::FollowsLemmas::told_same))]
-    fn settle_closing<S: DcSctpSocket>(&mut self, socket: &S) -> Result<(), AllocError>
-        ensures steps { OnOk result (Follows self.old self.new) }
-        ensures told { StaysTold self.old self.new }
-    {
-        if !has_association(socket) {
-            return Ok(());
-        }
-        self.settle_due(socket)?;
-        self.settle_in_turn(socket)
-    }
-
-    /// Asks for the resets of the streams that are to be looked at first, where they are due.
-    #[tactic(auto, using(crate::proofs::FollowsLemmas::follows_then, crate::proofs::FollowsLemmas::follows_same, crate::proofs::FollowsLemmas::told_then, crate::proofs::FollowsLemmas::told_same))]
-    fn settle_due<S: DcSctpSocket>(&mut self, socket: &S) -> Result<(), AllocError>
-        ensures steps { OnOk result (Follows self.old self.new) }
-        ensures told { StaysTold self.old self.new }
-    {
-        for _ in 0..self.closing.due_count() {
-            match self.next_due() {
-                Some(id) => self.settle_one(socket, id)?,
-                None => break,
-            }
-        }
-        Ok(())
-    }
-
-    /// Takes out the next one of the streams that are to be looked at first.
-    fn next_due(&mut self) -> Option<StreamId>
-        ensures { self.new ≡ self.old }
-    {
-        self.closing.next_due()
-    }
-
-    /// Asks for the reset of the stream, where it is due.
-    #[tactic(auto, using(crate::proofs::FollowsLemmas::follows_same, crate::proofs::FollowsLemmas::follows_drains, crate::proofs::FollowsLemmas::told_same))]
-    fn settle_one<S: DcSctpSocket>(&mut self, socket: &S, id: StreamId) -> Result<(), AllocError>
-        ensures steps { OnOk result (Follows self.old self.new) }
-        ensures told { StaysTold self.old self.new }
-    {
-        if socket.buffered_amount(id) == 0 || self.channels.is_incoming_reset(id) {
-            return self.drain(id);
-        }
-        Ok(())
-    }
-
-    /// Asks for the resets that are due, up to where of the streams that are next in turn fewer than half are: a call looks at no more than two for
-    /// each that it asks for, and two beside, however many streams wait for a peer that takes nothing.
-    fn settle_in_turn<S: DcSctpSocket>(&mut self, socket: &S) -> Result<(), AllocError>
-        ensures steps { OnOk result (Follows self.old self.new) }
-        ensures told { StaysTold self.old self.new }
-    {
-        for _ in 0..MANY {
-            if !self.settle_some(socket)? {
-                return Ok(());
-            }
-        }
-        Ok(())
-    }
-
-    /// Asks for the resets that are due of the closing streams that are next in turn. Says whether one was, which is half of them.
-    #[tactic(auto, using(crate::proofs::FollowsLemmas::follows_then, crate::proofs::FollowsLemmas::follows_same, crate::proofs::FollowsLemmas::told_then, crate::proofs::FollowsLemmas::told_same))]
-    fn settle_some<S: DcSctpSocket>(&mut self, socket: &S) -> Result<bool, AllocError>
-        ensures steps { OnOk result (Follows self.old self.new) }
-        ensures told { StaysTold self.old self.new }
-    {
-        let before = self.closing.len();
-        let ids = self.next_closing()?;
-        for id in &ids {
-            self.settle_one(socket, *id)?;
-        }
-        Ok(self.closing.len() < before)
-    }
-
-    /// Nothing waits on the stream that the peer would take. Once its reset is asked for it isn't looked at again.
-    fn drain(&mut self, id: StreamId) -> Result<(), AllocError>
-        ensures row { OnOk result (self.new ≡ with_channels (drain id.0 0 self.old.channels) self.old) }
-        ensures told { self.new.events ≡ self.old.events }
-    {
-        self.channels.drain(id, 0)?;
-        if self.channels.is_draining(id) {
-            return self.closing.insert(id);
-        }
-        self.closing.remove(id);
-        Ok(())
-    }
-
-    /// The closing streams that are next in turn: all where they are few, ascending.
-    fn next_closing(&mut self) -> Result<Vec<StreamId>, AllocError>
-        ensures { self.new ≡ self.old }
-    {
-        self.closing.next_in_turn()
-    }
-
     /// Carries out what is to be done. Where nothing is, nothing changes: what the socket refused isn't tried again, since each refusal emits.
     #[inline(always)]
     #[tactic(auto, using(crate::proofs::FollowsLemmas::follows_then, crate::proofs::FollowsLemmas::follows_same, crate::proofs::FollowsLemmas::follows_carried, crate::proofs::FollowsLemmas::told_then, crate::proofs::FollowsLemmas::told_same, crate::proofs::FollowsLemmas::no_outputs, crate::proofs::FollowsLemmas::all_carried))]
@@ -788,6 +733,17 @@ impl DataChannels {
             Err(ResetStreamsError::Failed) => Err(CallError::Failed),
             Err(_refusal) => Ok(self.channels.on_resets_denied(ids)?),
         }
+    }
+}
+
+/// Whether an event says that an association begins or is over.
+fn is_turn(event: &SocketEvent) -> bool {
+    match event {
+        SocketEvent::OnConnected()
+        | SocketEvent::OnConnectionRestarted()
+        | SocketEvent::OnClosed()
+        | SocketEvent::OnAborted(_, _) => true,
+        _ => false,
     }
 }
 

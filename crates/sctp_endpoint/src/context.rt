@@ -217,7 +217,7 @@ impl<C: Checksum> Context<C> {
 
     /// With stalls avoided, neither what waits nor the count of errors goes to another association.
     #[tactic(auto, using(crate::proofs::GoesOnLemmas::goes_on_same, crate::proofs::GoesOnLemmas::goes_on_as))]
-    fn empty_if_avoided(&mut self) -> Result<(), AllocError>
+    pub fn empty_if_avoided(&mut self) -> Result<(), AllocError>
         ensures ok { OnOk result (context_of C.word_of self.new ≡ closing.emptied_if self.old.options.avoid_stalls (context_of C.word_of self.old)) }
         ensures goes_on { GoesOn self.old self.new }
     {

@@ -5,7 +5,8 @@ use Rattle.sctp_state.specs.Events.{Event, SendPacket, OnConnected, OnClosed, On
 use Rattle.sctp_serial.specs.Messages.{Message}
 use Rattle.sctp_network_side.specs.SideView.{ready_entry}
 use Rattle.spec_world.specs.Observations.{End, Entry, EmittedEvent, GaveUp, BecameReady}
-use Rattle.spec_world.specs.World.{packets_in, emitted_entries, given_up_entries}
+use Rattle.spec_world.specs.World.{emitted_entries, given_up_entries}
+use Rattle.spec_endpoint.specs.Packets.{packets_in}
 
 packets_step : (e : Event (List ℕ)) (es : List (Event (List ℕ))) → packets_in (e ∷ es) ≡ packets_in (e ∷ []) ++ packets_in es
 packets_step (SendPacket bytes) es = refl

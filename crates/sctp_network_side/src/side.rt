@@ -10,7 +10,8 @@ ghost use Rattle.spec_endpoint.specs.Wire.{AreBytes};
 ghost use Rattle.sctp_association.specs.Socket.{association_of, endpoint};
 ghost use Rattle.spec_world.specs.Observations.{Given, Foreign, GaveUp, same_association};
 ghost use Rattle.spec_world.specs.World as table;
-ghost use Rattle.spec_world.specs.World.{fresh_side, associated_unless, TakesBytes, take_emitted, news, packets_in, emitted_entries, given_up_entries, ready_entries, after_call, after_time, clock, call_entry};
+ghost use Rattle.spec_world.specs.World.{fresh_side, associated_unless, TakesBytes, take_emitted, news, emitted_entries, given_up_entries, ready_entries, after_call, after_time, clock, call_entry};
+ghost use Rattle.spec_endpoint.specs.Packets.{packets_in};
 ghost use Rattle.sctp_network_side.specs.Interrupted.{IsCut, StopsWithin, TakesBytesSo, MeetsForeignSo};
 ghost use Rattle.sctp_network_side.specs.SideView.{call_tree, end_tree, entry_tree, ready_entry, side_in, without_events, without_records};
 

@@ -63,7 +63,7 @@ pub enum SocketEvent {
     OnConnected(),
     /// The socket was closed.
     OnClosed(),
-    /// The peer restarted the association: messages may be lost (RFC 9260 section 5.2).
+    /// The peer restarted the association (RFC 9260 section 5.2): messages may be lost. With `avoid_stalls` what waited was given up.
     OnConnectionRestarted(),
     /// The socket was closed for an error, with its text.
     OnAborted(ErrorKind, String),
@@ -113,7 +113,7 @@ pub enum GivenUpCause {
     Retransmissions(u32),
     /// Its stream was to be reset, and nothing of it had been sent.
     Reset,
-    /// Its association ended before all of it was sent. With `avoid_stalls` alone.
+    /// Its association ended, or the peer restarted it, before all of it was sent. With `avoid_stalls` alone.
     Ended,
 }
 

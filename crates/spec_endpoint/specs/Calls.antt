@@ -12,7 +12,7 @@ use Rattle.sctp_rx.specs.ReassemblyQueue.{Reassembly}
 use Rattle.sctp_state.specs.Events.{Event, OnError, OnLifecycleEnd, emit_events}
 use Rattle.sctp_tx_queue.specs.SendQueue.{Queued, stream, amount_of, total_of, expiry_of, add}
 use Rattle.sctp_tx_queue.specs.Settings as settings
-use Rattle.spec_endpoint.specs.Association.{Tcb, Phase, CookieEchoed, Established, ShutdownPending, ShutdownSent, ShutdownReceived, ShutdownAckSent, State, Closed, CookieWait, Open, Context, EndpointState, with_context, where_open}
+use Rattle.spec_endpoint.specs.Association.{Tcb, Phase, CookieEchoed, Established, ShutdownPending, ShutdownSent, ShutdownReceived, ShutdownAckSent, State, Closed, CookieWait, Open, Context, EndpointState, with_context, where_open, Endpoint}
 use Rattle.spec_endpoint.specs.Sending.{send_in, window, force_ack}
 
 -- ---- what `state` answers
@@ -146,6 +146,9 @@ abbrev pub ready_in : State → List Message
 ready_in Closed = []
 ready_in (CookieWait tag first t1) = []
 ready_in (Open phase t) = t.reassembly.ready
+
+abbrev pub ready_at : {P : Type 0} → Endpoint P → List Message
+ready_at s = ready_in s.endpoint_state.state
 
 abbrev pub without_first_message : Tcb → Tcb
 without_first_message t = record t { reassembly = record t.reassembly { ready = drop 1 t.reassembly.ready } }

@@ -24,7 +24,7 @@ use Rattle.spec_endpoint.specs.Association.{Identity, Tcb, tcb, Phase, CookieEch
 use Rattle.spec_endpoint.specs.Heartbeats.{restart_interval}
 use Rattle.spec_endpoint.specs.Packets.{add, packet_to, new_packet, round_down_to_4, emit_event_in, emit_error, emit}
 use Rattle.spec_endpoint.specs.Sending.{AfterSending, open_with, send_with, send_buffered, send_cookie}
-use Rattle.spec_endpoint.specs.Shutdown.{cleared_if, close_with, send_shutdown_ack}
+use Rattle.spec_endpoint.specs.Shutdown.{cleared_if, emptied_if, close_with, send_shutdown_ack}
 
 -- ---- draws: a TSN but the last, a tag but 0 and the last
 
@@ -304,8 +304,12 @@ too_late t c =
     emit_error WrongSequence (codes "Received COOKIE-ECHO while shutting down")
     (emit (add (error_chunk (cookie_received_while_shutting_down ∷ [])) (add shutdown_ack_chunk (new_packet c.options t))) c)
 
+-- with stalls avoided, what waits was meant for the association before this one, and is given up
+abbrev pub restarted : {P : Type 0} → Context P → Context P
+restarted c = emit_event_in OnConnectionRestarted (emptied_if c.options.avoid_stalls c)
+
 abbrev pub restarts : {P : Type 0} → Cookie → Endpoint P → Endpoint P
-restarts k s = establishes true k (emit_event_in OnConnectionRestarted s.endpoint_state.context) s
+restarts k s = establishes true k (restarted s.endpoint_state.context) s
 
 abbrev pub restarts_in : {P : Type 0} → Phase → Tcb → Cookie → Endpoint P → Endpoint P
 restarts_in (CookieEchoed t1 cookie) t k s = restarts k s

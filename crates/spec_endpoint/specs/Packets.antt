@@ -8,8 +8,8 @@ use Rattle.sctp_state.specs.declared.api.ErrorKind.{ErrorKind}
 use Rattle.sctp_state.specs.Numbers.{more}
 use Rattle.sctp_state.specs.Options.{Options}
 use Rattle.sctp_capabilities.specs.Capabilities.{zero_checksum_enabled}
-use Rattle.sctp_state.specs.Events.{Event, SendPacket, OnError, emit_event}
-use Rattle.spec_endpoint.specs.Association.{Tcb, Context}
+use Rattle.sctp_state.specs.Events.{Event, SendPacket, OnError, emit_event, nothing_emitted}
+use Rattle.spec_endpoint.specs.Association.{Tcb, Context, Endpoint}
 
 -- ---- a packet that is put together
 
@@ -68,6 +68,16 @@ new_packet o t = record {
 }
 
 -- ---- what is emitted
+
+-- the packets among events
+abbrev pub packets_in : {P : Type 0} → List (Event P) → List P
+packets_in [] = []
+packets_in (SendPacket p ∷ es) = p ∷ packets_in es
+packets_in (e ∷ es) = packets_in es
+
+-- all that was emitted is taken
+abbrev pub drained : {P : Type 0} → Endpoint P → Endpoint P
+drained s = record s { endpoint_state = record s.endpoint_state { context = record s.endpoint_state.context { emitted = nothing_emitted } } }
 
 abbrev pub emit_event_in : {P : Type 0} → Event P → Context P → Context P
 emit_event_in e c = record c { emitted = emit_event e c.emitted }

@@ -8,15 +8,16 @@ use Rattle.sctp_packet.specs.Packet.{HeaderTree}
 use Rattle.sctp_serial.specs.Messages.{Message}
 use Rattle.sctp_state.specs.Options.{SendOptions, defaults}
 use Rattle.sctp_state.specs.Handover.{HandoverState}
-use Rattle.sctp_state.specs.Events.{Event, SendPacket, GivenUp, nothing_emitted}
+use Rattle.sctp_state.specs.Events.{Event, SendPacket, GivenUp}
 use Rattle.spec_endpoint.specs.Association.{Packing, EndpointState, Endpoint, fresh}
 use Rattle.spec_endpoint.specs.Opening.{connect}
 use Rattle.spec_endpoint.specs.Shutdown.{close, shutdown}
-use Rattle.spec_endpoint.specs.Calls.{send, ready_in, take_message}
+use Rattle.spec_endpoint.specs.Calls.{send, take_message, ready_at}
 use Rattle.spec_endpoint.specs.StreamReset.{reset_streams}
 use Rattle.spec_endpoint.specs.Timers.{advance}
 use Rattle.spec_endpoint.specs.Handover.{hand_over, restore}
 use Rattle.spec_endpoint.specs.Input.{on_packet, in_endpoint_state}
+use Rattle.spec_endpoint.specs.Packets.{packets_in, drained}
 
 pub record SentPacket : Type 0 where
   pub header : HeaderTree
@@ -62,11 +63,6 @@ at_first = record { a = new_end 456; b = new_end 1000; from_a = []; from_b = [];
 
 -- ---- what is emitted is taken
 
-abbrev pub packets_in : List (Event SentPacket) → List SentPacket
-packets_in [] = []
-packets_in (SendPacket p ∷ es) = p ∷ packets_in es
-packets_in (e ∷ es) = packets_in es
-
 abbrev pub line_of : Event SentPacket → Line
 line_of (SendPacket p) = PacketLine (12 + length (chunks_bytes p.chunks))
 line_of e = Says e
@@ -78,9 +74,6 @@ lines_of (e ∷ es) = line_of e ∷ lines_of es
 abbrev pub given_up_lines : List GivenUp → List Line
 given_up_lines [] = []
 given_up_lines (g ∷ gs) = GaveUp g ∷ given_up_lines gs
-
-abbrev pub drained : Endpoint SentPacket → Endpoint SentPacket
-drained s = record s { endpoint_state = record s.endpoint_state { context = record s.endpoint_state.context { emitted = nothing_emitted } } }
 
 abbrev pub log_news : Endpoint SentPacket → List Line → List Line
 log_news s log = log ++ (lines_of s.endpoint_state.context.emitted.events ++ given_up_lines s.endpoint_state.context.emitted.given_up)
@@ -140,9 +133,6 @@ after_moves ms = moves ms at_first
 -- what the later moves add to the log
 abbrev pub then : (before later : List Move) → List Line
 then before later = (moves later (record (after_moves before) { log = [] })).log
-
-abbrev pub ready_at : Endpoint SentPacket → List Message
-ready_at s = ready_in s.endpoint_state.state
 
 abbrev pub ready_b : List Move → List Message
 ready_b ms = ready_at (after_moves ms).b

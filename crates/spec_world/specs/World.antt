@@ -3,9 +3,9 @@ use Rattle.std.specs.Prelude.{◌≡◌, ℕ, zero, suc, ◌+◌, ◌≤◌, All
 use Rattle.rand_core.specs.Stream.{Stream}
 use Rattle.sctp_serial.specs.Messages.{Message}
 use Rattle.sctp_state.specs.Options.{Options}
-use Rattle.sctp_state.specs.Events.{Event, SendPacket, first_of, GivenUp, nothing_emitted}
+use Rattle.sctp_state.specs.Events.{Event, SendPacket, first_of, GivenUp}
 use Rattle.spec_endpoint.specs.Association.{Endpoint, fresh}
-use Rattle.spec_endpoint.specs.Calls.{shown_state, send_refusal_of, refusals, ready_in}
+use Rattle.spec_endpoint.specs.Calls.{shown_state, send_refusal_of, refusals, ready_at}
 use Rattle.spec_endpoint.specs.Handover.{readiness, handed_over}
 use Rattle.spec_endpoint.specs.StreamReset.{reset_refusal}
 use Rattle.spec_endpoint.specs.Laws as table
@@ -15,6 +15,7 @@ use Rattle.spec_endpoint.specs.Receiving.{Receives, Judges}
 use Rattle.spec_endpoint.specs.Shown as socket
 use Rattle.spec_endpoint.specs.Wire.{writing}
 use Rattle.spec_world.specs.Observations.{End, A, B, same_association, Call, Connect, Shutdown, Close, Send, SendMany, TakeMessage, Reset, SetPriority, SetMaxMessageSize, SetLowThreshold, HandOver, Answer, Done, Sent, SentMany, TookMessage, AskedReset, HandedOver, NotReady, Entry, Called, Given, Foreign, Timed, Associated, EmittedPacket, EmittedEvent, GaveUp, BecameReady}
+use Rattle.spec_endpoint.specs.Packets.{packets_in, drained}
 
 -- an end, with the packets that it ever sent
 pub record Side : Type 0 where
@@ -41,11 +42,6 @@ pub data Action : Type 0 where
 
 -- ---- what an event leaves of a side, and what it adds to the log
 
-abbrev pub packets_in : List (Event (List ℕ)) → List (List ℕ)
-packets_in [] = []
-packets_in (SendPacket bytes ∷ events) = bytes ∷ packets_in events
-packets_in (event ∷ events) = packets_in events
-
 -- what was emitted, the first packet with this number
 abbrev pub emitted_entries : End → ℕ → List (Event (List ℕ)) → List Entry
 emitted_entries x n [] = []
@@ -60,9 +56,6 @@ clock s = s.endpoint_state.context.now
 
 abbrev pub association : Endpoint (List ℕ) → Option Association
 association s = association_in s.endpoint_state.state
-
-abbrev pub ready_at : Endpoint (List ℕ) → List Message
-ready_at s = ready_in s.endpoint_state.state
 
 abbrev pub associated_unless : Bool → End → Option Association → List Entry
 associated_unless true x a = []
@@ -90,10 +83,6 @@ news x packets ready old s =
 
 abbrev pub news_of : End → Side → Endpoint (List ℕ) → List Entry
 news_of x side s = news x (length side.packets) (length (ready_at side.socket)) (association side.socket) s
-
--- all that it emitted is taken
-abbrev pub drained : Endpoint (List ℕ) → Endpoint (List ℕ)
-drained s = record s { endpoint_state = record s.endpoint_state { context = record s.endpoint_state.context { emitted = nothing_emitted } } }
 
 abbrev pub take_emitted : Side → Endpoint (List ℕ) → Side
 take_emitted side s = record { socket = drained s; packets = side.packets ++ packets_in s.endpoint_state.context.emitted.events }

@@ -114,8 +114,8 @@ pub struct Options {
     /// Whether the socket does what the RFCs ask where the original stands still, or loses; our own, and off by default. docs/DECISIONS.md lists
     /// the places, among them: what was lost goes before what is new, acknowledgements are asked for and sent in time (RFC 9260 sections 6.1 and
     /// 6.2, RFC 7053), what is due is timed, and timers back off to `rto_max` at most (section 6.3, RFC 3758 section 3.5), a cookie that is known to
-    /// be late is discarded (sections 5.1.5, 5.2.4), `shutdown` waits for the queue (section 9.2), and as an association ends what waits is given
-    /// up, each message with its record (sections 9, 6.5), and errors count from 0 (section 8.1). What is given up may bring a queued amount low.
+    /// be late is discarded (sections 5.1.5, 5.2.4), `shutdown` waits for the queue (section 9.2), and as an association ends or is restarted what
+    /// waits is given up, each message with its record (sections 9, 6.5), and errors count from 0 (section 8.1). That may bring an amount low.
     pub avoid_stalls: bool,
 }
 

@@ -1,7 +1,7 @@
 use Rattle.std.proofs.Common.{◌≡◌, ◌+◌, [], ◌∷◌, length, map, ap, ◌∙◌, arith}
 use Rattle.std.proofs.lemmas.List.{length-append, length-map}
 use Rattle.sctp_state.specs.Events.{event_of}
-use Rattle.spec_world.specs.World.{packets_in}
+use Rattle.spec_endpoint.specs.Packets.{packets_in}
 use Rattle.sctp_network_side.specs.SideView.{end_tree, without_events}
 use Rattle.sctp_association.specs.Socket.{SocketValue}
 use Rattle.sctp_network_side.proofs.CutLemmas.{more_made}

@@ -1,6 +1,7 @@
 use Rattle.std.proofs.Common.{◌≡◌, List, ◌++◌, length, map}
 use Rattle.spec_world.specs.Observations.{Entry}
-use Rattle.spec_world.specs.World.{packets_in, emitted_entries}
+use Rattle.spec_world.specs.World.{emitted_entries}
+use Rattle.spec_endpoint.specs.Packets.{packets_in}
 use Rattle.sctp_network_side.specs.SideView.{end_tree, entry_tree, without_events}
 use Rattle.sctp_network_side.proofs.side.take_events.Given as goal
 
