@@ -230,7 +230,8 @@ static inline uint32_t pigeon_new(pigeon_socket *socket, const pigeon_options *o
  * of the handle then names freed memory. */
 void pigeon_free(pigeon_socket *socket);
 
-/* ---- Calls. All below may answer PIGEON_NO_SOCKET; those without const PIGEON_MEMORY, PIGEON_FAILED too, but to set max_message_size or take what waits. */
+/* ---- Calls. All below may answer PIGEON_NO_SOCKET; those without const PIGEON_MEMORY, PIGEON_FAILED too, but to set max_message_size, to start
+ * channels or agree on one, and, without channels, to take what waits. */
 
 /* Opens an association, where the socket is closed. Advance the time first. */
 uint32_t pigeon_connect(pigeon_socket *socket);
@@ -401,9 +402,10 @@ typedef struct pigeon_outgoing {
 } pigeon_outgoing;
 
 /* Queues copies of several messages, all by the same options, so that all have one lifecycle, and sends then; advance the time first. The first
- * `count` of the numbers at `answers` become what pigeon_send would answer for each; PIGEON_SOME_REFUSED where not all are PIGEON_OK, and the
- * others are queued all the same. PIGEON_INVALID_SIZE and PIGEON_INVALID_ARGUMENT as of pigeon_send; PIGEON_SHORT_BUFFER: `answered` is less than
- * `count`; PIGEON_INVALID_STREAM: a stream is above 65,535; PIGEON_NO_ROOM: no memory for the copies. After one of these five nothing is queued. */
+ * `count` of the numbers at `answers` become what pigeon_send would answer for each; PIGEON_SOME_REFUSED where not all are PIGEON_OK, and the others
+ * are queued all the same. PIGEON_INVALID_SIZE and PIGEON_INVALID_ARGUMENT as of pigeon_send; PIGEON_SHORT_BUFFER: `answered` is less than `count`;
+ * PIGEON_INVALID_STREAM: a stream is above 65,535; PIGEON_NO_ROOM: no memory for the copies. After one of these five nothing is queued. After
+ * PIGEON_MEMORY, of pigeon_send too, some may be queued or have gone, and no number is written. */
 uint32_t pigeon_send_many_sized(pigeon_socket *socket, const pigeon_outgoing *messages, size_t count, const void *options, size_t size,
                                 uint32_t *answers, size_t answered);
 static inline uint32_t pigeon_send_many(pigeon_socket *socket, const pigeon_outgoing *messages, size_t count,
@@ -539,12 +541,13 @@ static inline uint32_t pigeon_borrow_event(pigeon_socket *socket, pigeon_event *
  * (pigeon_advance_time, pigeon_close): who connects again takes events behind them before it opens or sends. A channel that is opened between is
  * closed with the old association, and what was sent goes out in the next one.
  *
- * Of each packet messages are told before events, but behind those that say how the association stands, and behind what was emitted before it. So
- * what comes with a COOKIE ECHO is told behind PIGEON_ON_CONNECTED, where the peer restarts as of new channels: the old ones are closed before.
- * What these had queued goes out without PIGEON_AVOID_STALLS.
+ * Of each packet messages are told before events, of one that begins with a COOKIE ECHO behind those that say how the association stands, and
+ * behind what was emitted before it. So what comes with a COOKIE ECHO is told behind PIGEON_ON_CONNECTED, where the peer restarts as of new
+ * channels: the old ones are closed before. What these had queued goes out without PIGEON_AVOID_STALLS.
  *
  * Each of these calls answers PIGEON_NO_CHANNELS where there are none, and PIGEON_INVALID_STREAM for a number above 65,535. PIGEON_MEMORY, PIGEON_FAILED:
- * channels have failed, or the socket and they, and the socket is to be freed; later calls need not say so.
+ * channels have failed, or the socket and they. The socket is to be freed, and nothing more taken: of what is told behind it a message may be missing,
+ * or a part in its middle. Later calls need not say so.
  */
 
 /* Who opens which: the client of DTLS (a=setup:active) even streams, the server (a=setup:passive) odd ones. */
@@ -651,10 +654,10 @@ enum {
 /* Takes the bytes of a packet that came, as pigeon_handle_input does, and what it brings to the channels. */
 uint32_t pigeon_channels_handle_input(pigeon_socket *socket, const uint8_t *bytes, size_t length);
 
-/* Hands out the event that comes next, of the socket or of its channels: packets to send and messages are among them. Take all of them each turn.
- * The `length` bytes at `bytes` are the socket's, and are lent until the next call with it, as those of pigeon_borrow_event. PIGEON_NOTHING: none is
- * left. PIGEON_NO_ROOM: the event stays. PIGEON_INVALID_SIZE. Of the socket's events those of resets aren't handed out, of no stream: channels
- * take them. */
+/* Hands out the event that comes next, of the socket or of its channels: packets to send and messages are among them. Take all of them each turn. The
+ * `length` bytes at `bytes` are the socket's, and are lent until the next call with it, as those of pigeon_borrow_event. PIGEON_NOTHING: none is
+ * left. PIGEON_MEMORY, PIGEON_FAILED: channels have failed, and an event may be lost. PIGEON_INVALID_SIZE. Of the socket's events those of resets
+ * aren't handed out, of no stream: channels take them. */
 uint32_t pigeon_channels_borrow_event_sized(pigeon_socket *socket, void *event, size_t size, const uint8_t **bytes);
 static inline uint32_t pigeon_channels_borrow_event(pigeon_socket *socket, pigeon_event *event, const uint8_t **bytes) {
     return pigeon_channels_borrow_event_sized(socket, event, event->size, bytes);

@@ -90,7 +90,7 @@ fn turn<S: DcSctpSocket>(
     let mut came = Vec::new(rt.alloc());
     came.append(&mut end.came)?;
     for bytes in &came {
-        end.socket.handle_input(bytes)?;
+        end.channels.handle_input(&mut end.socket, bytes)?;
         tell(rt, end)?;
     }
     Ok(end.socket.poll_timeout())

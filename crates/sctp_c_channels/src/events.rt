@@ -51,29 +51,6 @@ fn head_of(kind: u32, error: u32, id: StreamId, length: usize) -> EventRecord
     }
 }
 
-fn take_packet<S: DcSctpSocket>(
-    socket: &mut S,
-    channels: &mut DataChannels,
-    bytes: &[u8],
-) -> Result<(), CallError>
-    ensures { OnOk result (Follows channels.old channels.new) }
-{
-    socket.handle_input(bytes)?;
-    channels.collect(socket)
-}
-
-/// What was emitted before goes first: the packet may be another association's.
-fn input_on<S: DcSctpSocket>(
-    socket: &mut S,
-    channels: &mut DataChannels,
-    bytes: &[u8],
-) -> Result<(), CallError>
-    ensures { OnOk result (Follows channels.old channels.new) }
-{
-    channels.collect(socket)?;
-    take_packet(socket, channels, bytes)
-}
-
 /// Takes the bytes of a packet that came, and what it brings to the channels, behind what was emitted before, and before the next one.
 pub fn handle_input<S: DcSctpSocket>(
     socket: &mut S,
@@ -86,7 +63,7 @@ pub fn handle_input<S: DcSctpSocket>(
     let Some(channels) = channels else {
         return NO_CHANNELS;
     };
-    call_number(input_on(socket, channels, bytes))
+    call_number(channels.handle_input(socket, bytes))
 }
 
 /// Takes the event that comes next: where none waits, what the socket has handed out and emitted since is taken first.

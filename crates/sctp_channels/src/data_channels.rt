@@ -11,9 +11,11 @@ ghost use Rattle.sctp_channels.specs.Entries.{channel_at};
 ghost use Rattle.sctp_channels.specs.DataChannels.{IsOpenAt, IsShortEnough};
 ghost use Rattle.sctp_channels.specs.Steps.{DataChannels, Follows, Gets, StaysTold, acknowledged_by, each, ended, event_of, heard, named, passed_on, told_by, with_channels, with_outputs};
 
+mod beginning;
 mod settling;
 
 use crate::closing::Closing;
+use crate::data_channels::beginning::begins_with_cookie;
 use crate::event::passed_on;
 use crate::unanswered::{Unanswered, answer_each, takes_answers};
 use crate::{
@@ -199,19 +201,32 @@ impl DataChannels {
         self.settle(socket)
     }
 
-    /// Takes what the socket has handed out and emitted. Messages come first, since a channel's are ready before the reset that closes it is
-    /// emitted, but for events that say how the association stands: behind these it is another one's messages that are ready.
+    /// Hands the socket the bytes of a packet that came, and takes what it brings, as `collect`. Of one that begins with a COOKIE ECHO messages
+    /// are taken behind the events that say how the association stands, and behind what was emitted before: they may be another association's.
+    pub fn handle_input<S: DcSctpSocket>(
+        &mut self,
+        socket: &mut S,
+        bytes: &[u8],
+    ) -> Result<(), CallError>
+        ensures steps { OnOk result (Follows self.old self.new) }
+        ensures done { OnOk result (self.new.channels.outputs ≡ []) }
+        ensures told { StaysTold self.old self.new }
+    {
+        if begins_with_cookie(bytes) {
+            return self.take_cookie(socket, bytes);
+        }
+        socket.handle_input(bytes)?;
+        self.collect(socket)
+    }
+
+    /// Takes what the socket has handed out and emitted: messages first, since a channel's are ready before the reset that closes it is emitted.
     pub fn collect<S: DcSctpSocket>(&mut self, socket: &mut S) -> Result<(), CallError>
         ensures steps { OnOk result (Follows self.old self.new) }
         ensures done { OnOk result (self.new.channels.outputs ≡ []) }
         ensures told { StaysTold self.old self.new }
     {
-        let first = self.take_turns(socket)?;
         self.take_ready(socket)?;
-        match first {
-            Some(event) => self.take_others(socket, event),
-            None => self.take_rest(socket),
-        }
+        self.take_rest(socket)
     }
 
     /// What the socket has ready, and what is to be done then.
@@ -222,29 +237,6 @@ impl DataChannels {
     {
         self.take_messages(socket)?;
         self.settle(socket)
-    }
-
-    /// Where messages are ready, takes the first events, as far as they say how the association stands. The answer is the one behind them.
-    fn take_turns<S: DcSctpSocket>(
-        &mut self,
-        socket: &mut S,
-    ) -> Result<Option<SocketEvent>, CallError>
-        ensures steps { OnOk result (Follows self.old self.new) }
-        ensures told { StaysTold self.old self.new }
-    {
-        if socket.messages_ready_count() == 0 {
-            return Ok(None);
-        }
-        for _ in 0..MANY {
-            let Some(event) = socket.poll_event() else {
-                return Ok(None);
-            };
-            if !is_turn(&event) {
-                return Ok(Some(event));
-            }
-            self.take_event(socket, event)?;
-        }
-        Ok(None)
     }
 
     /// What the socket emitted, and what is to be done then.
@@ -733,17 +725,6 @@ impl DataChannels {
             Err(ResetStreamsError::Failed) => Err(CallError::Failed),
             Err(_refusal) => Ok(self.channels.on_resets_denied(ids)?),
         }
-    }
-}
-
-/// Whether an event says that an association begins or is over.
-fn is_turn(event: &SocketEvent) -> bool {
-    match event {
-        SocketEvent::OnConnected()
-        | SocketEvent::OnConnectionRestarted()
-        | SocketEvent::OnClosed()
-        | SocketEvent::OnAborted(_, _) => true,
-        _ => false,
     }
 }
 

@@ -2,9 +2,8 @@
 //! (`message`, `payload`); one channel (`lifecycle`, `channel`); those of an association, whose public calls know no socket (`channels`); and over one
 //! (`data_channels`): opened, written, read and closed, whichever socket it is.
 //!
-//! The owner drives the socket as without channels, and calls `collect` behind each call that may have emitted something: behind `handle_input`
-//! for each packet, and behind `advance_time`. What the socket emitted is then taken by `next_event` alone; or by `poll_event`, which collects too:
-//! then `collect` is called behind `handle_input` alone, and not where `poll_event` is called there until it answers `None`.
+//! The owner drives the socket as without channels, but that `DataChannels::handle_input` hands it its packets. What these brought, and what
+//! `advance_time` did, is then taken by `poll_event` until it answers `None`; or by `next_event`, where `collect` is called behind `advance_time`.
 #![tactic(auto)]
 
 mod channel;
