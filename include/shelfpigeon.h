@@ -546,8 +546,7 @@ static inline uint32_t pigeon_borrow_event(pigeon_socket *socket, pigeon_event *
  * channels: the old ones are closed before. What these had queued goes out without PIGEON_AVOID_STALLS.
  *
  * Each of these calls answers PIGEON_NO_CHANNELS where there are none, and PIGEON_INVALID_STREAM for a number above 65,535. PIGEON_MEMORY, PIGEON_FAILED:
- * channels have failed, or the socket and they. The socket is to be freed, and nothing more taken: of what is told behind it a message may be missing,
- * or a part in its middle. Later calls need not say so.
+ * channels have failed, or the socket and they. What they had told before can be taken, then the socket is to be freed. Later calls need not say so.
  */
 
 /* Who opens which: the client of DTLS (a=setup:active) even streams, the server (a=setup:passive) odd ones. */
@@ -656,8 +655,8 @@ uint32_t pigeon_channels_handle_input(pigeon_socket *socket, const uint8_t *byte
 
 /* Hands out the event that comes next, of the socket or of its channels: packets to send and messages are among them. Take all of them each turn. The
  * `length` bytes at `bytes` are the socket's, and are lent until the next call with it, as those of pigeon_borrow_event. PIGEON_NOTHING: none is
- * left. PIGEON_MEMORY, PIGEON_FAILED: channels have failed, and an event may be lost. PIGEON_INVALID_SIZE. Of the socket's events those of resets
- * aren't handed out, of no stream: channels take them. */
+ * left. PIGEON_MEMORY, PIGEON_FAILED: channels have failed, and none is left. PIGEON_INVALID_SIZE. Of the socket's events those of resets aren't
+ * handed out, of no stream: channels take them. */
 uint32_t pigeon_channels_borrow_event_sized(pigeon_socket *socket, void *event, size_t size, const uint8_t **bytes);
 static inline uint32_t pigeon_channels_borrow_event(pigeon_socket *socket, pigeon_event *event, const uint8_t **bytes) {
     return pigeon_channels_borrow_event_sized(socket, event, event->size, bytes);

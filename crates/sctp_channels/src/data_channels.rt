@@ -46,6 +46,8 @@ pub struct DataChannels {
     closing: Closing,
     peer_max_message_size: usize,
     max_buffered_amount: usize,
+    // memory lacked as something was taken, which is lost: nothing more is
+    has_failed: bool,
 }
 
 impl Model for DataChannels {
@@ -87,6 +89,7 @@ impl DataChannels {
             closing: Closing::new(alloc),
             peer_max_message_size,
             max_buffered_amount,
+            has_failed: false,
         }
     }
 
@@ -212,15 +215,57 @@ impl DataChannels {
         ensures done { OnOk result (self.new.channels.outputs ≡ []) }
         ensures told { StaysTold self.old self.new }
     {
+        if self.has_failed {
+            return Err(CallError::Failed);
+        }
+        let done = self.take_packet(socket, bytes);
+        self.mark(done)
+    }
+
+    #[inline(always)]
+    fn take_packet<S: DcSctpSocket>(
+        &mut self,
+        socket: &mut S,
+        bytes: &[u8],
+    ) -> Result<(), CallError>
+        ensures steps { OnOk result (Follows self.old self.new) }
+        ensures done { OnOk result (self.new.channels.outputs ≡ []) }
+        ensures told { StaysTold self.old self.new }
+    {
         if begins_with_cookie(bytes) {
             return self.take_cookie(socket, bytes);
         }
         socket.handle_input(bytes)?;
-        self.collect(socket)
+        self.collect_all(socket)
+    }
+
+    /// Keeps in mind that a call failed.
+    #[inline(always)]
+    fn mark(&mut self, done: Result<(), CallError>) -> Result<(), CallError>
+        ensures result { result ≡ done }
+        ensures same { self.new ≡ self.old }
+    {
+        if done.is_err() {
+            self.has_failed = true;
+        }
+        done
     }
 
     /// Takes what the socket has handed out and emitted: messages first, since a channel's are ready before the reset that closes it is emitted.
     pub fn collect<S: DcSctpSocket>(&mut self, socket: &mut S) -> Result<(), CallError>
+        ensures steps { OnOk result (Follows self.old self.new) }
+        ensures done { OnOk result (self.new.channels.outputs ≡ []) }
+        ensures told { StaysTold self.old self.new }
+    {
+        if self.has_failed {
+            return Err(CallError::Failed);
+        }
+        let done = self.collect_all(socket);
+        self.mark(done)
+    }
+
+    #[inline(always)]
+    fn collect_all<S: DcSctpSocket>(&mut self, socket: &mut S) -> Result<(), CallError>
         ensures steps { OnOk result (Follows self.old self.new) }
         ensures done { OnOk result (self.new.channels.outputs ≡ []) }
         ensures told { StaysTold self.old self.new }
@@ -263,6 +308,9 @@ impl DataChannels {
         ensures err { OnErr result (StaysTold self.old self.new) }
     {
         if self.has_told_all() {
+            if self.has_failed {
+                return Err(CallError::Failed);
+            }
             if socket.messages_ready_count() == 0 && self.is_quiet() {
                 return self.pass_on(socket);
             }
@@ -299,10 +347,24 @@ impl DataChannels {
                 Ok(Some(ChannelEvent::BufferedAmountLow(id)))
             }
             Some(event) => {
-                self.take_others(socket, event)?;
+                self.take_marked(socket, event)?;
                 Ok(self.next_event())
             }
         }
+    }
+
+    /// The same as `take_others`, of which is kept in mind that it failed.
+    #[inline(always)]
+    fn take_marked<S: DcSctpSocket>(
+        &mut self,
+        socket: &mut S,
+        event: SocketEvent,
+    ) -> Result<(), CallError>
+        ensures steps { OnOk result (Follows self.old self.new) }
+        ensures told { StaysTold self.old self.new }
+    {
+        let done = self.take_others(socket, event);
+        self.mark(done)
     }
 
     /// An event, and what the socket emitted behind it.

@@ -21,10 +21,10 @@ returns-in-Some-OnBufferedAmountLow-clause-steps g c = low_at_once _ c.args.self
 pub returns-in-Some-OnBufferedAmountLow-clause-first : goal.returns-in-Some-OnBufferedAmountLow-clause-first
 returns-in-Some-OnBufferedAmountLow-clause-first g c = told_at_once _ c.args.self.now c.requires
 
-pub returns-in_ok-take_others-in-Some-clause-steps : goal.returns-in_ok-take_others-in-Some-clause-steps
-returns-in_ok-take_others-in-Some-clause-steps g c =
-    follows_told (option_to_list (option_map event_of c.next_event.result)) c.args.self.now c.take_others.new.self c.next_event.new.self c.in_ok-take_others-in-Some.ensures.steps c.next_event.ensures.taken
+pub returns-in_ok-take_marked-in-Some-clause-steps : goal.returns-in_ok-take_marked-in-Some-clause-steps
+returns-in_ok-take_marked-in-Some-clause-steps g c =
+    follows_told (option_to_list (option_map event_of c.next_event.result)) c.args.self.now c.take_marked.new.self c.next_event.new.self c.in_ok-take_marked-in-Some.ensures.steps c.next_event.ensures.taken
 
-pub returns-in_ok-take_others-in-Some-clause-first : goal.returns-in_ok-take_others-in-Some-clause-first
-returns-in_ok-take_others-in-Some-clause-first g c =
-    told_first (option_to_list (option_map event_of c.next_event.result)) c.args.self.now c.take_others.new.self c.next_event.new.self c.take_others.ensures.told c.next_event.ensures.taken
+pub returns-in_ok-take_marked-in-Some-clause-first : goal.returns-in_ok-take_marked-in-Some-clause-first
+returns-in_ok-take_marked-in-Some-clause-first g c =
+    told_first (option_to_list (option_map event_of c.next_event.result)) c.args.self.now c.take_marked.new.self c.next_event.new.self c.take_marked.ensures.told c.next_event.ensures.taken

@@ -1,6 +1,6 @@
 use Rattle.std.proofs.lemmas.Result.{on_ok_weaker}
 use Rattle.sctp_channels.proofs.FollowsLemmas.{follows_then, told_then}
-use Rattle.sctp_channels.proofs.data_channels.DataChannels.collect.Goals as goal
+use Rattle.sctp_channels.proofs.data_channels.DataChannels.collect_all.Goals as goal
 
 pub returns-clause-steps : goal.returns-clause-steps
 returns-clause-steps g c =
