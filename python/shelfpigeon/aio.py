@@ -63,10 +63,14 @@ def tell(loop: asyncio.AbstractEventLoop, what: str, owner: Callable[..., None],
         loop.call_exception_handler({"message": f"the owner failed at {what}", "exception": fault})
 
 
-def next_in_turn(waiting: OrderedDict[T, None]) -> Iterator[T]:
-    """Takes those out that are looked at in this turn, the first ones, which may be put back behind the others: where many wait a turn costs no more."""
-    for _ in range(min(len(waiting), COUNTED_A_TURN)):
+def next_in_turn(waiting: OrderedDict[T, None], soon: Callable[[], None]) -> Iterator[T]:
+    """Takes those out that are looked at in this turn, the first ones, which may be put back behind the others: where many wait a turn costs no more.
+    Where one of them stays out the others have another turn `soon`: where nothing is in flight no other one comes."""
+    before = len(waiting)
+    for _ in range(min(before, COUNTED_A_TURN)):
         yield waiting.popitem(last=False)[0]
+    if 0 < len(waiting) < before:
+        soon()
 
 
 class Driver:
@@ -552,14 +556,11 @@ class Connection:
 
     def _turned(self) -> None:
         """Where messages were given up there may be room again of which no event says so; with `AVOID_STALLS` only by a reset or an end."""
-        before = len(self._held_back)
-        for channel in next_in_turn(self._held_back):
+        for channel in next_in_turn(self._held_back, self._driver.soon):
             if channel.buffered_amount <= self.high_water // 2:
                 channel._room.set()
             else:
                 self._held_back[channel] = None
-        if 0 < len(self._held_back) < before:
-            self._driver.soon()  # where nothing is in flight no other turn comes
 
     def _read(self, size: int) -> None:
         self._unread -= size

@@ -228,11 +228,8 @@ class SctpTransport(RTCSctpTransport):
 
     def _count(self) -> None:
         """Recounts what channels buffer, in turn. Which is low is told of each."""
-        before = len(self._buffering)
-        for mine in next_in_turn(self._buffering):
+        for mine in next_in_turn(self._buffering, lambda: self._driven().soon()):
             self._tell("bufferedamountlow", self._recount, mine)
-        if 0 < len(self._buffering) < before:
-            self._driven().soon()  # where nothing is in flight no other turn comes
 
     def _recount(self, mine: RTCDataChannel) -> None:
         """Has bufferedAmount follow what waits, by which bufferedamountlow is emitted."""
