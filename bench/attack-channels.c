@@ -67,6 +67,21 @@ static void put_data(uint32_t stream, uint32_t ppid, const uint8_t *payload, siz
         packet[length++] = 0;
 }
 
+/* A request to reset so many streams: the odd ones. */
+static void put_resets(uint32_t streams) {
+    put16(RE_CONFIG << 8);
+    put16(20 + 2 * streams);
+    put16(13);
+    put16(16 + 2 * streams);
+    put32(first_tsn);
+    put32(0);
+    put32(first_tsn + sent - 1);
+    for (uint32_t i = 0; i < streams; i++)
+        put16(2 * i + 1);
+    while (length % 4)
+        packet[length++] = 0;
+}
+
 /* A request to reset all streams, or one. */
 static void put_reset(uint32_t number, int is_all, uint32_t stream) {
     put16(RE_CONFIG << 8);
@@ -167,6 +182,10 @@ static void fill(const char *kind, size_t size, uint32_t count) {
     if (strcmp(kind, "end") == 0) {
         put16(ABORT << 8);
         put16(4);
+        return;
+    }
+    if (strcmp(kind, "resets-of-many") == 0) {
+        put_resets((uint32_t)(size - HEADER - 20) / 2);
         return;
     }
     size_t most = strcmp(kind, "parts") == 0 ? 1016 : 28; /* bytes of a chunk */

@@ -533,13 +533,13 @@ static inline uint32_t pigeon_borrow_event(pigeon_socket *socket, pigeon_event *
  * pigeon_channels_handle_input takes the place of pigeon_handle_input, by which channels would see what two packets brought in another order, and
  * pigeon_channels_borrow_event that of pigeon_borrow_event, pigeon_poll_event, pigeon_borrow_message and pigeon_next_message: what those take the
  * channels don't see. Nor is pigeon_send or pigeon_reset_stream called for a stream that has a channel; and any stream of the association that the
- * peer resets is reset in turn, without a channel once as long as nothing comes on it, by which what waits on it is dropped. A channel's number is
- * its stream's: pigeon_buffered_amount, pigeon_set_buffered_amount_low_threshold and pigeon_buffered_amount_low_threshold take it, and
- * PIGEON_BUFFERED_AMOUNT_LOW says it; a threshold stays with the stream, also for a channel that is opened there later. Channels end with their
- * association, each with its PIGEON_CHANNEL_CLOSED before PIGEON_ON_CLOSED, PIGEON_ON_ABORTED or PIGEON_ON_CONNECTION_RESTARTED; a record that is
- * handed over has none. One on a stream that the association doesn't have as it begins has its own before PIGEON_ON_CONNECTED. Calls may end it too
- * (pigeon_advance_time, pigeon_close): who connects again takes events behind them before it opens or sends. A channel that is opened between is
- * closed with the old association, and what was sent goes out in the next one.
+ * peer resets is reset in turn, of those without a channel 256, each once as long as nothing comes on it, by which what waits on it is dropped. A
+ * channel's number is its stream's: pigeon_buffered_amount, pigeon_set_buffered_amount_low_threshold and pigeon_buffered_amount_low_threshold take
+ * it, and PIGEON_BUFFERED_AMOUNT_LOW says it; a threshold stays with the stream, also for a channel that is opened there later. Channels end with
+ * their association, each with its PIGEON_CHANNEL_CLOSED before PIGEON_ON_CLOSED, PIGEON_ON_ABORTED or PIGEON_ON_CONNECTION_RESTARTED; a record
+ * that is handed over has none. One on a stream that the association doesn't have as it begins has its own before PIGEON_ON_CONNECTED. Calls may
+ * end it too (pigeon_advance_time, pigeon_close): who connects again takes events behind them before it opens or sends. A channel that is opened
+ * between is closed with the old association, and what was sent goes out in the next one.
  *
  * Of each packet messages are told before events, of one that begins with a COOKIE ECHO behind those that say how the association stands, and
  * behind what was emitted before it. So what comes with a COOKIE ECHO is told behind PIGEON_ON_CONNECTED, where the peer restarts as of new

@@ -415,6 +415,17 @@ def test_a_stream_without_a_channel_is_reset_in_turn_once(channels):
     assert channel.is_closed
 
 
+def test_of_streams_without_a_channel_256_are_reset_in_turn():
+    with Socket() as a, Channels(Role.SERVER) as b:
+        world = World(a, b)
+        a.connect()
+        world.settle()
+        a.reset_streams(range(300))
+        world.settle()
+        resets = [it for it in world.told[a] if isinstance(it, events.StreamsReset)]
+        assert [stream for it in resets if it.kind == Kind.INCOMING_STREAM_RESET for stream in it.streams] == list(range(256))
+
+
 def test_a_channel_on_a_stream_that_the_association_does_not_have():
     with Channels(Role.CLIENT) as a, Channels(Role.SERVER, Options.for_webrtc(announced_maximum_incoming_streams=4)) as b:
         world = World(a, b)

@@ -11,7 +11,7 @@ use Rattle.sctp_tx_outstanding.specs.OutstandingData.{fast_items, number_of}
 use Rattle.sctp_tx_outstanding.specs.Forward.{is_forward_due}
 use Rattle.sctp_tx_outstanding.specs.Sack as sack
 use Rattle.sctp_tx_queue.specs.Resets.{streams_to_request, request_resets}
-use Rattle.sctp_tx.specs.RetransmissionQueue.{Sender, sender_if, emitted_if, answer_if, Valid}
+use Rattle.sctp_tx.specs.RetransmissionQueue.{Sender, sender_if, emitted_if, answer_if, Valid, nothing_in_flight}
 use Rattle.sctp_tx.specs.ForwardPoints.{forward_chunk}
 use Rattle.spec_endpoint.specs.Association.{Tcb, Phase, CookieEchoed, Established, ShutdownPending, ShutdownSent, ShutdownReceived, ShutdownAckSent, State, Closed, CookieWait, Open, Context, EndpointState, where_open}
 use Rattle.spec_endpoint.specs.Packets.{PacketDraft, round_down_to_4, fits, add, packet_to, new_packet, has_chunks, emit_if, emit, emit_chunk}
@@ -196,7 +196,7 @@ module _ {P : Type 0} (avoids : Bool) where
   goes_on_lined (ShutdownAckSent t2) t c l = l
 
   shuts_lined : (phase : Phase) (t : Tcb) (c : Context P) → Lined (Open phase t) c → StepLined t (shutdown_in_phase phase t c)
-  shuts_lined (CookieEchoed t1 cookie) t c l = pending_lined (is_quiet t c) t c l.0
+  shuts_lined (CookieEchoed t1 cookie) t c l = pending_lined (nothing_in_flight t.sender.outstanding.items) t c l.0
   shuts_lined Established t c l = pending_lined (is_quiet t c) t c l.0
   shuts_lined ShutdownPending t c l = l
   shuts_lined (ShutdownSent t2) t c l = l

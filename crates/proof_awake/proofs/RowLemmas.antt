@@ -54,6 +54,11 @@ quiet_by : (b at_rest : Bool) (t : Tcb) → is_quiet_if b at_rest (nothing_in_fl
 quiet_by true at_rest t e k = k
 quiet_by false at_rest t e k = still_flies t e k
 
+-- before the COOKIE ACK it does in any case
+flies_by : (b : Bool) (t : Tcb) → nothing_in_flight t.sender.outstanding.items ≡ false → BlockHolds false t → BlockHolds (not b) t
+flies_by true t e k = k
+flies_by false t e k = still_flies t e k
+
 pub t2_runs : (now : ℕ) (most : Option ℕ) (t : Tcb) → BlockHolds false t → Runs (start now (timer (rto t.rtt) Exponential most None))
 t2_runs now most t h = let l = rto_least t.rtt h.rtt in started now (timer (rto t.rtt) Exponential most None) (omega (arith, l))
 
@@ -125,6 +130,10 @@ module _ {P : Type 0} (avoids : Bool) where
   pending_if true t c e h k = (chunk_goes_out avoids false _ t c h, (t2_runs c.now c.options.max_retransmissions t k, k))
   pending_if false t c e h k = (h, (tt, still_waits t c e h.options.stalls k))
 
+  early_if : (b : Bool) (t : Tcb) (c : Context P) → nothing_in_flight t.sender.outstanding.items ≡ b → Beside avoids false c → BlockHolds false t → Steps t (pending_next b t c)
+  early_if true t c e h k = (chunk_goes_out avoids false _ t c h, (t2_runs c.now c.options.max_retransmissions t k, k))
+  early_if false t c e h k = (h, (tt, flies_by avoids t e k))
+
   received_if : (b : Bool) (t : Tcb) (c : Context P) → is_quiet t c ≡ b → Beside avoids false c → BlockHolds false t → Steps t (received_next b t c)
   received_if true t c e h k = (chunk_goes_out avoids false _ t c h, (t2_runs c.now c.options.max_retransmissions t k, k))
   received_if false t c e h k = (h, (tt, still_waits t c e h.options.stalls k))
@@ -139,7 +148,7 @@ module _ {P : Type 0} (avoids : Bool) where
   shutdown_goes_on (ShutdownAckSent t2) t c h r k = (h, (r, k))
 
   shuts : (phase : Phase) (t : Tcb) (c : Context P) → Going phase t c → Steps t (shutdown_in_phase phase t c)
-  shuts (CookieEchoed t1 cookie) t c h = shutdown_goes_on ShutdownPending t c h.0 tt h.1.1
+  shuts (CookieEchoed t1 cookie) t c h = early_if (nothing_in_flight t.sender.outstanding.items) t c refl h.0 h.1.1
   shuts Established t c h = shutdown_goes_on ShutdownPending t c (quieter avoids true c.options c.heartbeats h.0) tt h.1.1
   shuts ShutdownPending t c h = h
   shuts (ShutdownSent t2) t c h = h

@@ -16,9 +16,10 @@ use Rattle.proof_draws.specs.Names.{named_packet, named_phase, named_tcb, named_
 use Rattle.proof_draws.proofs.WritingLemmas.{Knows, named_add, named_emit, named_emit_chunk}
 use Rattle.proof_draws.proofs.TagLemmas.{alone_named}
 use Rattle.proof_draws.proofs.FillingLemmas.{ack_named, send_with_named, send_with_stays}
-use Rattle.proof_draws.proofs.SackLemmas.{named_onward, send_shutdown_named, go_on_named}
+use Rattle.proof_draws.proofs.SackLemmas.{named_onward, send_shutdown_named, go_on_named, pending_named}
 use Rattle.proof_draws.proofs.AnswerLemmas.{established_named}
 use Rattle.proof_endpoint.proofs.RowMapsLemmas.{endpoint_state_in}
+use Rattle.sctp_tx.specs.RetransmissionQueue.{nothing_in_flight}
 
 -- a row for states with a control block
 abbrev pub OpenIsNamed : {P : Type 0} → Names → Packing P → (row : Phase → Tcb → Context P → EndpointState P) → Type 0
@@ -39,7 +40,7 @@ module _ {P : Type 0} (n : Names) (are : AreNames n) (pack : Packing P) where
   -- ---- shutdown
 
   shut_named : (phase : Phase) (t : Tcb) (c : Context P) → Knows n pack c → shutdown_in_phase (named_phase n phase) (named_tcb n t) (plain pack c) ≡ named_onward n pack (shutdown_in_phase phase t c)
-  shut_named (CookieEchoed t1 cookie) t c k = go_on_named n are pack ShutdownPending t c k
+  shut_named (CookieEchoed t1 cookie) t c k = pending_named n are pack (nothing_in_flight t.sender.outstanding.items) t c k
   shut_named Established t c k = go_on_named n are pack ShutdownPending t c k
   shut_named ShutdownPending t c k = refl
   shut_named (ShutdownSent t2) t c k = refl

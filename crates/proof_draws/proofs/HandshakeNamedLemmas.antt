@@ -12,9 +12,9 @@ use Rattle.sctp_state.specs.Events.{OnAborted}
 use Rattle.sctp_tx_outstanding.specs.OutstandingData.{next_number}
 use Rattle.spec_endpoint.specs.Association.{Tcb, Phase, CookieEchoed, Established, ShutdownPending, ShutdownSent, ShutdownReceived, ShutdownAckSent, State, Closed, CookieWait, Open, Context, EndpointState, with_context, Packing}
 use Rattle.spec_endpoint.specs.Packets.{PacketDraft, add, packet_to, new_packet, round_down_to_4, emit_error, emit}
-use Rattle.spec_endpoint.specs.Sending.{AfterSending, open_with}
+use Rattle.spec_endpoint.specs.Sending.{AfterSending, open_with, is_before_cookie_ack}
 use Rattle.spec_endpoint.specs.Shutdown.{close_with}
-use Rattle.spec_endpoint.specs.Opening.{tsn_from, tag_from, answer, next_first, on_init_open, on_init_in, on_init, cookie_in, without_cookie, echo, identity_of_init_ack, echo_or_abort, on_init_ack_in, on_init_ack, enter_connected, CookieResolution, EstablishNew, RestartDetected, SimultaneousInit, MaintainExisting, Discard, InvalidTag, resolve_cookie, cookie_ack, anew, maintain_existing, maintain_existing_in, too_late, restarts, restarts_in, restart, on_resolution, on_read_cookie, on_cookie_echo, new_unless, new_if, restarted}
+use Rattle.spec_endpoint.specs.Opening.{tsn_from, tag_from, answer, next_first, on_init_open, on_init_in, on_init, cookie_in, without_cookie, echo, identity_of_init_ack, echo_or_abort, on_init_ack_in, on_init_ack, enter_connected, CookieResolution, EstablishNew, RestartDetected, SimultaneousInit, MaintainExisting, Discard, InvalidTag, resolve_cookie, cookie_ack, anew, maintain_existing, maintain_existing_in, too_late, restarts, restarts_in, restart, on_resolution, on_read_cookie, on_cookie_echo, new_unless, new_if, restarted, as_restart, resolve_by_tags}
 use Rattle.proof_draws.specs.NamedChunks.{Names, AreNames, flip, move_by, named_parameter, named_init}
 use Rattle.proof_draws.specs.Names.{named_tcb, named_phase, named_state, named_endpoint_state, named_cookie, plain, with_random}
 use Rattle.proof_draws.specs.Laws.{TiesTell}
@@ -209,7 +209,16 @@ module _ {P : Type 0} (n : Names) (are : AreNames n) (pack : Packing P) where
       unless : (late own : Bool) → is_new (new_unless late own) ≡ true → is_new (new_if own) ≡ true
       unless true own h = absurd (cc)
       unless false own h = h
-  still_new avoids_stalls tag k (Open phase t) new = new
+  still_new avoids_stalls tag k (Open phase t) new = by_tags_new (avoids_stalls && not (is_before_cookie_ack phase)) (resolve_by_tags tag t.identity k) new
+    where
+      by_tags_new : (is_late : Bool) (v : CookieResolution) → is_new (as_restart is_late v) ≡ true → is_new v ≡ true
+      by_tags_new false v h = h
+      by_tags_new true EstablishNew h = h
+      by_tags_new true RestartDetected h = h
+      by_tags_new true SimultaneousInit h = refl
+      by_tags_new true MaintainExisting h = h
+      by_tags_new true Discard h = h
+      by_tags_new true InvalidTag h = h
 
   read_named : (tag : ℕ) (r : Result Cookie StateCookieError) (s : EndpointState P) (w v : Stream)
       → ((k : Cookie) → r ≡ Ok k → (phase : Phase) (t : Tcb) → s.state ≡ Open phase t → TiesTell n tag t.identity k)

@@ -72,7 +72,7 @@ module _ {P : Type 0} (n : Names) (are : AreNames n) (pack : Packing P) where
       ap (λ (w : ℕ). emit_chunk (shutdown_chunk w) (named_tcb n t) (plain pack c)) (moved_wire n.peer t.tracker.first front)
       ∙ named_emit_chunk n are pack (shutdown_chunk (tracker.wire_tsn t.tracker front)) t c k
 
-  pending_named : (b : Bool) (t : Tcb) (c : Context P) → Knows n pack c → pending_next b (named_tcb n t) (plain pack c) ≡ named_onward n pack (pending_next b t c)
+  pub pending_named : (b : Bool) (t : Tcb) (c : Context P) → Knows n pack c → pending_next b (named_tcb n t) (plain pack c) ≡ named_onward n pack (pending_next b t c)
   pending_named true t c k = ap (λ (d : Context P). phase_step (ShutdownSent (t2_shutdown t c)) d) (send_shutdown_named t c k)
   pending_named false t c k = refl
 

@@ -5,7 +5,7 @@ use Rattle.sctp_capabilities.specs.StateCookie.{Cookie, read_cookie}
 use Rattle.spec_endpoint.specs.Association.{Identity, Tcb, Phase, CookieEchoed, Established, ShutdownPending, ShutdownSent, ShutdownReceived, ShutdownAckSent, State, Closed, CookieWait, Open}
 use Rattle.spec_endpoint.specs.Sending.{is_before_cookie_ack}
 use Rattle.spec_endpoint.specs.Input.{my_tag, has_tag_in, abort_flag, complete_flag, has_shutdown_ack, has_data_chunk, begins_with_cookie, is_single_init, is_early, unless, plain_refusal, has_more_counted, unless_many, packet_refusal_by, packet_refusal}
-use Rattle.spec_endpoint.specs.Opening.{by_tags, new_if, resolve_by_tags, resolve_cookie, new_unless, may_restart, is_taken, is_taken_in, goes_on_behind, CookieResolution, EstablishNew, RestartDetected, SimultaneousInit, MaintainExisting, Discard, InvalidTag}
+use Rattle.spec_endpoint.specs.Opening.{by_tags, new_if, resolve_by_tags, resolve_cookie, new_unless, may_restart, is_taken, is_taken_in, goes_on_behind, CookieResolution, EstablishNew, RestartDetected, SimultaneousInit, MaintainExisting, Discard, InvalidTag, as_restart}
 use Rattle.sctp_capabilities.specs.declared.state_cookie.StateCookieError.{StateCookieError}
 use Rattle.proof_draws.specs.NamedCalls.{read_under}
 use Rattle.proof_draws.specs.NamedChunks.{Names, AreNames, named_chunks}
@@ -271,7 +271,9 @@ module _ (n : Names) (are : AreNames n) where
   judged_named avoids_stalls tag k (CookieWait my first t1) ties =
       ap (λ (b : Bool). new_unless (avoids_stalls && not b) (n.tag tag == n.tag k.my_tag)) (are.apart k.my_tag my)
       ∙ ap (λ (b : Bool). new_unless (avoids_stalls && not (k.my_tag == my)) b) (are.apart tag k.my_tag)
-  judged_named avoids_stalls tag k (Open phase t) ties = compared_named tag t.identity k (ties phase t refl)
+  judged_named avoids_stalls tag k (Open phase t) ties =
+      ap (λ (b : Bool). as_restart (avoids_stalls && not b) (resolve_by_tags (n.tag tag) (named_identity n t.identity) (named_cookie n k))) (alone_named n phase)
+      ∙ ap (λ (v : CookieResolution). as_restart (avoids_stalls && not (is_before_cookie_ack phase)) v) (compared_named tag t.identity k (ties phase t refl))
 
   -- ---- what lies behind it
 

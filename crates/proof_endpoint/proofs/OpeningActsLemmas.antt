@@ -1,5 +1,5 @@
 -- The walk over the rows: the handshake.
-use Rattle.std.proofs.Common.{◌≡◌, ℕ, ◌<◌, ◌^◌, subst, arith, ◌==◌, not, Bool, true, false, Option, Some, None, Result, Ok, Err, List, [], ◌∷◌, codes, refl, ◌&&◌}
+use Rattle.std.proofs.Common.{◌≡◌, ℕ, ◌<◌, ◌^◌, subst, arith, ◌==◌, not, Bool, true, false, Option, Some, None, Result, Ok, Err, List, [], ◌∷◌, codes, refl, ◌&&◌, ap}
 use Rattle.rand_core.specs.Stream.{Stream}
 use Rattle.sctp_wire.specs.Cause.{missing_mandatory_parameter, cookie_received_while_shutting_down}
 use Rattle.sctp_packet.specs.Chunk.{ChunkTree, InitTree, init_chunk, init_ack_chunk, abort_chunk, error_chunk, cookie_echo_chunk, cookie_ack_chunk, shutdown_ack_chunk}
@@ -13,7 +13,7 @@ use Rattle.sctp_state.specs.Events.{OnAborted}
 use Rattle.spec_endpoint.specs.Association.{Tcb, tcb, Phase, CookieEchoed, Established, ShutdownPending, ShutdownSent, ShutdownReceived, ShutdownAckSent, State, Closed, CookieWait, Open, Context, Endpoint}
 use Rattle.spec_endpoint.specs.Packets.{PacketDraft, fits, add, packet_to, new_packet, round_down_to_4, emit}
 use Rattle.spec_endpoint.specs.Sending.{is_before_cookie_ack}
-use Rattle.spec_endpoint.specs.Opening.{long_word, init_of, init_ack_of, next_first, send_init, t1_init, connect_in, connect, agreed_by, answers, answers_new, answers_again, on_init_open, on_init_in, on_init, cookie_in, without_cookie, t1_cookie, identity_of_init_ack, echo_or_abort, on_init_ack_in, on_init_ack, enter_connected, on_cookie_ack, CookieResolution, EstablishNew, RestartDetected, SimultaneousInit, MaintainExisting, Discard, InvalidTag, by_tags, new_if, new_unless, resolve_by_tags, resolve_cookie, cookie_ack, tcb_by, establishes as establishes_by, maintain_existing, too_late, restarts as restarts_by, restarts_in, on_resolution, on_read_cookie, on_cookie_echo, restarted}
+use Rattle.spec_endpoint.specs.Opening.{long_word, init_of, init_ack_of, next_first, send_init, t1_init, connect_in, connect, agreed_by, answers, answers_new, answers_again, on_init_open, on_init_in, on_init, cookie_in, without_cookie, t1_cookie, identity_of_init_ack, echo_or_abort, on_init_ack_in, on_init_ack, enter_connected, on_cookie_ack, CookieResolution, EstablishNew, RestartDetected, SimultaneousInit, MaintainExisting, Discard, InvalidTag, by_tags, new_if, new_unless, resolve_by_tags, resolve_cookie, cookie_ack, tcb_by, establishes as establishes_by, maintain_existing, too_late, restarts as restarts_by, restarts_in, on_resolution, on_read_cookie, on_cookie_echo, restarted, as_restart}
 use Rattle.spec_endpoint.specs.Laws.{Call, Connect}
 use Rattle.proof_endpoint.proofs.ReceivedLemmas.{FitsCookie, FitsRead, read_fits}
 use Rattle.proof_endpoint.proofs.OwnChunksLemmas.{fair_shutdown_ack, fair_too_late, fair_missing}
@@ -49,6 +49,38 @@ no_new false true c d e = cc
 no_new true false c true e = cc
 no_new true false c false e = cc
 no_new false false c d e = cc
+
+-- what stays of a verdict where crossed INITs count as a restart
+by_tags_alone : (is_late : Bool) (v : CookieResolution) → as_restart is_late v ≡ EstablishNew → v ≡ EstablishNew
+by_tags_alone false v e = e
+by_tags_alone true EstablishNew e = refl
+by_tags_alone true RestartDetected e = cc
+by_tags_alone true SimultaneousInit e = cc
+by_tags_alone true MaintainExisting e = cc
+by_tags_alone true Discard e = cc
+by_tags_alone true InvalidTag e = cc
+
+crossed_alone : (is_late : Bool) (v : CookieResolution) → as_restart is_late v ≡ SimultaneousInit → v ≡ SimultaneousInit
+crossed_alone false v e = e
+crossed_alone true EstablishNew e = cc
+crossed_alone true RestartDetected e = cc
+crossed_alone true SimultaneousInit e = refl
+crossed_alone true MaintainExisting e = cc
+crossed_alone true Discard e = cc
+crossed_alone true InvalidTag e = cc
+
+pub maintained_alone : (is_late : Bool) (v : CookieResolution) → as_restart is_late v ≡ MaintainExisting → v ≡ MaintainExisting
+maintained_alone false v e = e
+maintained_alone true EstablishNew e = cc
+maintained_alone true RestartDetected e = cc
+maintained_alone true SimultaneousInit e = cc
+maintained_alone true MaintainExisting e = refl
+maintained_alone true Discard e = cc
+maintained_alone true InvalidTag e = cc
+
+restarted_late : (is_late : Bool) (v : CookieResolution) → as_restart is_late v ≡ RestartDetected → as_restart true v ≡ RestartDetected
+restarted_late true v e = e
+restarted_late false v e = ap (λ (w : CookieResolution). as_restart true w) e
 
 module _ {P : Type 0} {call : Call} {R : EndWithPacket P → EndWithPacket P → Type 0} (k : Preserves call R) where
   -- ---- INIT
@@ -226,13 +258,13 @@ module _ {P : Type 0} {call : Call} {R : EndWithPacket P → EndWithPacket P →
         (k.through (k.packets (adds_plain (error_chunk (cookie_received_while_shutting_down ∷ [])) (at s c w q) refl (plain_added (fits p shutdown_ack_chunk) p refl) (λ f. fair_too_late)))
         (k.through (does_out k s c w r (all_along (added_more (error_chunk (cookie_received_while_shutting_down ∷ [])) q (first_more shutdown_ack_chunk p refl refl) refl))) (does_emit_error k WrongSequence (codes "Received COOKIE-ECHO while shutting down") s (emit r c) w))))
 
-    does_restarts : (phase : Phase) (t : Tcb) (s : Endpoint P) → resolve_by_tags tag t.identity a ≡ RestartDetected
+    does_restarts : (phase : Phase) (t : Tcb) (s : Endpoint P) → as_restart true (resolve_by_tags tag t.identity a) ≡ RestartDetected
         → R (calm (end_in (Open phase t) s)) (calm (restarts_by a (end_in (Open phase t) s)))
     does_restarts phase t s is =
         let e : Endpoint P = end_in (Open phase t) s in
         does_anew true (restarted s.endpoint_state.context) e (calm e) (k.opening (restarts tag a phase t (calm e) h is))
 
-    does_restarts_in : (phase : Phase) (t : Tcb) (s : Endpoint P) → resolve_by_tags tag t.identity a ≡ RestartDetected
+    does_restarts_in : (phase : Phase) (t : Tcb) (s : Endpoint P) → as_restart true (resolve_by_tags tag t.identity a) ≡ RestartDetected
         → R (calm (end_in (Open phase t) s)) (calm (restarts_in phase t a (end_in (Open phase t) s)))
     does_restarts_in (CookieEchoed t1 cookie) t s is = does_restarts (CookieEchoed t1 cookie) t s is
     does_restarts_in Established t s is = does_restarts Established t s is
@@ -245,17 +277,17 @@ module _ {P : Type 0} {call : Call} {R : EndWithPacket P → EndWithPacket P →
     does_invalid s =
         does_emit_error k ParseFailed (codes "Received CookieEcho with invalid verification tag") s.endpoint_state.state s.endpoint_state.context s.draws
 
-    does_verdict_open : (v : CookieResolution) (phase : Phase) (t : Tcb) (s : Endpoint P) → resolve_by_tags tag t.identity a ≡ v
+    does_verdict_open : (is_late : Bool) (v : CookieResolution) (phase : Phase) (t : Tcb) (s : Endpoint P) → as_restart is_late (resolve_by_tags tag t.identity a) ≡ v
         → R (calm (end_in (Open phase t) s)) (calm (on_resolution v a (end_in (Open phase t) s)))
-    does_verdict_open EstablishNew phase t s is =
-        absurd (no_new (not (tag == t.identity.my_tag)) (not (a.peer_tag == t.identity.peer_tag)) (a.tie_tag == t.identity.tie) (a.tie_tag == 0) is)
-    does_verdict_open RestartDetected phase t s is = does_restarts_in phase t s is
-    does_verdict_open SimultaneousInit phase t s is =
+    does_verdict_open is_late EstablishNew phase t s is =
+        absurd (no_new (not (tag == t.identity.my_tag)) (not (a.peer_tag == t.identity.peer_tag)) (a.tie_tag == t.identity.tie) (a.tie_tag == 0) (by_tags_alone is_late _ is))
+    does_verdict_open is_late RestartDetected phase t s is = does_restarts_in phase t s (restarted_late is_late _ is)
+    does_verdict_open is_late SimultaneousInit phase t s is =
         let e : Endpoint P = end_in (Open phase t) s in
-        does_anew true s.endpoint_state.context e (calm e) (k.opening (opens_again tag a phase t (calm e) h is))
-    does_verdict_open MaintainExisting phase t s is = does_kept phase t s.endpoint_state.context s.draws is
-    does_verdict_open Discard phase t s is = k.same (calm (end_in (Open phase t) s))
-    does_verdict_open InvalidTag phase t s is = does_invalid (end_in (Open phase t) s)
+        does_anew true s.endpoint_state.context e (calm e) (k.opening (opens_again tag a phase t (calm e) h (crossed_alone is_late _ is)))
+    does_verdict_open is_late MaintainExisting phase t s is = does_kept phase t s.endpoint_state.context s.draws (maintained_alone is_late _ is)
+    does_verdict_open is_late Discard phase t s is = k.same (calm (end_in (Open phase t) s))
+    does_verdict_open is_late InvalidTag phase t s is = does_invalid (end_in (Open phase t) s)
 
     -- without a control block
     does_new_if : (b : Bool) (s : Endpoint P) → (tag == a.my_tag) ≡ b → ((b ≡ true) → R (calm s) (opened_by s.endpoint_state.context.options.avoid_stalls a (calm s)))
@@ -276,7 +308,9 @@ module _ {P : Type 0} {call : Call} {R : EndWithPacket P → EndWithPacket P →
     does_judged (CookieWait my_tag first t1) s =
         let e : Endpoint P = end_in (CookieWait my_tag first t1) s in
         does_unless (s.endpoint_state.context.options.avoid_stalls && not (a.my_tag == my_tag)) (tag == a.my_tag) e refl (λ own. k.opening (opens tag a (calm e) h refl own))
-    does_judged (Open phase t) s = does_verdict_open (resolve_by_tags tag t.identity a) phase t s refl
+    does_judged (Open phase t) s =
+        let is_late : Bool = s.endpoint_state.context.options.avoid_stalls && not (is_before_cookie_ack phase) in
+        does_verdict_open is_late (as_restart is_late (resolve_by_tags tag t.identity a)) phase t s refl
 
   does_read_cookie : (tag : ℕ) (cookie : List ℕ) (r : Result Cookie StateCookieError) (s : Endpoint P) → BringsChunk call tag (cookie_echo_chunk cookie)
       → read_cookie cookie ≡ r → R (calm s) (calm (on_read_cookie tag r s))

@@ -13,7 +13,7 @@ use Rattle.sctp_state.specs.RetransmissionTimeout.{observe_rto}
 use Rattle.sctp_tx_outstanding.specs.Sack.{is_valid}
 use Rattle.sctp_rx.specs.DataTracker as tracker
 use Rattle.sctp_rx.specs.ReassemblyQueue.{admits_fragment, admits_point}
-use Rattle.sctp_tx.specs.RetransmissionQueue.{SackAnswer, Invalid, Valid, sender_if, emitted_if, answer_if}
+use Rattle.sctp_tx.specs.RetransmissionQueue.{SackAnswer, Invalid, Valid, sender_if, emitted_if, answer_if, nothing_in_flight}
 use Rattle.sctp_state.specs.Timer.{Timer}
 use Rattle.spec_endpoint.specs.Association.{Tcb, Phase, CookieEchoed, Established, ShutdownPending, ShutdownSent, ShutdownReceived, ShutdownAckSent, State, Closed, CookieWait, Open, Context, EndpointState, where_open}
 use Rattle.spec_endpoint.specs.Packets.{PacketDraft, packet_to, emit_chunk}
@@ -103,7 +103,7 @@ module _ {P : Type 0} {call : Call} {R : EndWithPacket P → EndWithPacket P →
   does_shut : (phase : Phase) (t : Tcb) (c : Context P) → call ≡ Shutdown
       → R (idle (Open phase t) c w) (idle (Open (shutdown_in_phase phase t c).phase t) (shutdown_in_phase phase t c).context w)
   does_shut (CookieEchoed t1 cookie) t c is =
-      k.through (k.closing (shuts (CookieEchoed t1 cookie) t (idle (Open (CookieEchoed t1 cookie) t) c w) is refl)) (does_on ShutdownPending t c)
+      k.through (k.closing (shuts (CookieEchoed t1 cookie) t (idle (Open (CookieEchoed t1 cookie) t) c w) is refl)) (does_pending (nothing_in_flight t.sender.outstanding.items) t c)
   does_shut Established t c is =
       k.through (k.closing (shuts Established t (idle (Open Established t) c w) is refl)) (does_on ShutdownPending t c)
   does_shut ShutdownPending t c is = k.same (idle (Open ShutdownPending t) c w)

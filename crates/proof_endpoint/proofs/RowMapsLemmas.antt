@@ -10,7 +10,7 @@ use Rattle.sctp_tx_outstanding.specs.OutstandingData.{number_of}
 use Rattle.sctp_tx_outstanding.specs.Sack.{is_valid}
 use Rattle.sctp_rx.specs.DataTracker as tracker
 use Rattle.sctp_tx_queue.specs.Settings.{Changed}
-use Rattle.sctp_tx.specs.RetransmissionQueue.{Sender, SackAnswer, Invalid, Valid, sender_if, emitted_if, answer_if}
+use Rattle.sctp_tx.specs.RetransmissionQueue.{Sender, SackAnswer, Invalid, Valid, sender_if, emitted_if, answer_if, nothing_in_flight}
 use Rattle.spec_endpoint.specs.Association.{Tcb, Phase, CookieEchoed, Established, ShutdownPending, ShutdownSent, ShutdownReceived, ShutdownAckSent, State, Closed, CookieWait, Open, Heartbeats, Context, EndpointState, where_open}
 use Rattle.spec_endpoint.specs.Heartbeats.{stop_heartbeats}
 use Rattle.spec_endpoint.specs.Packets.{add, packet_to, emit_error, emit_chunk}
@@ -121,7 +121,7 @@ module _ {P Q : Type 0} (f : Mapping P Q) where
   maps_open_onward t o x h = ap (λ (y : PhaseStep Q). open_phase_step t y) h
 
   maps_shut : (phase : Phase) (t : Tcb) (c : Context P) → shutdown_in_phase phase t (map_context f c) ≡ map_onward f (shutdown_in_phase phase t c)
-  maps_shut (CookieEchoed t1 cookie) t c = maps_go_on ShutdownPending t c
+  maps_shut (CookieEchoed t1 cookie) t c = maps_pending (nothing_in_flight t.sender.outstanding.items) t c
   maps_shut Established t c = maps_go_on ShutdownPending t c
   maps_shut ShutdownPending t c = refl
   maps_shut (ShutdownSent t2) t c = refl

@@ -9,7 +9,7 @@ use Rattle.sctp_state.specs.Events.{Event, OnClosed, OnAborted}
 use Rattle.sctp_tx_outstanding.specs.OutstandingData.{number_of}
 use Rattle.sctp_tx_outstanding.specs.Sack.{is_valid}
 use Rattle.sctp_rx.specs.DataTracker as tracker
-use Rattle.sctp_tx.specs.RetransmissionQueue.{SackAnswer, Invalid, Valid, sender_if, emitted_if, answer_if}
+use Rattle.sctp_tx.specs.RetransmissionQueue.{SackAnswer, Invalid, Valid, sender_if, emitted_if, answer_if, nothing_in_flight}
 use Rattle.sctp_state.specs.Timer.{Timer}
 use Rattle.spec_endpoint.specs.Association.{Tcb, Phase, CookieEchoed, Established, ShutdownPending, ShutdownSent, ShutdownReceived, ShutdownAckSent, State, Closed, CookieWait, Open, Context, EndpointState, open_as, with_context, where_open}
 use Rattle.spec_endpoint.specs.Packets.{PacketDraft, add, packet_to, emit_chunk}
@@ -113,7 +113,7 @@ module _ {P : Type 0} where
   -- ---- the call for a shutdown, and its chunks
 
   goes_shut : (phase : Phase) (t : Tcb) (c : Context P) → Goes 0 c (shutdown_in_phase phase t c).context
-  goes_shut (CookieEchoed t1 cookie) t c = goes_on ShutdownPending t c
+  goes_shut (CookieEchoed t1 cookie) t c = goes_pending (nothing_in_flight t.sender.outstanding.items) t c
   goes_shut Established t c = goes_on ShutdownPending t c
   goes_shut ShutdownPending t c = goes_same c
   goes_shut (ShutdownSent t2) t c = goes_same c

@@ -40,7 +40,7 @@ use Rattle.spec_endpoint.specs.ResetRequests.{Request, Requests, request_chunk, 
 use Rattle.spec_endpoint.specs.Sending.{selective_ack, take_due_ack, force_ack, without_duplicates, request_started, data_chunks, asks_at_once, is_before_cookie_ack, fast_most}
 use Rattle.spec_endpoint.specs.Heartbeats.{restart_interval_if}
 use Rattle.spec_endpoint.specs.Shutdown.{over}
-use Rattle.spec_endpoint.specs.Opening.{tsn_from, tag_from, word, drew_word, long_word, drew_long_word, init_of, t1_init, init_ack_of, next_first, agreed_by, cookie_in, maker, queue_anew, t1_cookie, identity_of_init_ack, enter_connected, RestartDetected, SimultaneousInit, MaintainExisting, resolve_by_tags, queue_for, tcb_by, restarted}
+use Rattle.spec_endpoint.specs.Opening.{tsn_from, tag_from, word, drew_word, long_word, drew_long_word, init_of, t1_init, init_ack_of, next_first, agreed_by, cookie_in, maker, queue_anew, t1_cookie, identity_of_init_ack, enter_connected, RestartDetected, SimultaneousInit, MaintainExisting, resolve_by_tags, as_restart, queue_for, tcb_by, restarted}
 use Rattle.spec_endpoint.specs.Data.{accepts_tsn, take_fragment, handle_forward_tsn}
 use Rattle.spec_endpoint.specs.Sack.{clean_blocks, timed_by}
 use Rattle.spec_endpoint.specs.Calls.{shown_state, send_refusal, refuse, accept, set_low_threshold, set_priority, set_max_message_size}
@@ -274,7 +274,7 @@ pub data OpeningAct (P : Type 0) (call : Call) : Type 0 where
   establishes : (tag : ℕ) (t1 : Timer) (cookie : List ℕ) (t : Tcb) (m : EndWithPacket P) → BringsChunk call tag cookie_ack_chunk → OpeningAct P call
   -- a cookie came back: under the tag that it has, to an end without a control block; or to one with it
   opens : (tag : ℕ) (k : Cookie) (m : EndWithPacket P) → IsEchoed call tag k → is_opened m.state ≡ false → (tag == k.my_tag) ≡ true → OpeningAct P call
-  restarts : (tag : ℕ) (k : Cookie) (phase : Phase) (t : Tcb) (m : EndWithPacket P) → IsEchoed call tag k → resolve_by_tags tag t.identity k ≡ RestartDetected → OpeningAct P call
+  restarts : (tag : ℕ) (k : Cookie) (phase : Phase) (t : Tcb) (m : EndWithPacket P) → IsEchoed call tag k → as_restart true (resolve_by_tags tag t.identity k) ≡ RestartDetected → OpeningAct P call
   opens_again : (tag : ℕ) (k : Cookie) (phase : Phase) (t : Tcb) (m : EndWithPacket P) → IsEchoed call tag k → resolve_by_tags tag t.identity k ≡ SimultaneousInit
       → OpeningAct P call
   maintains : (tag : ℕ) (k : Cookie) (t1 : Timer) (cookie : List ℕ) (t : Tcb) (m : EndWithPacket P) → IsEchoed call tag k

@@ -11,7 +11,7 @@ use Rattle.sctp_state.specs.Options.{Options}
 use Rattle.sctp_state.specs.declared.api.ErrorKind.TheVariants.{ParseFailed, WrongSequence}
 use Rattle.spec_endpoint.specs.Association.{Tcb, Phase, CookieEchoed, Established, ShutdownPending, ShutdownSent, ShutdownReceived, ShutdownAckSent, State, Closed, CookieWait, Open, Context, Endpoint}
 use Rattle.spec_endpoint.specs.Packets.{PacketDraft, new_packet, fits, add, emit}
-use Rattle.spec_endpoint.specs.Opening.{long_word, enter_connected, cookie_ack, tcb_by, establishes, CookieResolution, EstablishNew, RestartDetected, SimultaneousInit, MaintainExisting, Discard, InvalidTag, new_if, resolve_cookie, resolve_by_tags, by_tags, maintain_existing, too_late, restarts_in, on_resolution, new_unless, restarted as restarted_in}
+use Rattle.spec_endpoint.specs.Opening.{long_word, enter_connected, cookie_ack, tcb_by, establishes, CookieResolution, EstablishNew, RestartDetected, SimultaneousInit, MaintainExisting, Discard, InvalidTag, new_if, resolve_cookie, resolve_by_tags, by_tags, maintain_existing, too_late, restarts_in, on_resolution, new_unless, restarted as restarted_in, as_restart}
 use Rattle.spec_endpoint.specs.Laws.{ReceiveNoPacket}
 use Rattle.proof_endpoint.specs.Mapped.{Carried}
 use Rattle.proof_endpoint.proofs.OpeningStepsLemmas.{end_in}
@@ -20,7 +20,7 @@ use Rattle.proof_pair.specs.Trace.{AreValidOptions}
 use Rattle.proof_pair.specs.Agreement.{Draw, Association, mirrored, Has, History, association_of, held_in, AreDistinct}
 use Rattle.proof_endpoint.proofs.BundledLemmas.{added_more, first_more, plain_added}
 use Rattle.proof_endpoint.proofs.PacketActsLemmas.{new_addressed, whole_addressed, does_begin, does_out, does_emit_error, does_send_with}
-use Rattle.proof_endpoint.proofs.OpeningActsLemmas.{accepting}
+use Rattle.proof_endpoint.proofs.OpeningActsLemmas.{accepting, maintained_alone}
 use Rattle.proof_pair.proofs.AgreeLemmas.{Past, View, holds, view_of, own_in, peer_in, SaysEcho, SaysAck, Holds, Tagged, Later, later_same, one_draw}
 use Rattle.proof_pair.proofs.AgreeActsLemmas.{Setting, Inv, InvAt, inv_view, inv_silent, inv_later, inv_grown, inv_bound, adds, inv_no_packet_or_status}
 use Rattle.proof_pair.proofs.AgreeNotesLemmas.{noted}
@@ -28,6 +28,7 @@ use Rattle.proof_pair.proofs.AgreeOpeningLemmas.{Known, kept_quiet}
 use Rattle.spec_endpoint.specs.Shutdown.{emptied_if}
 use Rattle.proof_pair.proofs.UntilLemmas.{restart_gives_up}
 use Rattle.proof_pair.proofs.EmittedLemmas.{EmitsNoPacketOrStatus}
+use Rattle.spec_endpoint.specs.Sending.{is_before_cookie_ack}
 
 abbrev pub past_of : History → List Association → Past
 past_of n echoed = record { drawn = n.drawn; held = n.held; echoed = echoed }
@@ -251,14 +252,14 @@ module _ (o : Options) (past : List (Event Carried)) (y : Past) (fine : AreValid
         goes_held g y n echoed (on_resolution InvalidTag k (end_in st s)) known
         (does_emit_error quiet_here ParseFailed (codes "Received CookieEcho with invalid verification tag") st s.endpoint_state.context s.draws inv)
 
-    judged_open : (v : CookieResolution) (phase : Phase) (t : Tcb) (s : Endpoint Carried) → resolve_by_tags tag t.identity k ≡ v → InvAt g x y (calm (end_in (Open phase t) s))
+    judged_open : (is_late : Bool) (v : CookieResolution) (phase : Phase) (t : Tcb) (s : Endpoint Carried) → as_restart is_late (resolve_by_tags tag t.identity k) ≡ v → InvAt g x y (calm (end_in (Open phase t) s))
         → Goes g y n echoed (noted [] (on_resolution v k (end_in (Open phase t) s)).endpoint_state.state n) (on_resolution v k (end_in (Open phase t) s))
-    judged_open EstablishNew phase t s is inv = anew s.endpoint_state.context.options.avoid_stalls (view_of (Open phase t)) s.endpoint_state.context (end_in (Open phase t) s) inv
-    judged_open RestartDetected phase t s is inv = restarted phase t s inv
-    judged_open SimultaneousInit phase t s is inv = anew true (view_of (Open phase t)) s.endpoint_state.context (end_in (Open phase t) s) inv
-    judged_open MaintainExisting phase t s is inv = keeps phase t s.endpoint_state.context s.draws is inv
-    judged_open Discard phase t s is inv = goes_held g y n echoed (end_in (Open phase t) s) known inv
-    judged_open InvalidTag phase t s is inv = invalid (Open phase t) s inv
+    judged_open is_late EstablishNew phase t s is inv = anew s.endpoint_state.context.options.avoid_stalls (view_of (Open phase t)) s.endpoint_state.context (end_in (Open phase t) s) inv
+    judged_open is_late RestartDetected phase t s is inv = restarted phase t s inv
+    judged_open is_late SimultaneousInit phase t s is inv = anew true (view_of (Open phase t)) s.endpoint_state.context (end_in (Open phase t) s) inv
+    judged_open is_late MaintainExisting phase t s is inv = keeps phase t s.endpoint_state.context s.draws (maintained_alone is_late _ is) inv
+    judged_open is_late Discard phase t s is inv = goes_held g y n echoed (end_in (Open phase t) s) known inv
+    judged_open is_late InvalidTag phase t s is inv = invalid (Open phase t) s inv
 
     judged_new : (b : Bool) (st : State) (s : Endpoint Carried) → InvAt g x y (calm (end_in st s))
         → Goes g y n echoed (noted [] (on_resolution (new_if b) k (end_in st s)).endpoint_state.state n) (on_resolution (new_if b) k (end_in st s))
@@ -276,4 +277,6 @@ module _ (o : Options) (past : List (Event Carried)) (y : Past) (fine : AreValid
     does_judged Closed s inv = judged_new (tag == k.my_tag) Closed s inv
     does_judged (CookieWait my_tag first t1) s inv =
         judged_unless (s.endpoint_state.context.options.avoid_stalls && not (k.my_tag == my_tag)) (tag == k.my_tag) (CookieWait my_tag first t1) s inv
-    does_judged (Open phase t) s inv = judged_open (resolve_by_tags tag t.identity k) phase t s refl inv
+    does_judged (Open phase t) s inv =
+        let is_late : Bool = s.endpoint_state.context.options.avoid_stalls && not (is_before_cookie_ack phase) in
+        judged_open is_late (as_restart is_late (resolve_by_tags tag t.identity k)) phase t s refl inv

@@ -17,9 +17,9 @@ use Rattle.spec_endpoint.specs.Packets.{PacketDraft, packet_to, round_down_to_4,
 use Rattle.spec_endpoint.specs.Data.{on_data_if}
 use Rattle.spec_endpoint.specs.Sack as acknowledging
 use Rattle.spec_endpoint.specs.StreamReset.{Handling, finish_reconfig_if}
-use Rattle.spec_endpoint.specs.Opening.{CookieResolution, EstablishNew, RestartDetected, SimultaneousInit, MaintainExisting, Discard, InvalidTag, new_if, resolve_by_tags, cookie_in, echo_or_abort, on_resolution, on_read_cookie, new_unless}
+use Rattle.spec_endpoint.specs.Opening.{CookieResolution, EstablishNew, RestartDetected, SimultaneousInit, MaintainExisting, Discard, InvalidTag, new_if, resolve_by_tags, cookie_in, echo_or_abort, on_resolution, on_read_cookie, new_unless, as_restart}
 use Rattle.sctp_rx.specs.DataTracker.{is_ack_due}
-use Rattle.spec_endpoint.specs.Sending.{take_due_ack}
+use Rattle.spec_endpoint.specs.Sending.{take_due_ack, is_before_cookie_ack}
 use Rattle.spec_endpoint.specs.Input.{AfterChunk, receive, received_unless, receive_all, receive_rest, violation, on_chunk, in_endpoint_state, ack_if_due, at_end, packet_acked, shut_waiting, shut_if, on_packet_end}
 use Rattle.spec_endpoint.specs.Laws.{ReceivePacket as Given, ReceiveNoPacket}
 use Rattle.proof_endpoint.specs.Mapped.{Carried}
@@ -243,7 +243,8 @@ module _ (p : PacketTree) where
   read_as (Ok k) Closed s none h = judged_new (tag == k.my_tag) k Closed s none h
   read_as (Ok k) (CookieWait own first t1) s none h =
       judged_unless (s.endpoint_state.context.options.avoid_stalls && not (k.my_tag == own)) (tag == k.my_tag) k (CookieWait own first t1) s none h
-  read_as (Ok k) (Open phase t) s none h = judged_open (resolve_by_tags tag t.identity k) k phase t s
+  read_as (Ok k) (Open phase t) s none h =
+      judged_open (as_restart (s.endpoint_state.context.options.avoid_stalls && not (is_before_cookie_ack phase)) (resolve_by_tags tag t.identity k)) k phase t s
 
   came_back : (cookie : List ℕ) (st : State) (s : Endpoint Carried) → has_connected s.endpoint_state.context.emitted.events ≡ false
       → Stands (receive tag (cookie_echo_chunk cookie) (end_in st s)).end

@@ -15,7 +15,7 @@ use Rattle.sctp_capabilities.proofs.CapabilitiesLemmas.{announced_with_options, 
 use Rattle.sctp_capabilities.proofs.CookieLemmas.{both_tags, read_cookie_bytes}
 use Rattle.sctp_state.specs.Events.{Event, OnConnected}
 use Rattle.spec_endpoint.specs.Association.{Identity, Tcb, Phase, CookieEchoed, Closed, CookieWait, Open, Packing}
-use Rattle.spec_endpoint.specs.Opening.{word, drew_word, init_of, init_ack_of, cookie_for, agreed_by, cookie_in, CookieResolution, RestartDetected, SimultaneousInit, MaintainExisting, by_tags, resolve_by_tags, tcb_by}
+use Rattle.spec_endpoint.specs.Opening.{word, drew_word, init_of, init_ack_of, cookie_for, agreed_by, cookie_in, CookieResolution, RestartDetected, SimultaneousInit, MaintainExisting, by_tags, resolve_by_tags, tcb_by, as_restart}
 use Rattle.spec_endpoint.specs.Laws.{Call, Connect, Shutdown, Restore}
 use Rattle.proof_endpoint.specs.Mapped.{Carried}
 use Rattle.proof_endpoint.specs.Acts.{EndWithPacket, end_of, drawn_tag, drawn_first, BringsChunk, IsEchoed, connects, echoes, before_opening, after_opening}
@@ -111,7 +111,7 @@ compared_same tag i k e f =
     maintain_by (not (tag == i.my_tag)) (not (k.peer_tag == i.peer_tag)) (k.tie_tag == i.tie) (k.tie_tag == 0) (eq_test tag i.my_tag e)
     (eq_test k.peer_tag i.peer_tag f)
 
-pub no_restart : (v : CookieResolution) → v ≡ MaintainExisting → v ≡ RestartDetected → ⊥
+pub no_restart : (v : CookieResolution) → v ≡ MaintainExisting → as_restart true v ≡ RestartDetected → ⊥
 no_restart v e f = cc
 
 pub no_again : (v : CookieResolution) → v ≡ MaintainExisting → v ≡ SimultaneousInit → ⊥

@@ -1,5 +1,5 @@
 -- Channels that become others step by step, and what their owner is told meanwhile.
-use Rattle.std.proofs.Common.{◌≡◌, Some, ℕ, suc, ◌+◌, ◌<◌, List, [], ◌∷◌, ◌++◌, length, drop, get_or, map, add-one, drop-cons, refl, sym, ap, subst, ◌∙◌, arith}
+use Rattle.std.proofs.Common.{◌≡◌, Some, ℕ, suc, ◌+◌, ◌<◌, List, [], ◌∷◌, ◌++◌, length, drop, get_or, map, add-one, drop-cons, refl, sym, ap, subst, ◌∙◌, arith, All, Bool, true, cond, nat_lt}
 use Rattle.std.proofs.lemmas.Grind.{flat_map-append}
 use Rattle.std.proofs.lemmas.List.{append-nil, append_assoc, nil_from_length}
 use Rattle.std.specs.List.{flat_map}
@@ -8,10 +8,13 @@ use Rattle.sctp_serial.specs.declared.api.StreamId.{StreamId}
 use Rattle.sctp_state.specs.Events as sockets
 use Rattle.sctp_state.specs.Events.{numbers_of}
 use Rattle.sctp_channels.specs.Channels as table
-use Rattle.sctp_channels.specs.Channels.{Channels, Output, emit, tell_message}
+use Rattle.sctp_channels.specs.Channels.{Channels, Output, emit, tell_message, end_missing, tell_end, where_there, with_entries}
 use Rattle.sctp_channels.specs.declared.payload.PayloadKind.{PayloadKind}
 use Rattle.sctp_channels.specs.declared.event.ChannelEvent.{ChannelEvent}
 use Rattle.sctp_channels.specs.Steps.{DataChannels, Does, Event, Follows, Gets, Runs, StaysTold, Step, acknowledged_by, acknowledged_by_all, answers, buffers, carries_out, closed_by, counts, each, event_of, gets, heard, hears, is_low, of_channels, of_socket, passed_on, passes_on, refuses, told_by, with_channels, with_outputs}
+use Rattle.std.proofs.lemmas.List.Elements.{All-head, All-tail}
+use Rattle.std.proofs.lemmas.Bool.Decides.{nat_tests}
+use Rattle.sctp_channels.specs.Entries.{channel_at, forget}
 
 -- ---- steps
 
@@ -193,3 +196,17 @@ answered_none all = ([], refl)
 
 pub answered_more : (all front old new : List ℕ) → old ≡ front ++ new → (answered : List ℕ) × (all ≡ answered ++ old) → (answered : List ℕ) × (all ≡ answered ++ new)
 answered_more all front old new is before = (before.0 ++ front, before.1 ∙ ap (λ (ids : List ℕ). before.0 ++ ids) is ∙ sym (append_assoc before.0 front new))
+
+-- ---- the association has the streams of all channels
+
+has_it : (id count : ℕ) → id < count → nat_lt id count ≡ true
+has_it id count below = grind (arith, nat_tests, below)
+
+pub none_missing : (ids : List ℕ) (cs : Channels) → All (λ id. id < cs.stream_count) ids → each end_missing ids cs ≡ cs
+none_missing [] cs below = refl
+none_missing (id ∷ ids) cs below =
+    let first : id < cs.stream_count = All-head (λ id. id < cs.stream_count) id ids below in
+    let rest : All (λ id. id < cs.stream_count) ids = All-tail (λ id. id < cs.stream_count) id ids below in
+    let same : end_missing id cs ≡ cs =
+    ap (λ (b : Bool). cond b cs (where_there (channel_at id cs.entries) (λ c. tell_end c.lifecycle id (with_entries (forget id cs.entries) cs)) cs)) (has_it id cs.stream_count first) in
+    ap (λ (x : Channels). each end_missing ids x) same ∙ none_missing ids cs rest

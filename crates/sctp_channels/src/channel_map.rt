@@ -1,6 +1,6 @@
 //! Channels by the numbers of their streams, and how many bytes they keep.
 
-ghost use Rattle.std.specs.Prelude.{◌≡◌, ◌+◌, ◌-◌, ◌^◌, min, map, true, IfOk, OnOk, OnErr, IsTrue, IsFalse, IfSome, false, is_some, option_copied, option_map, Some, []};
+ghost use Rattle.std.specs.Prelude.{◌≡◌, ◌<◌, All, ◌+◌, ◌-◌, ◌^◌, min, map, true, IfOk, OnOk, OnErr, IsTrue, IsFalse, IfSome, false, is_some, option_copied, option_map, Some, []};
 ghost use Rattle.std.specs.Result.{is_ok};
 ghost use Rattle.std.specs.Map.{keys_of};
 ghost use Rattle.sctp_channels.specs.Channel.{count_received, count_sent, on_data, received_as, reset_incoming, takes_whole, with_lifecycle};
@@ -95,6 +95,16 @@ impl ChannelMap {
         ensures { result ≡ is_some (channel_at id.now self.now) }
     {
         self.entries.contains_key(id)
+    }
+
+    /// Whether no channel is on a stream of this number or a greater one.
+    pub(crate) fn are_below(&self, count: u16) -> bool
+        ensures { IsTrue result → All (λ k. k < count) (keys_of self.now) }
+    {
+        match self.entries.last_key_value() {
+            None => true,
+            Some((last, _)) => *last < count,
+        }
     }
 
     /// As a map of the library.

@@ -712,6 +712,9 @@ impl Channels {
     pub fn end_all_missing(&mut self) -> Result<(), AllocError>
         ensures { OnOk result (self.new ≡ each end_missing (keys_of self.old.entries) self.old) }
     {
+        if self.entries.are_below(self.stream_count) {
+            return Ok(());
+        }
         let ids = self.streams()?;
         self.end_each_missing(&ids)
     }

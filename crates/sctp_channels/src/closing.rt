@@ -9,6 +9,9 @@ use std::collections::{BTreeSet, VecDeque};
 /// So many streams are looked at in a row at most, from where the last look ended; behind the last one comes the first.
 const IN_TURN: usize = 2;
 
+/// So many streams without a channel are reset in turn at most, by which a peer can have no more named.
+const MOST_IN_TURN: usize = 256;
+
 /// Whether streams may be reset: there is an association, also one that shuts down.
 pub(crate) fn has_association<S: DcSctpSocket>(socket: &S) -> bool {
     match socket.state() {
@@ -78,7 +81,7 @@ impl Closing {
     }
 
     /// What is left of an event: a stream without a channel is reset in turn once, as long as nothing comes on it. A peer that has none either
-    /// resets it in turn as well, and each reset would bring the next one.
+    /// resets it in turn as well, and each reset would bring the next one. So are `MOST_IN_TURN` streams at most.
     pub fn left_of(
         &mut self,
         channels: &Channels,
@@ -105,11 +108,19 @@ impl Closing {
     ) -> Result<Vec<StreamId>, AllocError> {
         let mut left = Vec::new(self.alloc);
         for id in ids {
-            if channels.get(*id).is_some() || self.in_turn.insert(id.0)? {
+            if channels.get(*id).is_some() || self.insert_in_turn(*id)? {
                 left.push(*id)?;
             }
         }
         Ok(left)
+    }
+
+    /// The stream, which has no channel, is reset in turn. Says whether it wasn't before, and there was room.
+    fn insert_in_turn(&mut self, id: StreamId) -> Result<bool, AllocError> {
+        if self.in_turn.len() >= MOST_IN_TURN {
+            return Ok(false);
+        }
+        Ok(self.in_turn.insert(id.0)?)
     }
 
     /// The former resets of these streams were answered.

@@ -121,6 +121,25 @@ impl<C: Checksum> Context<C> {
         }
     }
 
+    /// A shutdown before the COOKIE ACK: it goes on once nothing is in flight, whatever is queued, as no COOKIE ECHO goes again, behind which that
+    /// could go.
+    #[tactic(auto, using(crate::proofs::GoesOnLemmas::goes_on_same, crate::proofs::GoesOnLemmas::goes_on_through))]
+    pub fn shut_early(
+        &mut self,
+        phase: &mut Phase,
+        tcb: &TransmissionControlBlock,
+    ) -> Result<(), AllocError>
+        ensures ok { OnOk result (phase_step_of C.word_of phase.new self.new ≡ table.shut_early (tcb_of tcb.now) (context_of C.word_of self.old)) }
+        ensures goes_on { GoesOn self.old self.new }
+    {
+        if tcb.retransmission_queue.unacked_items() != 0 {
+            *phase = Phase::ShutdownPending;
+            return Ok(());
+        }
+        *phase = Phase::ShutdownSent(self.t2_shutdown(tcb));
+        self.send_shutdown(tcb)
+    }
+
     /// Where it is quiet, a shutdown that waited for that goes on.
     #[tactic(auto, using(crate::proofs::GoesOnLemmas::goes_on_same, crate::proofs::GoesOnLemmas::goes_on_through))]
     pub fn maybe_send_shutdown_or_ack(

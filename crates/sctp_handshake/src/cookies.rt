@@ -55,6 +55,16 @@ fn resolve_by_tags(tag: u32, identity: Identity, cookie: &StateCookie) -> Cookie
     }
 }
 
+/// With stalls avoided, INITs that crossed are a restart where the association stood already: what waits was meant for that one.
+fn as_restart(is_late: bool, resolution: CookieResolution) -> CookieResolution
+    ensures { resolution_of result ≡ table.as_restart is_late (resolution_of resolution) }
+{
+    match (is_late, resolution) {
+        (true, CookieResolution::SimultaneousInit) => CookieResolution::RestartDetected,
+        _ => resolution,
+    }
+}
+
 /// What becomes of it where there is none: whether the packet's tag is the cookie's.
 fn new_if_own(tag: u32, cookie: &StateCookie) -> CookieResolution
     ensures { resolution_of result ≡ table.new_if (tag == (cookie_of cookie.now).my_tag) }
@@ -83,7 +93,10 @@ pub fn resolve_cookie(
             }
             new_if_own(tag, cookie)
         }
-        State::Open(_, tcb) => resolve_by_tags(tag, tcb.identity, cookie),
+        State::Open(phase, tcb) => {
+            let is_late = avoids_stalls && !phase.is_before_cookie_ack();
+            as_restart(is_late, resolve_by_tags(tag, tcb.identity, cookie))
+        }
     }
 }
 

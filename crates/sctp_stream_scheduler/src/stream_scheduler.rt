@@ -1,6 +1,7 @@
 //! Which stream sends next.
 
-ghost use Rattle.std.specs.Prelude.{◌≡◌, ◌<◌, ◌^◌, ◌==◌, false, [], length, is_some, IsTrue, IfSome, IfNone, OnOk, OnErr, None, Some, option_map};
+ghost use Rattle.std.specs.Prelude.{◌≡◌, ◌<◌, ◌^◌, ◌==◌, false, [], length, map, is_some, IfOk, IsTrue, IfSome, IfNone, OnOk, OnErr, None, Some, option_map};
+ghost use Rattle.std.specs.Map.{keys_of};
 ghost use Rattle.sctp_stream_scheduler.specs.StreamScheduler.{IsNext, finish_time};
 
 mod active_streams;
@@ -73,6 +74,13 @@ impl StreamScheduler {
         ensures small { result < 2 ^ 63 }
     {
         self.active.len()
+    }
+
+    /// The streams that have something to send, ascending.
+    pub fn active_ids(&self, alloc: Global) -> Result<Vec<StreamId>, AllocError>
+        ensures { IfOk result (λ ids. map (λ id. id.0) ids.items ≡ keys_of self.now.times) }
+    {
+        self.active.ids(alloc)
     }
 
     /// Whether the stream has something to send.

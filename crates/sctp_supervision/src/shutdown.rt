@@ -26,7 +26,8 @@ fn begin_shutdown<C: Checksum>(
     ensures goes_on { GoesOn context.old context.new }
 {
     match phase {
-        Phase::CookieEchoed(_) | Phase::Established => {
+        Phase::CookieEchoed(_) => context.shut_early(phase, tcb),
+        Phase::Established => {
             *phase = Phase::ShutdownPending;
             context.maybe_send_shutdown_or_ack(phase, tcb)
         }

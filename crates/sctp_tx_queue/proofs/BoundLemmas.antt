@@ -120,7 +120,7 @@ small_pushed (x ∷ xs) m h w =
 
 -- ---- the streams when one of them changes
 
-small_found : (test : ℕ → Bool) (es : Entries) (v : Stream) → Some v ≡ lookup test es → list_all are_small (values_of es) ≡ true → are_small v ≡ true
+pub small_found : (test : ℕ → Bool) (es : Entries) (v : Stream) → Some v ≡ lookup test es → list_all are_small (values_of es) ≡ true → are_small v ≡ true
 small_found test [] v at h = absurd (cc)
 small_found test (e ∷ es) v at h = go (test e.0) at (λ a. small_found test es v a hs.1)
   where
@@ -200,7 +200,7 @@ few_restored threshold ss = record { small = small ss; count = omega (arith, non
 
 -- ---- messages and bytes
 
-left_between : (offset whole : ℕ) → nat_lt offset whole && nat_lt whole (2 ^ 32) ≡ true → (0 < whole - offset) × (whole - offset ≤ 4294967295)
+pub left_between : (offset whole : ℕ) → nat_lt offset whole && nat_lt whole (2 ^ 32) ≡ true → (0 < whole - offset) × (whole - offset ≤ 4294967295)
 left_between offset whole h = (some offset whole h, most offset whole h)
   where
     some : (offset whole : ℕ) → nat_lt offset whole && nat_lt whole (2 ^ 32) ≡ true → 0 < whole - offset

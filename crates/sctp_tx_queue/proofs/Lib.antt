@@ -26,3 +26,4 @@ pub mod UnfinishedLemmas
 pub mod WholeLemmas
 pub mod IdleLemmas
 pub mod OthersOutLemmas
+pub mod SomeOutLemmas

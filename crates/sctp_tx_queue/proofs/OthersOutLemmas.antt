@@ -28,7 +28,7 @@ not_false : (b : Bool) → not b ≡ false → b ≡ true
 not_false true h = refl
 not_false false h = absurd (cc)
 
-none_waits : (id : ℕ) (s : Stream) (sch : Scheduler) → is_to_empty id s sch ≡ false → s.messages ≡ []
+pub none_waits : (id : ℕ) (s : Stream) (sch : Scheduler) → is_to_empty id s sch ≡ false → s.messages ≡ []
 none_waits id s sch h = none_of s.messages (not_false (has_nothing s) (or_parts (not (has_nothing s)) (is_active id sch) h).0)
 
 is_out : (k : ℕ) (q : Queue) → is_to_empty k (stream k q.streams) q.scheduler ≡ false → IsOut k q
@@ -72,7 +72,7 @@ others_out test (id ∷ ids) q out = go (test id) refl (others_out test ids)
     go true e ih = ih (emptied_one id q) (λ k f. out_beside k id q (differs e k f (k == id) refl) (out k f))
     go false e ih = ih q out ∙ ap (λ (r : Queue). each_emptied ids r) (sym (out_same id q (out id e)))
 
-listed : (q : Queue) (es : Entries) → Has q es → streams_to_empty q.scheduler es ≡ filter (λ k. is_to_empty k (stream k q.streams) q.scheduler) (keys_of es)
+pub listed : (q : Queue) (es : Entries) → Has q es → streams_to_empty q.scheduler es ≡ filter (λ k. is_to_empty k (stream k q.streams) q.scheduler) (keys_of es)
 listed q [] h = refl
 listed q (e ∷ es) h =
     ap (λ (ids : List ℕ). cond (is_to_empty e.0 e.1 q.scheduler) (e.0 ∷ ids) ids) (listed q es h.1)

@@ -15,7 +15,7 @@ use Rattle.sctp_state.specs.Events.{Emitted}
 use Rattle.sctp_tx_queue.specs.Interrupted.{Same}
 use Rattle.sctp_tx_queue.specs.Produced.{Produced, in_line, begun_by, pause_if_pending}
 use Rattle.sctp_tx_queue.specs.Settings.{begun_without, front_discarded, without_front, streams_discarded, discard_from, discard}
-use Rattle.sctp_tx_queue.specs.Restarted.{whole_front, is_front_unbegun, restart, restarted_one, each_restarted, is_restarted, is_in_line, is_begun, is_kept, is_settled_as, is_settled, is_among, may_differ, ResetKeeps, AreSettled, Joins, after_reset, unbegun, reset, SomeRestarted}
+use Rattle.sctp_tx_queue.specs.Restarted.{whole_front, is_front_unbegun, restart, restarted_one, each_restarted, is_restarted, is_in_line, is_begun, is_kept, is_settled_as, is_settled, is_among, may_differ, ResetKeeps, AreSettled, Joins, JoinsAll, OthersRest, after_reset, unbegun, reset, SomeRestarted}
 use Rattle.sctp_tx_queue.proofs.CommonLemmas.{there_among}
 use Rattle.sctp_tx_queue.proofs.RestartLemmas.{restart_same, line_same}
 use Rattle.sctp_tx_queue.proofs.StaysBegunLemmas.{written_elsewhere, inserted_elsewhere}
@@ -415,3 +415,29 @@ settled_more ids i none q r more made here before k h = go (is_at (nat_cmp k) x)
         left : (b : Bool) → (b || false) ≡ true → b ≡ true
         left true s = refl
         left false s = s
+
+-- ---- streams join one after the other
+
+pub joined_more : (ids : List StreamId) (i : ℕ) (none : StreamId) (first before after : Option (List ℕ)) → i < length ids → Joins true (get_or ids i none).0 before after
+    → JoinsAll (take i (names ids)) first before → JoinsAll (take (i + 1) (names ids)) first after
+joined_more ids i none first before after more joins done k e =
+    let now = joins k e in
+    let earlier = done k now.0 in (
+      earlier.0,
+      ap (λ n. is_among k (take n (names ids))) (add-one i)
+          ∙ one_more k ids i none more
+          ∙ ap (λ b. b || is_at (nat_cmp k) (get_or ids i none).0) earlier.1
+          ∙ at_equal k (get_or ids i none).0
+          ∙ now.1,
+    )
+
+pub keeps_more : (ids : List ℕ) (log after : Option (List ℕ)) (q : Queue) → ResetKeeps log q → JoinsAll ids log after → ResetKeeps after q
+keeps_more ids log after q h joins = keeps_by after q (λ k e. kept_by log q h k (joins k e).0)
+
+-- with the active streams among them, the others rest
+pub others_rest : (log after : Option (List ℕ)) (q : Queue) → ResetKeeps log q → JoinsAll (keys_of q.scheduler.times) log after → OthersRest after q.streams q.scheduler
+others_rest log after q h joins k e =
+    let j = joins k e in (
+      (parts (is_begun k q.begun) (is_settled_as k (lookup (is_at (nat_cmp k)) q.streams.entries) q.scheduler) (kept_by log q h k j.0)).1,
+      there_among k q.scheduler.times ∙ j.1,
+    )

@@ -103,6 +103,14 @@ AreSettled ids q = (id : ℕ) → is_among id ids ≡ true → is_settled id q �
 abbrev pub Joins : Bool → ℕ → Option (List ℕ) → Option (List ℕ) → Type 0
 Joins has_to id before after = (k : ℕ) → may_differ after k ≡ false → (may_differ before k ≡ false) × ((has_to && (k == id)) ≡ false)
 
+-- all of these streams join those that may have changed, beside those that were there
+abbrev pub JoinsAll : List ℕ → Option (List ℕ) → Option (List ℕ) → Type 0
+JoinsAll ids before after = (k : ℕ) → may_differ after k ≡ false → (may_differ before k ≡ false) × (is_among k ids ≡ false)
+
+-- the other streams are as a restart leaves them, and none of them is active
+abbrev pub OthersRest : Option (List ℕ) → Streams → Scheduler → Type 0
+OthersRest log ss sch = (k : ℕ) → may_differ log k ≡ false → (is_settled_as k (lookup (is_at (nat_cmp k)) ss.entries) sch ≡ true) × (is_active k sch ≡ false)
+
 -- what may have changed after a reset, where it is known that it left all streams as a restart does
 abbrev pub after_reset : Bool → Option (List ℕ)
 after_reset true = Some []

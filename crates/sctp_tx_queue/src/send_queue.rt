@@ -20,7 +20,7 @@ ghost use Rattle.sctp_state.specs.Handover.{handover_state_of};
 ghost use Rattle.sctp_tx_queue.specs.Handover.{write_handover};
 ghost use Rattle.sctp_tx_queue.specs.Readiness.{readiness};
 ghost use Rattle.sctp_tx_queue.specs.Restarted.{reset, restarted_one, each_restarted, is_begun, is_kept, is_settled, AreSettled, is_in_line, SomeRestarted, NumbersGoOn};
-ghost use Rattle.sctp_tx_queue.specs.Emptied.{empty, emptied_one, each_emptied, is_idle};
+ghost use Rattle.sctp_tx_queue.specs.Emptied.{empty, emptied_one, each_emptied, emit_all_ended, streams_to_empty, is_idle};
 ghost use Rattle.sctp_tx_queue.specs.Views.{produced_of, queued_of};
 
 mod changes;
@@ -519,8 +519,8 @@ impl SendQueue {
 
     /// A new association begins: messages that are partly sent are whole again, each stream sends, and its numbers begin
     /// again. Numbers of messages go on. It takes time by the streams that changed since the last one, or by all that
-    /// were named where 4,096 or more did, memory lacked for their ids, or a record was taken up since. Without memory this is
-    /// done for the first streams alone, or for none.
+    /// were named where memory lacked for the ids of those, or a record was taken up since. Without memory this is done for
+    /// the first streams alone, or for none.
     pub fn reset(&mut self) -> Result<(), AllocError>
         ensures ok { OnOk result (self.new ≡ reset self.old) }
         ensures numbers { NumbersGoOn self.old self.new }
@@ -613,14 +613,33 @@ impl SendQueue {
             return Ok(());
         }
         let mark = events.mark();
-        let scheduler = &self.scheduler;
-        let Ok(ids) = self.streams.emit_ended(self.alloc, scheduler, events) else {
+        let Ok(ids) = self.emit_ended(events) else {
             events.roll_back(mark);
             return Err(AllocError);
         };
         self.empty_each(&ids);
         self.begun = None;
         Ok(())
+    }
+
+    /// Emits of all messages that they are given up. The answer is the streams that have messages or are in line, by
+    /// ascending id. It takes time by the streams that changed since the last reset, where they and the active ones are few.
+    fn emit_ended(&mut self, events: &mut Events) -> Result<Vec<StreamId>, AllocError>
+        ensures streams { IfOk result (λ ids. map (λ id. id.0) ids.items ≡ streams_to_empty self.old.scheduler self.old.streams.entries) }
+        ensures emitted { OnOk result (events.new ≡ emit_all_ended (values_of self.old.streams.entries) events.old) }
+        ensures ordered { IsStrictlySortedBy nat_cmp (keys_of self.old.streams.entries) }
+        ensures same { self.new ≡ self.old }
+        ensures err { OnErr result (Grown events.old events.new) }
+    {
+        let alloc = self.alloc;
+        let limit = self.streams.len() / 8;
+        let scheduler = &self.scheduler;
+        if self.changed.join_active(alloc, scheduler, limit)? {
+            return self
+                .streams
+                .emit_some_ended(alloc, &self.changed, scheduler, events);
+        }
+        self.streams.emit_ended(alloc, scheduler, events)
     }
 
     /// Whether no message waits, and no stream is in line.

@@ -23,7 +23,7 @@ use Rattle.sctp_tx_outstanding.specs.OutstandingData as items
 use Rattle.spec_endpoint.specs.Association.{Identity, Tcb, tcb, Phase, CookieEchoed, Established, ShutdownPending, ShutdownSent, ShutdownReceived, ShutdownAckSent, State, Closed, CookieWait, Open, Context, EndpointState, Endpoint, open_as, with_context}
 use Rattle.spec_endpoint.specs.Heartbeats.{restart_interval}
 use Rattle.spec_endpoint.specs.Packets.{add, packet_to, new_packet, round_down_to_4, emit_event_in, emit_error, emit}
-use Rattle.spec_endpoint.specs.Sending.{AfterSending, open_with, send_with, send_buffered, send_cookie}
+use Rattle.spec_endpoint.specs.Sending.{is_before_cookie_ack, AfterSending, open_with, send_with, send_buffered, send_cookie}
 use Rattle.spec_endpoint.specs.Shutdown.{cleared_if, emptied_if, close_with, send_shutdown_ack}
 
 -- ---- draws: a TSN but the last, a tag but 0 and the last
@@ -238,6 +238,17 @@ new_if false = InvalidTag
 abbrev pub resolve_by_tags : (tag : ℕ) → Identity → Cookie → CookieResolution
 resolve_by_tags tag i k = by_tags (not (tag == i.my_tag)) (not (k.peer_tag == i.peer_tag)) (k.tie_tag == i.tie) (k.tie_tag == 0)
 
+-- with stalls avoided INITs that crossed are a restart of the peer where the own COOKIE ECHO was taken before: what waits was meant for that
+-- association
+abbrev pub as_restart : (is_late : Bool) → CookieResolution → CookieResolution
+as_restart false v = v
+as_restart true EstablishNew = EstablishNew
+as_restart true RestartDetected = RestartDetected
+as_restart true SimultaneousInit = RestartDetected
+as_restart true MaintainExisting = MaintainExisting
+as_restart true Discard = Discard
+as_restart true InvalidTag = InvalidTag
+
 -- an end that connects: with stalls avoided the cookie of another connect is silently discarded, as one of an earlier association
 abbrev pub new_unless : (is_late is_own : Bool) → CookieResolution
 new_unless true is_own = Discard
@@ -246,7 +257,7 @@ new_unless false is_own = new_if is_own
 abbrev pub resolve_cookie : (avoids_stalls : Bool) → (tag : ℕ) → Cookie → State → CookieResolution
 resolve_cookie avoids_stalls tag k Closed = new_if (tag == k.my_tag)
 resolve_cookie avoids_stalls tag k (CookieWait my_tag first t1) = new_unless (avoids_stalls && not (k.my_tag == my_tag)) (tag == k.my_tag)
-resolve_cookie avoids_stalls tag k (Open phase t) = resolve_by_tags tag t.identity k
+resolve_cookie avoids_stalls tag k (Open phase t) = as_restart (avoids_stalls && not (is_before_cookie_ack phase)) (resolve_by_tags tag t.identity k)
 
 -- with data behind it
 abbrev pub cookie_ack : {P : Type 0} → (peer_tag : ℕ) → Tcb → Context P → AfterSending P

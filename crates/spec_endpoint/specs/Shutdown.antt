@@ -86,10 +86,14 @@ maybe_send_shutdown_or_ack (ShutdownSent t2) t c = phase_step (ShutdownSent t2) 
 maybe_send_shutdown_or_ack ShutdownReceived t c = received_next (is_quiet t c) t c
 maybe_send_shutdown_or_ack (ShutdownAckSent t2) t c = phase_step (ShutdownAckSent t2) c
 
+-- before the COOKIE ACK it waits for nothing that is queued: no COOKIE ECHO goes again, behind which that could go
+abbrev pub shut_early : {P : Type 0} → Tcb → Context P → PhaseStep P
+shut_early t c = pending_next (nothing_in_flight t.sender.outstanding.items) t c
+
 -- the call
 
 abbrev pub shutdown_in_phase : {P : Type 0} → Phase → Tcb → Context P → PhaseStep P
-shutdown_in_phase (CookieEchoed t1 cookie) t c = maybe_send_shutdown_or_ack ShutdownPending t c
+shutdown_in_phase (CookieEchoed t1 cookie) t c = shut_early t c
 shutdown_in_phase Established t c = maybe_send_shutdown_or_ack ShutdownPending t c
 shutdown_in_phase ShutdownPending t c = phase_step ShutdownPending c
 shutdown_in_phase (ShutdownSent t2) t c = phase_step (ShutdownSent t2) c

@@ -17,13 +17,12 @@ pub(super) fn begins_with_cookie(bytes: &[u8]) -> bool {
     }
 }
 
-/// Whether an event says that an association begins or is over.
-fn is_turn(event: &SocketEvent) -> bool {
+/// Whether an event says that streams are reset, by which channels close: messages that came before go first.
+fn is_of_resets(event: &SocketEvent) -> bool {
     match event {
-        SocketEvent::OnConnected()
-        | SocketEvent::OnConnectionRestarted()
-        | SocketEvent::OnClosed()
-        | SocketEvent::OnAborted(_, _) => true,
+        SocketEvent::OnIncomingStreamReset(_)
+        | SocketEvent::OnStreamsResetPerformed(_)
+        | SocketEvent::OnStreamsResetFailed(_) => true,
         _ => false,
     }
 }
@@ -59,7 +58,7 @@ impl DataChannels {
         }
     }
 
-    /// Takes the first events, as far as they say how the association stands. The answer is the one behind them.
+    /// Takes the first events, which say how the association stands, up to one of resets. The answer is that one.
     fn take_turns<S: DcSctpSocket>(
         &mut self,
         socket: &mut S,
@@ -71,7 +70,7 @@ impl DataChannels {
             let Some(event) = socket.poll_event() else {
                 return Ok(None);
             };
-            if !is_turn(&event) {
+            if is_of_resets(&event) {
                 return Ok(Some(event));
             }
             self.take_event(socket, event)?;

@@ -1,11 +1,12 @@
 //! The streams that have something to send, with their finish times.
 
-ghost use Rattle.std.specs.Prelude.{◌≡◌, ◌<◌, ◌^◌, [], length, IfSome, IfNone, OnOk, OnErr, None, Some, option_map};
-ghost use Rattle.std.specs.Map.{remove_entry};
+ghost use Rattle.std.specs.Prelude.{◌≡◌, ◌<◌, ◌^◌, [], ◌∷◌, length, map, IfOk, IfSome, IfNone, OnOk, OnErr, None, Some, option_map};
+ghost use Rattle.std.specs.Map.{keys_of, remove_entry};
 ghost use Rattle.std.specs.Ordering.{nat_cmp};
 ghost use Rattle.std.specs.BTreeMap.{IsOrdered, is_at, insert_entry};
 ghost use Rattle.sctp_stream_scheduler.specs.StreamScheduler.{Indexes, IsNext, finish_time, best, stream_in};
 
+use sctp_serial::StreamId;
 use std::alloc::{AllocError, Global};
 use std::collections::{BTreeMap, BTreeSet};
 use std::marker::Model;
@@ -111,6 +112,26 @@ fn first_turn(finish_times: &BTreeMap<u16, u128>, turns: &BTreeSet<(u128, u16)>)
     }
 }
 
+/// The streams of a map, ascending.
+fn keys(alloc: Global, finish_times: &BTreeMap<u16, u128>) -> Result<Vec<StreamId>, AllocError>
+    ensures { IfOk result (λ ids. map (λ id. id.0) ids.items ≡ keys_of finish_times.now.entries) }
+{
+    let mut ids = Vec::new(alloc);
+    for (id, _) in finish_times {
+        ids.push(StreamId(*id))?;
+    }
+    Ok(ids)
+}
+
+/// One stream.
+fn alone(alloc: Global, id: u16) -> Result<Vec<StreamId>, AllocError>
+    ensures { IfOk result (λ ids. map (λ id. id.0) ids.items ≡ id ∷ []) }
+{
+    let mut ids = Vec::new(alloc);
+    ids.push(StreamId(id))?;
+    Ok(ids)
+}
+
 impl ActiveStreams {
     /// No stream is active.
     pub fn new(alloc: Global) -> ActiveStreams
@@ -131,6 +152,16 @@ impl ActiveStreams {
         match self.only {
             Some(_) => 1,
             None => self.finish_times.len(),
+        }
+    }
+
+    /// The streams, ascending.
+    pub fn ids(&self, alloc: Global) -> Result<Vec<StreamId>, AllocError>
+        ensures { IfOk result (λ ids. map (λ id. id.0) ids.items ≡ keys_of self.now) }
+    {
+        match self.only {
+            Some((only, _)) => alone(alloc, only),
+            None => keys(alloc, &self.finish_times),
         }
     }
 

@@ -4,19 +4,17 @@ ghost use Rattle.std.specs.Prelude.{◌≡◌, ℕ, ◌≤◌, true, false, cond
 ghost use Rattle.std.specs.Map.{lookup, keys_of};
 ghost use Rattle.std.specs.Ordering.{nat_cmp};
 ghost use Rattle.std.specs.BTreeMap.{is_at};
-ghost use Rattle.sctp_tx_queue.specs.Restarted.{is_among, may_differ, is_restarted, Joins, after_reset};
+ghost use Rattle.sctp_tx_queue.specs.Restarted.{is_among, may_differ, is_restarted, Joins, JoinsAll, after_reset};
 
 use crate::send_queue::stream::Stream;
 use sctp_serial::StreamId;
+use sctp_stream_scheduler::StreamScheduler;
 use std::alloc::{AllocError, Global};
 use std::collections::{BTreeMap, BTreeSet};
 use std::marker::Model;
 
-/// So many changed streams are known at most.
-const MOST_CHANGED: usize = 4_096;
-
-/// The streams that may have changed since the last reset. Where memory lacks for them, or they are many, they aren't
-/// known any more: then any stream may have changed.
+/// The streams that may have changed since the last reset. Where memory lacks for them they aren't known any more: then any
+/// stream may have changed.
 #[derive(Drop)]
 pub struct ChangedStreams {
     ids: Option<BTreeSet<u16>>,
@@ -30,13 +28,10 @@ impl Model for ChangedStreams {
     ghost view = { λ c. option_map (λ ids. ids.keys) c.ids };
 }
 
-/// Adds a stream, unless there are enough or memory lacks. True says that it is there; with enough it is false even then.
+/// Adds a stream, unless memory lacks. True says that it is there.
 fn add_to(ids: &mut BTreeSet<u16>, id: StreamId) -> bool
     ensures { result ≡ true → ((k : ℕ) → is_among k ids.new.keys ≡ cond (is_at (nat_cmp id.0) k) true (is_among k ids.old.keys)) }
 {
-    if ids.len() >= MOST_CHANGED {
-        return false;
-    }
     match ids.insert(id.0) {
         Ok(_) => true,
         Err(_) => false,
@@ -119,6 +114,41 @@ impl ChangedStreams {
         if stream.is_restarted() {
             self.add(id);
         }
+    }
+
+    /// These streams may have changed.
+    pub(crate) fn add_all(&mut self, ids: &[StreamId])
+        ensures { JoinsAll (map (λ id. id.0) ids.now) self.old self.new }
+    {
+        for id in ids {
+            self.add(*id);
+        }
+    }
+
+    /// Whether they are known, and fewer than this.
+    pub(crate) fn are_fewer(&self, count: usize) -> bool {
+        match &self.ids {
+            Some(ids) => ids.len() < count,
+            None => false,
+        }
+    }
+
+    /// The active streams join, if they are fewer than `limit`. True says that they did, and that all are fewer than that.
+    pub(crate) fn join_active(
+        &mut self,
+        alloc: Global,
+        scheduler: &StreamScheduler,
+        limit: usize,
+    ) -> Result<bool, AllocError>
+        ensures kept { JoinsAll [] self.old self.new }
+        ensures joined { IfOk result (λ are_few. are_few ≡ true → JoinsAll (keys_of scheduler.now.times) self.old self.new) }
+    {
+        if scheduler.active_count() >= limit {
+            return Ok(false);
+        }
+        let active = scheduler.active_ids(alloc)?;
+        self.add_all(&active);
+        Ok(self.are_fewer(limit))
     }
 
     /// Those of these streams that may have changed, by ascending id.

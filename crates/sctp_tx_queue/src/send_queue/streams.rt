@@ -25,6 +25,8 @@ ghost use Rattle.sctp_state.specs.Handover.{transmission_of};
 ghost use Rattle.sctp_tx_queue.specs.Restored.{entries_from, streams_from};
 ghost use Rattle.sctp_tx_queue.specs.Views.{produced_of};
 
+mod ending;
+
 use crate::data_to_send::DataToSend;
 use crate::send_queue::changes::ChangedStreams;
 use crate::send_queue::emitting::{Lows, NOTHING_LOW, emit_production};
@@ -146,6 +148,13 @@ impl Streams {
             Some(stream) => stream.amount(),
             None => 0,
         }
+    }
+
+    /// How many streams were named.
+    pub(crate) fn len(&self) -> usize
+        ensures ordered { IsStrictlySortedBy nat_cmp (keys_of self.now.entries) }
+    {
+        self.streams.len()
     }
 
     pub(crate) fn is_empty(&self) -> bool
