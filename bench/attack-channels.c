@@ -54,6 +54,11 @@ static void begin(void) {
     put32(0);
 }
 
+static void pad(void) {
+    while (length % 4)
+        packet[length++] = 0;
+}
+
 static void put_data(uint32_t stream, uint32_t ppid, const uint8_t *payload, size_t size) {
     put16(DATA << 8 | 3);
     put16(16 + (uint32_t)size);
@@ -63,38 +68,35 @@ static void put_data(uint32_t stream, uint32_t ppid, const uint8_t *payload, siz
     put32(ppid);
     memcpy(packet + length, payload, size);
     length += size;
-    while (length % 4)
-        packet[length++] = 0;
+    pad();
 }
 
-/* A request to reset so many streams: the odd ones. */
-static void put_resets(uint32_t streams) {
+/* A request to reset so many streams, which follow, or where there are none all. */
+static void put_request(uint32_t number, uint32_t streams) {
     put16(RE_CONFIG << 8);
     put16(20 + 2 * streams);
     put16(13);
     put16(16 + 2 * streams);
-    put32(first_tsn);
+    put32(first_tsn + number);
     put32(0);
     put32(first_tsn + sent - 1);
+}
+
+/* A request to reset so many streams: the odd ones. */
+static void put_resets(uint32_t streams) {
+    put_request(0, streams);
     for (uint32_t i = 0; i < streams; i++)
         put16(2 * i + 1);
-    while (length % 4)
-        packet[length++] = 0;
+    pad();
 }
 
 /* A request to reset all streams, or one. */
 static void put_reset(uint32_t number, int is_all, uint32_t stream) {
-    put16(RE_CONFIG << 8);
-    put16(is_all ? 20 : 22);
-    put16(13);
-    put16(is_all ? 16 : 18);
-    put32(first_tsn + number);
-    put32(0);
-    put32(first_tsn + sent - 1);
+    put_request(number, !is_all);
     if (is_all)
         return;
     put16(stream);
-    put16(0); /* padding */
+    pad();
 }
 
 static void hand_in(pigeon_socket *end) {

@@ -1,6 +1,7 @@
 # SPDX-License-Identifier: Apache-2.0
 """aiortc by this library's SCTP: with itself, and with aiortc's own at the other end."""
 import asyncio
+import contextlib
 
 import pytest
 
@@ -41,6 +42,18 @@ async def join(a, b) -> None:
 async def until(check) -> None:
     while not check():
         await asyncio.sleep(0.005)
+
+
+@contextlib.contextmanager
+def losing(end):
+    """What the end sends meanwhile is lost."""
+    async def loses(packet):
+        pass
+
+    transport = end.sctp.transport
+    send, transport._send_data = transport._send_data, loses
+    yield
+    transport._send_data = send
 
 
 def test_offers_by_rfc_8841():
@@ -288,18 +301,13 @@ def test_a_channel_that_the_peer_closes_says_so_where_it_sends():
         b.on("datachannel", theirs.append)
         await join(a, b)
         await until(lambda: mine.readyState == "open" and theirs)
-        send, theirs = b.sctp.transport._send_data, theirs[0]
-
-        async def loses(packet):
-            pass
-
-        b.sctp.transport._send_data = loses
-        mine.close()
-        await until(lambda: b.sctp._plain[theirs].state == ChannelState.CLOSING)
-        with pytest.raises(InvalidStateError):
-            theirs.send("late")
-        assert theirs.readyState == "closing"
-        b.sctp.transport._send_data = send
+        theirs = theirs[0]
+        with losing(b):
+            mine.close()
+            await until(lambda: b.sctp._plain[theirs].state == ChannelState.CLOSING)
+            with pytest.raises(InvalidStateError):
+                theirs.send("late")
+            assert theirs.readyState == "closing"
         await until(lambda: mine.readyState == theirs.readyState == "closed")
         await asyncio.gather(a.close(), b.close())
 
@@ -313,20 +321,14 @@ def test_what_is_said_at_the_opening_is_not_buffered():
         b.on("datachannel", theirs.append)
         await join(b, a)
         await until(lambda: big.readyState == "open")
-        send = b.sctp.transport._send_data
-
-        async def loses(packet):
-            pass
-
-        b.sctp.transport._send_data = loses
-        for _ in range(5):
-            big.send(bytes(200000))
-        a.createDataChannel("small")
-        await until(lambda: theirs)
-        theirs[0].send("12345")
-        await asyncio.sleep(0.01)
-        assert theirs[0].bufferedAmount == 5
-        b.sctp.transport._send_data = send
+        with losing(b):
+            for _ in range(5):
+                big.send(bytes(200000))
+            a.createDataChannel("small")
+            await until(lambda: theirs)
+            theirs[0].send("12345")
+            await asyncio.sleep(0.01)
+            assert theirs[0].bufferedAmount == 5
         await asyncio.gather(a.close(), b.close())
 
     asyncio.run(asyncio.wait_for(counts(), 30))
