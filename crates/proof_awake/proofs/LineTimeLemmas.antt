@@ -23,7 +23,7 @@ use Rattle.sctp_tx_outstanding.specs.Item.{Item}
 use Rattle.sctp_tx_outstanding.specs.Losses.{nack_all}
 use Rattle.sctp_tx_queue.specs.SendQueue.{Queue}
 use Rattle.spec_endpoint.specs.Timers.{Ticking, tick_ack, t3_if, tick_t3, tick_interval, tick_timeout, request_again, errs_if, requests_if, ticking, tick_timers, after_timers, abort_if, abort_or_send_if, after_ticks_if, after_ticks, t2_expired, t2_if, waits_unless, t1_expired, t1_if, after_init_timer, init_expired, init_if, tick_open, tick_in, advance_unless, is_owed}
-use Rattle.spec_endpoint.specs.Opening.{cookie_ack, connect_in, on_init_open, on_init_in, queue_anew, agreed_by, maker, echo_or_abort, cookie_in, on_init_ack_in, enter_connected, on_cookie_ack, CookieResolution, EstablishNew, RestartDetected, SimultaneousInit, MaintainExisting, Discard, InvalidTag, resolve_cookie, tcb_by, queue_for, identity_of, anew, maintain_existing, maintain_existing_in, restarts_in, on_resolution, on_read_cookie, on_cookie_echo, restarted}
+use Rattle.spec_endpoint.specs.Opening.{cookie_ack, connect_in, on_init_open, on_init_in, queue_anew, agreed_by, maker, echo_or_abort, cookie_in, on_init_ack_in, enter_connected, on_cookie_ack, CookieResolution, EstablishNew, RestartDetected, SimultaneousInit, MaintainExisting, Discard, InvalidTag, resolve_cookie, tcb_by, queue_for, identity_of, anew, maintain_existing, maintain_existing_in, restarts_in, on_resolution, on_read_cookie, on_cookie_echo, restarted, on_cookie_unless, is_spent_at, tag_from, word, drew_word}
 use Rattle.proof_awake.specs.Invariant.{StateHolds, HasLimits, WindowsHaveRoom}
 use Rattle.proof_awake.proofs.ItemsLemmas.{none_lost}
 use Rattle.proof_awake.proofs.BlockLemmas.{new_block}
@@ -184,7 +184,7 @@ module _ {P : Type 0} (avoids : Bool) where
   -- ---- opening
 
   pub connect_lined : (st : State) (s : Endpoint P) → EndLined avoids s.endpoint_state → EndLined avoids (connect_in st s).endpoint_state
-  connect_lined Closed s l = (big_emitted avoids _ s.endpoint_state.context l.0, tt)
+  connect_lined Closed s l = (big_emitted avoids _ (record s.endpoint_state.context { last_tag = tag_from (word (drew_word s)) }) l.0, tt)
   connect_lined (CookieWait tag first t1) s l = l
   connect_lined (Open phase t) s l = l
 
@@ -233,7 +233,7 @@ module _ {P : Type 0} (avoids : Bool) where
 
   opens_lined : (resets : Bool) (k : Cookie) (tie : ℕ) (c : Context P) → HasLimits avoids c.options → Big avoids c → EndLined avoids (anew resets k tie c)
   opens_lined resets k tie c o b =
-      let d : Context P = record c { queue = queue_for resets (negotiate c.options k.peer_capabilities).message_interleaving c.queue } in
+      let d : Context P = record c { queue = queue_for resets (negotiate c.options k.peer_capabilities).message_interleaving c.queue; last_tag = k.my_tag } in
       let n = new_block avoids c.options (identity_of k tie) (min k.a_rwnd c.options.max_send_buffer_size) (negotiate c.options k.peer_capabilities) o in
       acked_lined Established refl k.peer_tag (tcb_by c.options k tie) (enter_connected d) o n.sender.windows b
 
@@ -272,8 +272,14 @@ module _ {P : Type 0} (avoids : Bool) where
   resolved_lined Discard k s o h l = l
   resolved_lined InvalidTag k s o h l = l
 
+  cookie_unless_lined : (b : Bool) (tag : ℕ) (k : Cookie) (s : Endpoint P) → EndHolds avoids s.endpoint_state → EndLined avoids s.endpoint_state
+      → EndLined avoids (on_cookie_unless b tag k s).endpoint_state
+  cookie_unless_lined true tag k s h l = out_lined avoids _ s.endpoint_state.state s.endpoint_state.context l
+  cookie_unless_lined false tag k s h l =
+      resolved_lined (resolve_cookie s.endpoint_state.context.options.avoid_stalls tag k s.endpoint_state.state) k s (beside_in avoids s.endpoint_state.state s.endpoint_state.context h).options h l
+
   read_lined : (tag : ℕ) (r : Result Cookie StateCookieError) (s : Endpoint P) → EndHolds avoids s.endpoint_state → EndLined avoids s.endpoint_state → EndLined avoids (on_read_cookie tag r s).endpoint_state
-  read_lined tag (Ok k) s h l = resolved_lined (resolve_cookie s.endpoint_state.context.options.avoid_stalls tag k s.endpoint_state.state) k s (beside_in avoids s.endpoint_state.state s.endpoint_state.context h).options h l
+  read_lined tag (Ok k) s h l = cookie_unless_lined (is_spent_at k s.endpoint_state) tag k s h l
   read_lined tag (Err fault) s h l = l
 
   pub cookie_echo_lined : (tag : ℕ) (cookie : List ℕ) (s : Endpoint P) → EndHolds avoids s.endpoint_state → EndLined avoids s.endpoint_state → EndLined avoids (on_cookie_echo tag cookie s).endpoint_state

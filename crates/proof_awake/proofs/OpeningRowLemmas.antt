@@ -12,7 +12,7 @@ use Rattle.sctp_capabilities.specs.Capabilities.{negotiate, zero_checksum_enable
 use Rattle.sctp_capabilities.specs.StateCookie.{Cookie, read_cookie}
 use Rattle.spec_endpoint.specs.Association.{Identity, Tcb, tcb, Phase, CookieEchoed, Established, ShutdownPending, ShutdownSent, ShutdownReceived, ShutdownAckSent, State, Closed, CookieWait, Open, Context, Endpoint}
 use Rattle.spec_endpoint.specs.Packets.{PacketDraft, add, packet_to, round_down_to_4, emit}
-use Rattle.spec_endpoint.specs.Opening.{waiting, connect_in, answers, on_init_open, on_init_in, queue_anew, agreed_by, maker, echo, echo_or_abort, cookie_in, on_init_ack_in, enter_connected, on_cookie_ack, CookieResolution, EstablishNew, RestartDetected, SimultaneousInit, MaintainExisting, Discard, InvalidTag, resolve_cookie, cookie_ack, tcb_by, queue_for, identity_of, anew, maintain_existing, maintain_existing_in, restarts_in, on_resolution, on_read_cookie, on_cookie_echo, restarted}
+use Rattle.spec_endpoint.specs.Opening.{waiting, connect_in, answers, on_init_open, on_init_in, queue_anew, agreed_by, maker, echo, echo_or_abort, cookie_in, on_init_ack_in, enter_connected, on_cookie_ack, CookieResolution, EstablishNew, RestartDetected, SimultaneousInit, MaintainExisting, Discard, InvalidTag, resolve_cookie, cookie_ack, tcb_by, queue_for, identity_of, anew, maintain_existing, maintain_existing_in, restarts_in, on_resolution, on_read_cookie, on_cookie_echo, restarted, on_cookie_unless, is_spent_at}
 use Rattle.proof_awake.specs.Invariant.{is_established, StateHolds}
 use Rattle.proof_awake.proofs.TimerLemmas.{started}
 use Rattle.proof_awake.proofs.BlockLemmas.{new_block}
@@ -27,7 +27,7 @@ module _ {P : Type 0} (avoids : Bool) where
 
   connects : (tag first : ℕ) (c : Context P) → Beside avoids false c → EndHolds avoids (waiting tag first c)
   connects tag first c h =
-      (goes_out avoids false _ c h, started c.now (timer c.options.t1_init_timeout Exponential c.options.max_init_retransmits None) h.options.t1_init)
+      (goes_out avoids false _ (record c { last_tag = tag }) h, started c.now (timer c.options.t1_init_timeout Exponential c.options.max_init_retransmits None) h.options.t1_init)
 
   pub connect_holds : (st : State) (s : Endpoint P) → StateHolds avoids st s.endpoint_state.context.options s.endpoint_state.context.heartbeats → Whole s → Whole (connect_in st s)
   connect_holds Closed s h k = connects _ _ s.endpoint_state.context h
@@ -99,7 +99,7 @@ module _ {P : Type 0} (avoids : Bool) where
 
   opens : (b resets : Bool) (k : Cookie) (tie : ℕ) (c : Context P) → Beside avoids b c → EndHolds avoids (anew resets k tie c)
   opens b resets k tie c h =
-      let d : Context P = record c { queue = queue_for resets (negotiate c.options k.peer_capabilities).message_interleaving c.queue } in
+      let d : Context P = record c { queue = queue_for resets (negotiate c.options k.peer_capabilities).message_interleaving c.queue; last_tag = k.my_tag } in
       let n = new_block avoids c.options (identity_of k tie) (min k.a_rwnd c.options.max_send_buffer_size) (negotiate c.options k.peer_capabilities) h.options in
       let x = acked true false k.peer_tag (tcb_by c.options k tie) (enter_connected d) (enters b d h, n) in
       (x.0, (tt, x.1))
@@ -146,8 +146,13 @@ module _ {P : Type 0} (avoids : Bool) where
   resolved Discard k s b h = h
   resolved InvalidTag k s b h = h
 
+  cookie_unless_holds : (b : Bool) (tag : ℕ) (k : Cookie) (s : Endpoint P) → Whole s → Whole (on_cookie_unless b tag k s)
+  cookie_unless_holds true tag k s h = says _ s.endpoint_state.state s.endpoint_state.context h
+  cookie_unless_holds false tag k s h =
+      resolved (resolve_cookie s.endpoint_state.context.options.avoid_stalls tag k s.endpoint_state.state) k s (beside_in s.endpoint_state.state s.endpoint_state.context h) h
+
   read_cookie_holds : (tag : ℕ) (r : Result Cookie StateCookieError) (s : Endpoint P) → Whole s → Whole (on_read_cookie tag r s)
-  read_cookie_holds tag (Ok k) s h = resolved (resolve_cookie s.endpoint_state.context.options.avoid_stalls tag k s.endpoint_state.state) k s (beside_in s.endpoint_state.state s.endpoint_state.context h) h
+  read_cookie_holds tag (Ok k) s h = cookie_unless_holds (is_spent_at k s.endpoint_state) tag k s h
   read_cookie_holds tag (Err fault) s h = h
 
   pub cookie_echo_holds : (tag : ℕ) (cookie : List ℕ) (s : Endpoint P) → Whole s → Whole (on_cookie_echo tag cookie s)

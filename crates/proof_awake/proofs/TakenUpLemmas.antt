@@ -11,7 +11,7 @@ use Rattle.sctp_tx_outstanding.specs.Item.{Item}
 use Rattle.sctp_tx.specs.Handover as sender
 use Rattle.sctp_tx.specs.RetransmissionQueue.{Sender, restart_or_stop, wake}
 use Rattle.spec_endpoint.specs.Association.{Tcb, tcb, Context, EndpointState}
-use Rattle.spec_endpoint.specs.Handover.{identity_from, capabilities_from, tcb_from, queue_restored, woken_if, goes_on, take_up, restore_refusal_in, restored_as, restored_unless, restore}
+use Rattle.spec_endpoint.specs.Handover.{identity_from, capabilities_from, tcb_from, context_restored, woken_if, goes_on, take_up, restore_refusal_in, restored_as, restored_unless, restore}
 use Rattle.spec_endpoint.specs.Laws.{Restore, called}
 use Rattle.proof_awake.specs.Awake.{Runs, is_none, ItemsAreTimed}
 use Rattle.proof_awake.specs.Invariant.{Lasts, HasLimits, SenderHolds, BlockHolds, StateHolds}
@@ -63,7 +63,7 @@ module _ {P : Type 0} where
   taken_up_holds : (h : HandoverState) (c : Context P) → c.options.mtu ≤ h.tx.cwnd → Beside true false c → EndHolds true (take_up h c)
   taken_up_holds h c wide k =
       let t : Tcb = tcb_from c.now c.options h in
-      let d : Context P = queue_restored h c in
+      let d : Context P = context_restored h c in
       let b : Beside true true (woken_if true t d).context = interval_started true false true d.now d.options d.heartbeats k in
       let x = sends_buffered true true false false (woken c.now c.options h) _ (b, woken_block c.now c.options h wide k.options) in
       subst (λ (avoids : Bool). EndHolds true (goes_on (woken_if avoids t d))) (sym k.options.stalls) (x.0, (tt, x.1))

@@ -125,7 +125,7 @@ echoed_by phase cookie peer k me a_rwnd c =
 
 module _ {P : Type 0} (n : Names) (are : AreNames n) (pack : Packing P) where
   written_named : (to tag first : ℕ) (k : Capabilities) (cookie : List ℕ) (c : Context P) → Knows n pack c
-      → answered_by (n.tag to) (n.tag tag) (move_by n.own first) k (n.cookie cookie) (plain pack c) ≡ plain pack (answered_by to tag first k cookie c)
+      → answered_by (n.tag to) (n.tag tag) (move_by n.own first) k (n.cookie cookie) (plain n pack c) ≡ plain n pack (answered_by to tag first k cookie c)
   written_named to tag first k cookie c knows =
       let ps : List ParameterTree = announced_parameters c.options k.zero_checksum_method in
       let p : PacketDraft = record (packet_to to c.options.mtu) { is_summed = not (zero_checksum_enabled k) } in
@@ -133,15 +133,15 @@ module _ {P : Type 0} (n : Names) (are : AreNames n) (pack : Packing P) where
       let each : map (named_parameter n) (ps ++ state_cookie cookie ∷ []) ≡ ps ++ state_cookie (n.cookie cookie) ∷ [] =
       map-append (named_parameter n) ps (state_cookie cookie ∷ [])
       ∙ ap (λ (qs : List ParameterTree). qs ++ state_cookie (n.cookie cookie) ∷ []) (announced_named n c.options k.zero_checksum_method) in
-      ap (λ (qs : List ParameterTree). emit (add (init_ack_chunk (init_of c.options (n.tag tag) (move_by n.own first) qs)) (named_packet n p)) (plain pack c)) (sym each)
-      ∙ (ap (λ (q : PacketDraft). emit q (plain pack c)) (named_add n are chunk p) ∙ named_emit n are pack (add chunk p) c knows)
+      ap (λ (qs : List ParameterTree). emit (add (init_ack_chunk (init_of c.options (n.tag tag) (move_by n.own first) qs)) (named_packet n p)) (plain n pack c)) (sym each)
+      ∙ (ap (λ (q : PacketDraft). emit q (plain n pack c)) (named_add n are chunk p) ∙ named_emit n are pack (add chunk p) c knows)
 
   pub answer_named : (i : InitTree) (tag first tie : ℕ) (c : Context P) → Makes n (cookie_for i tag first tie) → Knows n pack c
-      → answer (named_init (flip n) i) (n.tag tag) (move_by n.own first) (n.cookie_tie tie) (plain pack c) ≡ plain pack (answer i tag first tie c)
+      → answer (named_init (flip n) i) (n.tag tag) (move_by n.own first) (n.cookie_tie tie) (plain n pack c) ≡ plain n pack (answer i tag first tie c)
   answer_named i tag first tie c makes knows =
       let j : InitTree = named_init (flip n) i in
       let k : Capabilities = agreed_by c.options i in
-      let d : Context P = plain pack c in
+      let d : Context P = plain n pack c in
       ap (λ (x : Capabilities). answered_by (n.tag i.initiate_tag) (n.tag tag) (move_by n.own first) x (cookie_bytes (cookie_for j (n.tag tag) (move_by n.own first) (n.cookie_tie tie))) d) (agreed_named (flip n) c.options i)
       ∙ (ap (λ (x : Capabilities). answered_by (n.tag i.initiate_tag) (n.tag tag) (move_by n.own first) k (cookie_bytes (cookie_with j (n.tag tag) (move_by n.own first) (n.cookie_tie tie) x)) d) (emitted_named (flip n) i)
       ∙ (ap (λ (x : List ℕ). answered_by (n.tag i.initiate_tag) (n.tag tag) (move_by n.own first) k x d) (sym makes)
@@ -149,48 +149,48 @@ module _ {P : Type 0} (n : Names) (are : AreNames n) (pack : Packing P) where
 
   -- ---- a new control block
 
-  pub cookie_ack_named : (tag : ℕ) (t : Tcb) (c : Context P) → Knows n pack c → cookie_ack (n.tag tag) (named_tcb n t) (plain pack c) ≡ named_sent n pack (cookie_ack tag t c)
+  pub cookie_ack_named : (tag : ℕ) (t : Tcb) (c : Context P) → Knows n pack c → cookie_ack (n.tag tag) (named_tcb n t) (plain n pack c) ≡ named_sent n pack (cookie_ack tag t c)
   cookie_ack_named tag t c knows =
       let p : PacketDraft = record (packet_to tag c.options.mtu) { is_summed = not (zero_checksum_enabled t.capabilities) } in
-      ap (λ (q : PacketDraft). send_with false q (named_tcb n t) (plain pack c)) (named_add n are cookie_ack_chunk p)
+      ap (λ (q : PacketDraft). send_with false q (named_tcb n t) (plain n pack c)) (named_add n are cookie_ack_chunk p)
       ∙ send_with_named n are pack false (add cookie_ack_chunk p) t c knows
 
   pub anew_named : (resets : Bool) (k : Cookie) (tie : ℕ) (c : Context P) → Knows n pack c
-      → anew resets (named_cookie n k) (n.tie tie) (plain pack c) ≡ named_endpoint_state n pack (anew resets k tie c)
+      → anew resets (named_cookie n k) (n.tie tie) (plain n pack c) ≡ named_endpoint_state n pack (anew resets k tie c)
   anew_named resets k tie c knows =
-      let d : Context P = enter_connected (record c { queue = queue_for resets (negotiate c.options k.peer_capabilities).message_interleaving c.queue }) in
-      ap (λ (t : Tcb). open_with Established (cookie_ack (n.tag k.peer_tag) t (plain pack d)))
+      let d : Context P = enter_connected (record c { queue = queue_for resets (negotiate c.options k.peer_capabilities).message_interleaving c.queue; last_tag = k.my_tag }) in
+      ap (λ (t : Tcb). open_with Established (cookie_ack (n.tag k.peer_tag) t (plain n pack d)))
       (tcb_named n c.options (identity_of k tie) (min k.a_rwnd c.options.max_send_buffer_size) (negotiate c.options k.peer_capabilities))
       ∙ ap (λ (x : AfterSending P). open_with Established x) (cookie_ack_named k.peer_tag (tcb_by c.options k tie) d knows)
 
   -- ---- COOKIE ACK, and the cookie that is echoed
 
-  pub established_named : (t : Tcb) (c : Context P) → Knows n pack c → establish (named_tcb n t) (plain pack c) ≡ named_endpoint_state n pack (establish t c)
+  pub established_named : (t : Tcb) (c : Context P) → Knows n pack c → establish (named_tcb n t) (plain n pack c) ≡ named_endpoint_state n pack (establish t c)
   established_named t c knows = ap (λ (x : AfterSending P). open_with Established x) (send_buffered_named n are pack false t (enter_connected c) knows)
 
   cookie_if_named : (b : Bool) (cookie : List ℕ) (t : Tcb) (c : Context P) → Knows n pack c
-      → cookie_if b (n.cookie cookie) (named_tcb n t) (plain pack c) ≡ named_sent n pack (cookie_if b cookie t c)
+      → cookie_if b (n.cookie cookie) (named_tcb n t) (plain n pack c) ≡ named_sent n pack (cookie_if b cookie t c)
   cookie_if_named true cookie t c knows =
       let p : PacketDraft = packet_to t.identity.peer_tag c.options.mtu in
-      ap (λ (q : PacketDraft). send_with true q (named_tcb n t) (plain pack c)) (named_add n are (cookie_echo_chunk cookie) p)
+      ap (λ (q : PacketDraft). send_with true q (named_tcb n t) (plain n pack c)) (named_add n are (cookie_echo_chunk cookie) p)
       ∙ send_with_named n are pack true (add (cookie_echo_chunk cookie) p) t c knows
   cookie_if_named false cookie t c knows = refl
 
   pub send_cookie_named : (cookie : List ℕ) (t : Tcb) (c : Context P) → Knows n pack c
-      → send_cookie (n.cookie cookie) (named_tcb n t) (plain pack c) ≡ named_sent n pack (send_cookie cookie t c)
+      → send_cookie (n.cookie cookie) (named_tcb n t) (plain n pack c) ≡ named_sent n pack (send_cookie cookie t c)
   send_cookie_named cookie t c knows =
       let p : PacketDraft = packet_to t.identity.peer_tag c.options.mtu in
-      ap (λ (b : Bool). cookie_if b (n.cookie cookie) (named_tcb n t) (plain pack c)) (same_fits n are p (cookie_echo_chunk cookie))
+      ap (λ (b : Bool). cookie_if b (n.cookie cookie) (named_tcb n t) (plain n pack c)) (same_fits n are p (cookie_echo_chunk cookie))
       ∙ cookie_if_named (fits p (cookie_echo_chunk cookie)) cookie t c knows
 
   -- an INIT ACK that brought a cookie
   pub echo_named : (i : InitTree) (cookie : List ℕ) (me : Identity) (c : Context P) → maker (n.cookie cookie) ≡ maker cookie → Knows n pack c
-      → echo (named_init (flip n) i) (n.cookie cookie) (named_identity n me) (plain pack c) ≡ named_endpoint_state n pack (echo i cookie me c)
+      → echo (named_init (flip n) i) (n.cookie cookie) (named_identity n me) (plain n pack c) ≡ named_endpoint_state n pack (echo i cookie me c)
   echo_named i cookie me c same knows =
       let k : Capabilities = agreed_by c.options i in
       let d : Context P = record c { peer = maker cookie; queue = queue_anew k.message_interleaving c.queue } in
       let p : Phase = CookieEchoed (t1_cookie c) (n.cookie cookie) in
-      ap (λ (x : Capabilities). echoed_by p (n.cookie cookie) (maker (n.cookie cookie)) x (named_identity n me) i.a_rwnd (plain pack c)) (agreed_named (flip n) c.options i)
-      ∙ (ap (λ (x : SctpImplementation). echoed_by p (n.cookie cookie) x k (named_identity n me) i.a_rwnd (plain pack c)) same
-      ∙ (ap (λ (t : Tcb). open_with p (send_cookie (n.cookie cookie) t (plain pack d))) (tcb_named n c.options me i.a_rwnd k)
+      ap (λ (x : Capabilities). echoed_by p (n.cookie cookie) (maker (n.cookie cookie)) x (named_identity n me) i.a_rwnd (plain n pack c)) (agreed_named (flip n) c.options i)
+      ∙ (ap (λ (x : SctpImplementation). echoed_by p (n.cookie cookie) x k (named_identity n me) i.a_rwnd (plain n pack c)) same
+      ∙ (ap (λ (t : Tcb). open_with p (send_cookie (n.cookie cookie) t (plain n pack d))) (tcb_named n c.options me i.a_rwnd k)
       ∙ ap (λ (x : AfterSending P). open_with p x) (send_cookie_named cookie (tcb c.options me i.a_rwnd k) d knows)))

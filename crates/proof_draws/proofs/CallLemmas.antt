@@ -64,7 +64,7 @@ readiness_with t c requests =
     bit_or (queued.readiness (is_strict c.options) c.queue) (bit_or (bit_or (receiving t) (sender.readiness (is_strict c.options) t.sender)) requests)
 
 module _ {P : Type 0} (n : Names) (pack : Packing P) where
-  readiness_open_named : (phase : Phase) (t : Tcb) (c : Context P) → readiness_open (named_phase n phase) (named_tcb n t) (plain pack c) ≡ readiness_open phase t c
+  readiness_open_named : (phase : Phase) (t : Tcb) (c : Context P) → readiness_open (named_phase n phase) (named_tcb n t) (plain n pack c) ≡ readiness_open phase t c
   readiness_open_named (CookieEchoed t1 cookie) t c = refl
   readiness_open_named Established t c = ap (λ (k : ℕ). readiness_with t c k) (pending_named n t.requests.current)
   readiness_open_named ShutdownPending t c = refl
@@ -72,12 +72,12 @@ module _ {P : Type 0} (n : Names) (pack : Packing P) where
   readiness_open_named ShutdownReceived t c = refl
   readiness_open_named (ShutdownAckSent t2) t c = refl
 
-  pub readiness_named : (s : State) (c : Context P) → readiness_in (named_state n s) (plain pack c) ≡ readiness_in s c
+  pub readiness_named : (s : State) (c : Context P) → readiness_in (named_state n s) (plain n pack c) ≡ readiness_in s c
   readiness_named Closed c = refl
   readiness_named (CookieWait tag first t1) c = refl
   readiness_named (Open phase t) c = readiness_open_named phase t c
 
-  left_in_named : (s : State) (c : Context P) → left_in (named_state n s) (plain pack c) ≡ named_endpoint_state n pack (left_in s c)
+  left_in_named : (s : State) (c : Context P) → left_in (named_state n s) (plain n pack c) ≡ named_endpoint_state n pack (left_in s c)
   left_in_named Closed c = refl
   left_in_named (CookieWait tag first t1) c = refl
   left_in_named (Open phase t) c = refl
@@ -90,19 +90,19 @@ module _ {P : Type 0} (n : Names) (pack : Packing P) where
   hand_over_named s =
       ap (λ (k : ℕ). left_if (k == 0) (named_endpoint_state n pack s)) (readiness_named s.state s.context) ∙ left_named (readiness s == 0) s
 
-module _ {P : Type 0} (pack : Packing P) where
-  prepare_all_named : (ids : List ℕ) (c : Context P) → prepare_all ids (plain pack c) ≡ plain pack (prepare_all ids c)
+module _ {P : Type 0} (n : Names) (pack : Packing P) where
+  prepare_all_named : (ids : List ℕ) (c : Context P) → prepare_all ids (plain n pack c) ≡ plain n pack (prepare_all ids c)
   prepare_all_named [] c = refl
   prepare_all_named (id ∷ ids) c = prepare_all_named ids (prepare_reset_stream id c)
 
-  offered_named : (o : Option SendError) (m : Message) (how : SendOptions) (c : Context P) → offered o m how (plain pack c) ≡ plain pack (offered o m how c)
+  offered_named : (o : Option SendError) (m : Message) (how : SendOptions) (c : Context P) → offered o m how (plain n pack c) ≡ plain n pack (offered o m how c)
   offered_named None m how c = refl
   offered_named (Some e) m how c = refl
 
-  offer_named : (m : Message) (how : SendOptions) (shown : SocketState) (c : Context P) → offer m how shown (plain pack c) ≡ plain pack (offer m how shown c)
+  offer_named : (m : Message) (how : SendOptions) (shown : SocketState) (c : Context P) → offer m how shown (plain n pack c) ≡ plain n pack (offer m how shown c)
   offer_named m how shown c = offered_named (send_refusal m shown c) m how c
 
-  offer_all_named : (ms : List Message) (how : SendOptions) (shown : SocketState) (c : Context P) → offer_all ms how shown (plain pack c) ≡ plain pack (offer_all ms how shown c)
+  offer_all_named : (ms : List Message) (how : SendOptions) (shown : SocketState) (c : Context P) → offer_all ms how shown (plain n pack c) ≡ plain n pack (offer_all ms how shown c)
   offer_all_named [] how shown c = refl
   offer_all_named (m ∷ ms) how shown c =
       ap (λ (d : Context P). offer_all ms how shown d) (offer_named m how shown c) ∙ offer_all_named ms how shown (offer m how shown c)
@@ -121,14 +121,14 @@ module _ {P : Type 0} where
   offer_all_stays (m ∷ ms) how shown c = offer_all_stays ms how shown (offer m how shown c) ∙ offered_stays (send_refusal m shown c) m how c
 
 module _ {P : Type 0} (n : Names) (are : AreNames n) (pack : Packing P) where
-  send_unless_named : (waits is_alone : Bool) (t : Tcb) (c : Context P) → Knows n pack c → send_unless waits is_alone (named_tcb n t) (plain pack c) ≡ named_sent n pack (send_unless waits is_alone t c)
+  send_unless_named : (waits is_alone : Bool) (t : Tcb) (c : Context P) → Knows n pack c → send_unless waits is_alone (named_tcb n t) (plain n pack c) ≡ named_sent n pack (send_unless waits is_alone t c)
   send_unless_named true is_alone t c k = refl
   send_unless_named false is_alone t c k = send_buffered_named n are pack is_alone t c k
 
   send_in_named : OpenIsNamed n pack send_in
   send_in_named phase t c k =
       let alone : Bool = is_before_cookie_ack phase in
-      ap (λ (b : Bool). open_with (named_phase n phase) (send_unless (b && c.options.avoid_stalls) b (named_tcb n t) (plain pack c))) (alone_named n phase)
+      ap (λ (b : Bool). open_with (named_phase n phase) (send_unless (b && c.options.avoid_stalls) b (named_tcb n t) (plain n pack c))) (alone_named n phase)
       ∙ ap (λ (x : AfterSending P). open_with (named_phase n phase) x) (send_unless_named (alone && c.options.avoid_stalls) alone t c k)
 
   sent_unless_named : (o : Option SendError) (s : EndpointState P) → Knows n pack s.context → sent_unless o (named_endpoint_state n pack s) ≡ named_endpoint_state n pack (sent_unless o s)
@@ -139,16 +139,16 @@ module _ {P : Type 0} (n : Names) (are : AreNames n) (pack : Packing P) where
   send_named m how s k =
       let shown : SocketState = shown_state s.state in
       let r : EndpointState P = named_endpoint_state n pack s in
-      ap (λ (x : SocketState). sent_unless (send_refusal m x s.context) (with_context r (offer m how x (plain pack s.context)))) (shown_named n s.state)
-      ∙ (ap (λ (d : Context P). sent_unless (send_refusal m shown s.context) (with_context r d)) (offer_named pack m how shown s.context)
+      ap (λ (x : SocketState). sent_unless (send_refusal m x s.context) (with_context r (offer m how x (plain n pack s.context)))) (shown_named n s.state)
+      ∙ (ap (λ (d : Context P). sent_unless (send_refusal m shown s.context) (with_context r d)) (offer_named n pack m how shown s.context)
       ∙ sent_unless_named (send_refusal m shown s.context) (with_context s (offer m how shown s.context)) (offered_stays (send_refusal m shown s.context) m how s.context ∙ k))
 
   pub send_many_named : (ms : List Message) (how : SendOptions) (s : EndpointState P) → Knows n pack s.context → send_many ms how (named_endpoint_state n pack s) ≡ named_endpoint_state n pack (send_many ms how s)
   send_many_named ms how s k =
       let shown : SocketState = shown_state s.state in
       let r : EndpointState P = named_endpoint_state n pack s in
-      ap (λ (x : SocketState). where_open send_in (with_context r (offer_all ms how x (plain pack s.context)))) (shown_named n s.state)
-      ∙ (ap (λ (d : Context P). where_open send_in (with_context r d)) (offer_all_named pack ms how shown s.context)
+      ap (λ (x : SocketState). where_open send_in (with_context r (offer_all ms how x (plain n pack s.context)))) (shown_named n s.state)
+      ∙ (ap (λ (d : Context P). where_open send_in (with_context r d)) (offer_all_named n pack ms how shown s.context)
       ∙ where_named n are pack send_in (with_context s (offer_all ms how shown s.context)) send_in_named (offer_all_stays ms how shown s.context ∙ k))
 
   pub take_named : (s : EndpointState P) → take_message (named_endpoint_state n pack s) ≡ named_endpoint_state n pack (take_message s)
@@ -156,7 +156,7 @@ module _ {P : Type 0} (n : Names) (are : AreNames n) (pack : Packing P) where
 
   streams_reset_unless_named : (o : Option ResetStreamsError) (ids : List ℕ) (s : EndpointState P) → Knows n pack s.context → streams_reset_unless o ids (named_endpoint_state n pack s) ≡ named_endpoint_state n pack (streams_reset_unless o ids s)
   streams_reset_unless_named None ids s k =
-      ap (λ (d : Context P). where_open send_in (with_context (named_endpoint_state n pack s) d)) (prepare_all_named pack ids s.context)
+      ap (λ (d : Context P). where_open send_in (with_context (named_endpoint_state n pack s) d)) (prepare_all_named n pack ids s.context)
       ∙ where_named n are pack send_in (with_context s (prepare_all ids s.context)) send_in_named (prepare_all_stays ids s.context ∙ k)
   streams_reset_unless_named (Some e) ids s k = refl
 

@@ -24,11 +24,11 @@ use Rattle.sctp_tx.specs.RetransmissionQueue.{nothing_in_flight}
 -- a row for states with a control block
 abbrev pub OpenIsNamed : {P : Type 0} → Names → Packing P → (row : Phase → Tcb → Context P → EndpointState P) → Type 0
 OpenIsNamed {P} n pack row =
-    (phase : Phase) (t : Tcb) (c : Context P) → Knows n pack c → row (named_phase n phase) (named_tcb n t) (plain pack c) ≡ named_endpoint_state n pack (row phase t c)
+    (phase : Phase) (t : Tcb) (c : Context P) → Knows n pack c → row (named_phase n phase) (named_tcb n t) (plain n pack c) ≡ named_endpoint_state n pack (row phase t c)
 
 module _ {P : Type 0} (n : Names) (are : AreNames n) (pack : Packing P) where
   where_from : (row : Phase → Tcb → Context P → EndpointState P) (st : State) (c : Context P) → OpenIsNamed n pack row → Knows n pack c
-      → where_open row (endpoint_state_in (named_state n st) (plain pack c)) ≡ named_endpoint_state n pack (where_open row (endpoint_state_in st c))
+      → where_open row (endpoint_state_in (named_state n st) (plain n pack c)) ≡ named_endpoint_state n pack (where_open row (endpoint_state_in st c))
   where_from row Closed c h k = refl
   where_from row (CookieWait tag first t1) c h k = refl
   where_from row (Open phase t) c h k = h phase t c k
@@ -39,7 +39,7 @@ module _ {P : Type 0} (n : Names) (are : AreNames n) (pack : Packing P) where
 
   -- ---- shutdown
 
-  shut_named : (phase : Phase) (t : Tcb) (c : Context P) → Knows n pack c → shutdown_in_phase (named_phase n phase) (named_tcb n t) (plain pack c) ≡ named_onward n pack (shutdown_in_phase phase t c)
+  shut_named : (phase : Phase) (t : Tcb) (c : Context P) → Knows n pack c → shutdown_in_phase (named_phase n phase) (named_tcb n t) (plain n pack c) ≡ named_onward n pack (shutdown_in_phase phase t c)
   shut_named (CookieEchoed t1 cookie) t c k = pending_named n are pack (nothing_in_flight t.sender.outstanding.items) t c k
   shut_named Established t c k = go_on_named n are pack ShutdownPending t c k
   shut_named ShutdownPending t c k = refl
@@ -50,7 +50,7 @@ module _ {P : Type 0} (n : Names) (are : AreNames n) (pack : Packing P) where
   onward_named : (t : Tcb) (o x : PhaseStep P) → x ≡ named_onward n pack o → open_phase_step (named_tcb n t) x ≡ named_endpoint_state n pack (open_phase_step t o)
   onward_named t o x h = ap (λ (y : PhaseStep P). open_phase_step (named_tcb n t) y) h
 
-  shutdown_in_named : (st : State) (c : Context P) → Knows n pack c → shutdown_in (named_state n st) (plain pack c) ≡ named_endpoint_state n pack (shutdown_in st c)
+  shutdown_in_named : (st : State) (c : Context P) → Knows n pack c → shutdown_in (named_state n st) (plain n pack c) ≡ named_endpoint_state n pack (shutdown_in st c)
   shutdown_in_named Closed c k = refl
   shutdown_in_named (CookieWait tag first t1) c k = refl
   shutdown_in_named (Open phase t) c k = onward_named t (shutdown_in_phase phase t c) _ (shut_named phase t c k)
@@ -58,10 +58,10 @@ module _ {P : Type 0} (n : Names) (are : AreNames n) (pack : Packing P) where
   pub shutdown_named : (s : EndpointState P) → Knows n pack s.context → shutdown (named_endpoint_state n pack s) ≡ named_endpoint_state n pack (shutdown s)
   shutdown_named s k = shutdown_in_named s.state s.context k
 
-  pub acked_named : (t : Tcb) (c : Context P) → Knows n pack c → send_shutdown_ack (named_tcb n t) (plain pack c) ≡ plain pack (send_shutdown_ack t c)
+  pub acked_named : (t : Tcb) (c : Context P) → Knows n pack c → send_shutdown_ack (named_tcb n t) (plain n pack c) ≡ plain n pack (send_shutdown_ack t c)
   acked_named t c k = named_emit_chunk n are pack shutdown_ack_chunk t c k
 
-  by_peer_named : (phase : Phase) (t : Tcb) (c : Context P) → Knows n pack c → shut_by_peer (named_phase n phase) (named_tcb n t) (plain pack c) ≡ named_onward n pack (shut_by_peer phase t c)
+  by_peer_named : (phase : Phase) (t : Tcb) (c : Context P) → Knows n pack c → shut_by_peer (named_phase n phase) (named_tcb n t) (plain n pack c) ≡ named_onward n pack (shut_by_peer phase t c)
   by_peer_named (CookieEchoed t1 cookie) t c k = refl
   by_peer_named Established t c k = go_on_named n are pack ShutdownReceived t c k
   by_peer_named ShutdownPending t c k = go_on_named n are pack ShutdownReceived t c k
@@ -72,20 +72,20 @@ module _ {P : Type 0} (n : Names) (are : AreNames n) (pack : Packing P) where
   pub on_shutdown_named : OpenIsNamed n pack on_shutdown
   on_shutdown_named phase t c k = onward_named t (shut_by_peer phase t c) _ (by_peer_named phase t c k)
 
-  completed_named : (t : Tcb) (c : Context P) → Knows n pack c → complete_shutdown (named_tcb n t) (plain pack c) ≡ named_endpoint_state n pack (complete_shutdown t c)
+  completed_named : (t : Tcb) (c : Context P) → Knows n pack c → complete_shutdown (named_tcb n t) (plain n pack c) ≡ named_endpoint_state n pack (complete_shutdown t c)
   completed_named t c k = ap (λ (d : Context P). close_with OnClosed d) (named_emit_chunk n are pack (shutdown_complete_chunk false) t c k)
 
-  blue_named : (tag : ℕ) (c : Context P) → Knows n pack c → out_of_the_blue (n.tag tag) (plain pack c) ≡ plain pack (out_of_the_blue tag c)
+  blue_named : (tag : ℕ) (c : Context P) → Knows n pack c → out_of_the_blue (n.tag tag) (plain n pack c) ≡ plain n pack (out_of_the_blue tag c)
   blue_named tag c k =
       let p : PacketDraft = packet_to tag c.options.mtu in
-      ap (λ (q : PacketDraft). emit q (plain pack c)) (named_add n are (shutdown_complete_chunk true) p) ∙ named_emit n are pack (add (shutdown_complete_chunk true) p) c k
+      ap (λ (q : PacketDraft). emit q (plain n pack c)) (named_add n are (shutdown_complete_chunk true) p) ∙ named_emit n are pack (add (shutdown_complete_chunk true) p) c k
 
   in_blue : (tag : ℕ) (st : State) (c : Context P) → Knows n pack c
-      → endpoint_state_in (named_state n st) (out_of_the_blue (n.tag tag) (plain pack c)) ≡ named_endpoint_state n pack (endpoint_state_in st (out_of_the_blue tag c))
+      → endpoint_state_in (named_state n st) (out_of_the_blue (n.tag tag) (plain n pack c)) ≡ named_endpoint_state n pack (endpoint_state_in st (out_of_the_blue tag c))
   in_blue tag st c k = ap (λ (d : Context P). endpoint_state_in (named_state n st) d) (blue_named tag c k)
 
   shutdown_ack_open_named : (tag : ℕ) (phase : Phase) (t : Tcb) (c : Context P) → Knows n pack c
-      → on_shutdown_ack_open (n.tag tag) (named_phase n phase) (named_tcb n t) (plain pack c) ≡ named_endpoint_state n pack (on_shutdown_ack_open tag phase t c)
+      → on_shutdown_ack_open (n.tag tag) (named_phase n phase) (named_tcb n t) (plain n pack c) ≡ named_endpoint_state n pack (on_shutdown_ack_open tag phase t c)
   shutdown_ack_open_named tag (CookieEchoed t1 cookie) t c k = in_blue tag (Open (CookieEchoed t1 cookie) t) c k
   shutdown_ack_open_named tag Established t c k = in_blue tag (Open Established t) c k
   shutdown_ack_open_named tag ShutdownPending t c k = in_blue tag (Open ShutdownPending t) c k
@@ -94,7 +94,7 @@ module _ {P : Type 0} (n : Names) (are : AreNames n) (pack : Packing P) where
   shutdown_ack_open_named tag (ShutdownAckSent t2) t c k = completed_named t c k
 
   shutdown_ack_in_named : (tag : ℕ) (st : State) (c : Context P) → Knows n pack c
-      → on_shutdown_ack_in (n.tag tag) (named_state n st) (plain pack c) ≡ named_endpoint_state n pack (on_shutdown_ack_in tag st c)
+      → on_shutdown_ack_in (n.tag tag) (named_state n st) (plain n pack c) ≡ named_endpoint_state n pack (on_shutdown_ack_in tag st c)
   shutdown_ack_in_named tag Closed c k = in_blue tag Closed c k
   shutdown_ack_in_named tag (CookieWait mine first t1) c k = in_blue tag (CookieWait mine first t1) c k
   shutdown_ack_in_named tag (Open phase t) c k = shutdown_ack_open_named tag phase t c k
@@ -112,10 +112,10 @@ module _ {P : Type 0} (n : Names) (are : AreNames n) (pack : Packing P) where
 
   -- ---- aborts
 
-  abort_named : (cause : CauseTree) (e : Event P) (t : Tcb) (c : Context P) → Knows n pack c → abort cause e (named_tcb n t) (plain pack c) ≡ named_endpoint_state n pack (abort cause e t c)
+  abort_named : (cause : CauseTree) (e : Event P) (t : Tcb) (c : Context P) → Knows n pack c → abort cause e (named_tcb n t) (plain n pack c) ≡ named_endpoint_state n pack (abort cause e t c)
   abort_named cause e t c k = ap (λ (d : Context P). close_with e d) (named_emit_chunk n are pack (abort_chunk false (cause ∷ [])) t c k)
 
-  close_in_named : (st : State) (c : Context P) → Knows n pack c → close_in (named_state n st) (plain pack c) ≡ named_endpoint_state n pack (close_in st c)
+  close_in_named : (st : State) (c : Context P) → Knows n pack c → close_in (named_state n st) (plain n pack c) ≡ named_endpoint_state n pack (close_in st c)
   close_in_named Closed c k = refl
   close_in_named (CookieWait tag first t1) c k = refl
   close_in_named (Open phase t) c k = abort_named (user_initiated_abort (codes "Close called")) OnClosed t c k
@@ -123,18 +123,18 @@ module _ {P : Type 0} (n : Names) (are : AreNames n) (pack : Packing P) where
   pub close_named : (s : EndpointState P) → Knows n pack s.context → close (named_endpoint_state n pack s) ≡ named_endpoint_state n pack (close s)
   close_named s k = close_in_named s.state s.context k
 
-  pub too_many_named : (t : Tcb) (c : Context P) → Knows n pack c → too_many (named_tcb n t) (plain pack c) ≡ named_endpoint_state n pack (too_many t c)
+  pub too_many_named : (t : Tcb) (c : Context P) → Knows n pack c → too_many (named_tcb n t) (plain n pack c) ≡ named_endpoint_state n pack (too_many t c)
   too_many_named t c k = abort_named (user_initiated_abort (codes "Too many retransmissions")) (OnAborted TooManyRetries (codes "Too many retransmissions")) t c k
 
-  pub abort_for_violation_named : (reason : List ℕ) (t : Tcb) (c : Context P) → Knows n pack c → abort_for_violation reason (named_tcb n t) (plain pack c) ≡ named_endpoint_state n pack (abort_for_violation reason t c)
+  pub abort_for_violation_named : (reason : List ℕ) (t : Tcb) (c : Context P) → Knows n pack c → abort_for_violation reason (named_tcb n t) (plain n pack c) ≡ named_endpoint_state n pack (abort_for_violation reason t c)
   abort_for_violation_named reason t c k = abort_named (protocol_violation reason) (OnAborted ProtocolViolation reason) t c k
 
   connect_refused_named : (b : Bool) (causes : List CauseTree) (st : State) (c : Context P)
-      → refused_if b causes (named_state n st) (plain pack c) ≡ named_endpoint_state n pack (refused_if b causes st c)
+      → refused_if b causes (named_state n st) (plain n pack c) ≡ named_endpoint_state n pack (refused_if b causes st c)
   connect_refused_named true causes st c = refl
   connect_refused_named false causes st c = refl
 
-  aborted_in_named : (causes : List CauseTree) (st : State) (c : Context P) → aborted_in causes (named_state n st) (plain pack c) ≡ named_endpoint_state n pack (aborted_in causes st c)
+  aborted_in_named : (causes : List CauseTree) (st : State) (c : Context P) → aborted_in causes (named_state n st) (plain n pack c) ≡ named_endpoint_state n pack (aborted_in causes st c)
   aborted_in_named causes Closed c = refl
   aborted_in_named causes (CookieWait tag first t1) c = connect_refused_named c.options.avoid_stalls causes (CookieWait tag first t1) c
   aborted_in_named causes (Open phase t) c = refl
@@ -169,9 +169,9 @@ module _ {P : Type 0} (n : Names) (are : AreNames n) (pack : Packing P) where
   ended_if_named true phase t c k =
       let p : PacketDraft = new_packet c.options t in
       let u : Tcb = named_tcb n (without_duplicates t) in
-      ap (λ (b : Bool). open_with (named_phase n phase) (send_with b (add (selective_ack (named_tcb n t)) (named_packet n p)) u (plain pack c))) (alone_named n phase)
-      ∙ (ap (λ (chunk : ChunkTree). open_with (named_phase n phase) (send_with (is_before_cookie_ack phase) (add chunk (named_packet n p)) u (plain pack c))) (ack_named n t)
-      ∙ (ap (λ (q : PacketDraft). open_with (named_phase n phase) (send_with (is_before_cookie_ack phase) q u (plain pack c))) (named_add n are (selective_ack t) p)
+      ap (λ (b : Bool). open_with (named_phase n phase) (send_with b (add (selective_ack (named_tcb n t)) (named_packet n p)) u (plain n pack c))) (alone_named n phase)
+      ∙ (ap (λ (chunk : ChunkTree). open_with (named_phase n phase) (send_with (is_before_cookie_ack phase) (add chunk (named_packet n p)) u (plain n pack c))) (ack_named n t)
+      ∙ (ap (λ (q : PacketDraft). open_with (named_phase n phase) (send_with (is_before_cookie_ack phase) q u (plain n pack c))) (named_add n are (selective_ack t) p)
       ∙ ap (λ (x : AfterSending P). open_with (named_phase n phase) x) (send_with_named n are pack (is_before_cookie_ack phase) (add (selective_ack t) p) (without_duplicates t) c k)))
   ended_if_named false phase t c k = refl
 

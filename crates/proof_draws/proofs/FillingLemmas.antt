@@ -32,10 +32,10 @@ use Rattle.proof_draws.proofs.FragmentLemmas.{named_pairs, named_fragments, leng
 use Rattle.proof_endpoint.proofs.SendingMapsLemmas.{filling_with, turned_with}
 
 abbrev pub named_filling : {P : Type 0} → Names → Packing P → Filling P → Filling P
-named_filling n pack x = record { packet = named_packet n x.packet; tcb = named_tcb n x.tcb; context = plain pack x.context }
+named_filling n pack x = record { packet = named_packet n x.packet; tcb = named_tcb n x.tcb; context = plain n pack x.context }
 
 abbrev pub named_sent : {P : Type 0} → Names → Packing P → AfterSending P → AfterSending P
-named_sent n pack x = record { tcb = named_tcb n x.tcb; context = plain pack x.context }
+named_sent n pack x = record { tcb = named_tcb n x.tcb; context = plain n pack x.context }
 
 abbrev named_turned : {P : Type 0} → Names → Packing P → BurstStep P → BurstStep P
 named_turned n pack x = record { filling = named_filling n pack x.filling; is_more = x.is_more }
@@ -102,8 +102,8 @@ module _ {P : Type 0} (n : Names) (are : AreNames n) (pack : Packing P) where
   ack_if_named : (b : Bool) (x : Filling P) → ack_if b (named_filling n pack x) ≡ named_filling n pack (ack_if b x)
   ack_if_named true x =
       let t : Tcb = named_tcb n (without_duplicates x.tcb) in
-      ap (λ (c : ChunkTree). filling_with (add c (named_packet n x.packet)) t (plain pack x.context)) (ack_named n x.tcb)
-      ∙ ap (λ (p : PacketDraft). filling_with p t (plain pack x.context)) (named_add n are (selective_ack x.tcb) x.packet)
+      ap (λ (c : ChunkTree). filling_with (add c (named_packet n x.packet)) t (plain n pack x.context)) (ack_named n x.tcb)
+      ∙ ap (λ (p : PacketDraft). filling_with p t (plain n pack x.context)) (named_add n are (selective_ack x.tcb) x.packet)
   ack_if_named false x = refl
 
   pub with_ack_named : (x : Filling P) → with_ack (named_filling n pack x) ≡ named_filling n pack (with_ack x)
@@ -111,7 +111,7 @@ module _ {P : Type 0} (n : Names) (are : AreNames n) (pack : Packing P) where
 
   forward_added_named : (b : Bool) (x : Filling P) → forward_added_if b (named_filling n pack x) ≡ named_filling n pack (forward_added_if b x)
   forward_added_named true x =
-      let c : Context P = plain pack (forward_later x.tcb x.context) in
+      let c : Context P = plain n pack (forward_later x.tcb x.context) in
       ap (λ (k : ChunkTree). filling_with (add k (named_packet n x.packet)) (named_tcb n x.tcb) c) (forward_named n x.tcb.sender)
       ∙ ap (λ (p : PacketDraft). filling_with p (named_tcb n x.tcb) c) (named_add n are (forward_chunk x.tcb.sender) x.packet)
   forward_added_named false x = refl
@@ -136,7 +136,7 @@ module _ {P : Type 0} (n : Names) (are : AreNames n) (pack : Packing P) where
   add_request_named (Some r) p = named_add n are (request_chunk r) p
 
   carrying_named : (t : Tcb) (x : Filling P) → carrying (named_tcb n t) (named_filling n pack x) ≡ named_filling n pack (carrying t x)
-  carrying_named t x = ap (λ (p : PacketDraft). filling_with p (named_tcb n t) (plain pack x.context)) (add_request_named t.requests.current x.packet)
+  carrying_named t x = ap (λ (p : PacketDraft). filling_with p (named_tcb n t) (plain n pack x.context)) (add_request_named t.requests.current x.packet)
 
   request_of_named : (streams : List ℕ) (x : Filling P) → request_of streams (named_filling n pack x) ≡ named_filling n pack (request_of streams x)
   request_of_named [] x = refl
@@ -279,11 +279,11 @@ module _ {P : Type 0} (n : Names) (are : AreNames n) (pack : Packing P) where
       ∙ go_on_named (burst most false is_alone) t.is_more t.filling (burst_named most false is_alone t.filling (turned_stays is_first is_alone x ∙ k))
 
   pub send_with_named : (is_alone : Bool) (p : PacketDraft) (t : Tcb) (c : Context P) → Knows n pack c
-      → send_with is_alone (named_packet n p) (named_tcb n t) (plain pack c) ≡ named_sent n pack (send_with is_alone p t c)
+      → send_with is_alone (named_packet n p) (named_tcb n t) (plain n pack c) ≡ named_sent n pack (send_with is_alone p t c)
   send_with_named is_alone p t c k = ap (λ (x : Filling P). sent_by x) (burst_named c.options.max_burst true is_alone (filling_with p t c) k)
 
   pub send_buffered_named : (is_alone : Bool) (t : Tcb) (c : Context P) → Knows n pack c
-      → send_buffered is_alone (named_tcb n t) (plain pack c) ≡ named_sent n pack (send_buffered is_alone t c)
+      → send_buffered is_alone (named_tcb n t) (plain n pack c) ≡ named_sent n pack (send_buffered is_alone t c)
   send_buffered_named is_alone t c k = send_with_named is_alone (new_packet c.options t) t c k
 
   -- ---- the packet of what was lost
@@ -296,15 +296,15 @@ module _ {P : Type 0} (n : Names) (are : AreNames n) (pack : Packing P) where
       ap (λ (xs : List (ℕ × FragmentTree)). add_all (map (fragment_chunk m false) xs) p) (fast_chunks_named n (fast_most c.options) t.sender)
       ∙ (ap (λ (xs : List ChunkTree). add_all xs p) (data_named n m false cs) ∙ named_add_all n are (map (fragment_chunk m false) cs) (new_packet c.options t))
 
-  fast_if_named : (b : Bool) (t : Tcb) (c : Context P) → Knows n pack c → fast_if b (named_tcb n t) (plain pack c) ≡ named_sent n pack (fast_if b t c)
+  fast_if_named : (b : Bool) (t : Tcb) (c : Context P) → Knows n pack c → fast_if b (named_tcb n t) (plain n pack c) ≡ named_sent n pack (fast_if b t c)
   fast_if_named true t c k =
       let u : Tcb = named_tcb n t in
-      ap (λ (s : Sender). after_sending (record u { sender = s }) (emit (fast_packet c.options u) (plain pack c))) (send_fast_named n c.now (fast_most c.options) t.sender)
-      ∙ (ap (λ (p : PacketDraft). after_sending (named_tcb n (fast_if true t c).tcb) (emit p (plain pack c))) (fast_packet_named t c)
+      ap (λ (s : Sender). after_sending (record u { sender = s }) (emit (fast_packet c.options u) (plain n pack c))) (send_fast_named n c.now (fast_most c.options) t.sender)
+      ∙ (ap (λ (p : PacketDraft). after_sending (named_tcb n (fast_if true t c).tcb) (emit p (plain n pack c))) (fast_packet_named t c)
       ∙ ap (λ (d : Context P). after_sending (named_tcb n (fast_if true t c).tcb) d) (named_emit n are pack (fast_packet c.options t) c k))
   fast_if_named false t c k = refl
 
-  pub send_lost_named : (t : Tcb) (c : Context P) → Knows n pack c → send_lost (named_tcb n t) (plain pack c) ≡ named_sent n pack (send_lost t c)
+  pub send_lost_named : (t : Tcb) (c : Context P) → Knows n pack c → send_lost (named_tcb n t) (plain n pack c) ≡ named_sent n pack (send_lost t c)
   send_lost_named t c k = fast_if_named (nat_lt 0 (fast_items t.sender.outstanding.items)) t c k
 
 module _ {P : Type 0} where

@@ -14,14 +14,14 @@ use Rattle.spec_endpoint.specs.Association.{Tcb, Phase, CookieEchoed, Establishe
 use Rattle.spec_endpoint.specs.Packets.{PacketDraft, add, packet_to, new_packet, round_down_to_4, emit_error, emit}
 use Rattle.spec_endpoint.specs.Sending.{AfterSending, open_with, is_before_cookie_ack}
 use Rattle.spec_endpoint.specs.Shutdown.{close_with}
-use Rattle.spec_endpoint.specs.Opening.{tsn_from, tag_from, answer, next_first, on_init_open, on_init_in, on_init, cookie_in, without_cookie, echo, identity_of_init_ack, echo_or_abort, on_init_ack_in, on_init_ack, enter_connected, CookieResolution, EstablishNew, RestartDetected, SimultaneousInit, MaintainExisting, Discard, InvalidTag, resolve_cookie, cookie_ack, anew, maintain_existing, maintain_existing_in, too_late, restarts, restarts_in, restart, on_resolution, on_read_cookie, on_cookie_echo, new_unless, new_if, restarted, as_restart, resolve_by_tags}
+use Rattle.spec_endpoint.specs.Opening.{tsn_from, tag_from, answer, next_first, on_init_open, on_init_in, on_init, cookie_in, without_cookie, echo, identity_of_init_ack, echo_or_abort, on_init_ack_in, on_init_ack, enter_connected, CookieResolution, EstablishNew, RestartDetected, SimultaneousInit, MaintainExisting, Discard, InvalidTag, resolve_cookie, cookie_ack, anew, maintain_existing, maintain_existing_in, too_late, restarts, restarts_in, restart, on_resolution, on_read_cookie, on_cookie_echo, new_unless, new_if, restarted, as_restart, resolve_by_tags, spent_chunk, refuse_spent, on_cookie_unless, is_spent_at}
 use Rattle.proof_draws.specs.NamedChunks.{Names, AreNames, flip, move_by, named_parameter, named_init}
 use Rattle.proof_draws.specs.Names.{named_tcb, named_phase, named_state, named_endpoint_state, named_cookie, plain, with_random}
 use Rattle.proof_draws.specs.Laws.{TiesTell}
 use Rattle.proof_draws.specs.NamedCalls.{DrawsTie, KnowsAnswer, AnswersNew, AnswersAgain, InitIsNamedOpen, InitIsNamed, EchoIsNamed, InitAckIsNamed, read_under, is_new, CookieIsNamed}
 use Rattle.proof_draws.proofs.MovedLemmas.{sum_moved, moved_wire}
 use Rattle.proof_draws.proofs.WritingLemmas.{Knows, named_add, named_emit}
-use Rattle.proof_draws.proofs.TagLemmas.{judged_named}
+use Rattle.proof_draws.proofs.TagLemmas.{judged_named, is_spent_named}
 use Rattle.proof_draws.proofs.AnswerLemmas.{answer_named, cookie_ack_named, anew_named, echo_named}
 use Rattle.proof_draws.proofs.ClosingLemmas.{acked_named}
 use Rattle.proof_endpoint.proofs.RowMapsLemmas.{endpoint_state_in}
@@ -105,12 +105,12 @@ module _ {P : Type 0} (n : Names) (are : AreNames n) (pack : Packing P) where
 
   -- ---- INIT ACK
 
-  without_cookie_named : (tag : ℕ) (c : Context P) → Knows n pack c → without_cookie (n.tag tag) (plain pack c) ≡ named_endpoint_state n pack (without_cookie tag c)
+  without_cookie_named : (tag : ℕ) (c : Context P) → Knows n pack c → without_cookie (n.tag tag) (plain n pack c) ≡ named_endpoint_state n pack (without_cookie tag c)
   without_cookie_named tag c knows =
       let chunk : ChunkTree = abort_chunk false (missing_mandatory_parameter (7 ∷ []) ∷ []) in
       let p : PacketDraft = packet_to tag (round_down_to_4 c.options.mtu) in
       let out : Context P → EndpointState P = λ d. close_with (OnAborted ProtocolViolation (codes "InitAck chunk doesn't contain a cookie")) d in
-      ap (λ (q : PacketDraft). out (emit q (plain pack c))) (named_add n are chunk p) ∙ ap out (named_emit n are pack (add chunk p) c knows)
+      ap (λ (q : PacketDraft). out (emit q (plain n pack c))) (named_add n are chunk p) ∙ ap out (named_emit n are pack (add chunk p) c knows)
 
   echoed_named : (i : InitTree) (o : Option (List ℕ)) (tag first : ℕ) (s : EndpointState P) (w v : Stream) → EchoIsNamed n o w v → Knows n pack s.context
       → (echo_or_abort (named_init (flip n) i) (option_map n.cookie o) (n.tag tag) (move_by n.own first) (with_random v (named_endpoint_state n pack s))).endpoint_state
@@ -118,11 +118,11 @@ module _ {P : Type 0} (n : Names) (are : AreNames n) (pack : Packing P) where
   echoed_named i None tag first s w v a knows = without_cookie_named i.initiate_tag s.context knows
   echoed_named i (Some cookie) tag first s w v a knows =
       let j : InitTree = named_init (flip n) i in
-      ap (λ (tie : ℕ). echo j (n.cookie cookie) (identity_of_init_ack j (n.tag tag) (move_by n.own first) tie) (plain pack s.context)) a.draws.tie
+      ap (λ (tie : ℕ). echo j (n.cookie cookie) (identity_of_init_ack j (n.tag tag) (move_by n.own first) tie) (plain n pack s.context)) a.draws.tie
       ∙ echo_named n are pack i cookie (identity_of_init_ack i tag first (next_u64 w).0) s.context a.maker knows
 
   init_ack_in_named : (st : State) (i : InitTree) (c : Context P) (w v : Stream) → InitAckIsNamed n i st w v → Knows n pack c
-      → (on_init_ack_in (named_state n st) (named_init (flip n) i) (with_random v (endpoint_state_in (named_state n st) (plain pack c)))).endpoint_state
+      → (on_init_ack_in (named_state n st) (named_init (flip n) i) (with_random v (endpoint_state_in (named_state n st) (plain n pack c)))).endpoint_state
       ≡ named_endpoint_state n pack (on_init_ack_in st i (with_random w (endpoint_state_in st c))).endpoint_state
   init_ack_in_named Closed i c w v a knows = refl
   init_ack_in_named (CookieWait tag first t1) i c w v a knows =
@@ -138,16 +138,16 @@ module _ {P : Type 0} (n : Names) (are : AreNames n) (pack : Packing P) where
   -- ---- COOKIE ECHO
 
   anew_drawn : (resets : Bool) (k : Cookie) (c : Context P) (w v : Stream) → DrawsTie n w v → Knows n pack c
-      → anew resets (named_cookie n k) (next_u64 v).0 (plain pack c) ≡ named_endpoint_state n pack (anew resets k (next_u64 w).0 c)
+      → anew resets (named_cookie n k) (next_u64 v).0 (plain n pack c) ≡ named_endpoint_state n pack (anew resets k (next_u64 w).0 c)
   anew_drawn resets k c w v d knows =
-      ap (λ (tie : ℕ). anew resets (named_cookie n k) tie (plain pack c)) d.tie ∙ anew_named n are pack resets k (next_u64 w).0 c knows
+      ap (λ (tie : ℕ). anew resets (named_cookie n k) tie (plain n pack c)) d.tie ∙ anew_named n are pack resets k (next_u64 w).0 c knows
 
   acked_as : (phase : Phase) (tag : ℕ) (t : Tcb) (c : Context P) → Knows n pack c
-      → open_with (named_phase n phase) (cookie_ack (n.tag tag) (named_tcb n t) (plain pack c)) ≡ named_endpoint_state n pack (open_with phase (cookie_ack tag t c))
+      → open_with (named_phase n phase) (cookie_ack (n.tag tag) (named_tcb n t) (plain n pack c)) ≡ named_endpoint_state n pack (open_with phase (cookie_ack tag t c))
   acked_as phase tag t c knows = ap (λ (x : AfterSending P). open_with (named_phase n phase) x) (cookie_ack_named n are pack tag t c knows)
 
   kept_named : (k : Cookie) (phase : Phase) (t : Tcb) (c : Context P) → Knows n pack c
-      → maintain_existing (named_cookie n k) (named_phase n phase) (named_tcb n t) (plain pack c) ≡ named_endpoint_state n pack (maintain_existing k phase t c)
+      → maintain_existing (named_cookie n k) (named_phase n phase) (named_tcb n t) (plain n pack c) ≡ named_endpoint_state n pack (maintain_existing k phase t c)
   kept_named k (CookieEchoed t1 cookie) t c knows = acked_as Established k.peer_tag t (enter_connected c) knows
   kept_named k Established t c knows = acked_as Established k.peer_tag t c knows
   kept_named k ShutdownPending t c knows = acked_as ShutdownPending k.peer_tag t c knows
@@ -156,19 +156,19 @@ module _ {P : Type 0} (n : Names) (are : AreNames n) (pack : Packing P) where
   kept_named k (ShutdownAckSent t2) t c knows = acked_as (ShutdownAckSent t2) k.peer_tag t c knows
 
   keep_from : (k : Cookie) (st : State) (c : Context P) → Knows n pack c
-      → maintain_existing_in (named_cookie n k) (endpoint_state_in (named_state n st) (plain pack c)) ≡ named_endpoint_state n pack (maintain_existing_in k (endpoint_state_in st c))
+      → maintain_existing_in (named_cookie n k) (endpoint_state_in (named_state n st) (plain n pack c)) ≡ named_endpoint_state n pack (maintain_existing_in k (endpoint_state_in st c))
   keep_from k Closed c knows = refl
   keep_from k (CookieWait tag first t1) c knows = refl
   keep_from k (Open phase t) c knows = kept_named k phase t c knows
 
-  too_late_named : (t : Tcb) (c : Context P) → Knows n pack c → too_late (named_tcb n t) (plain pack c) ≡ plain pack (too_late t c)
+  too_late_named : (t : Tcb) (c : Context P) → Knows n pack c → too_late (named_tcb n t) (plain n pack c) ≡ plain n pack (too_late t c)
   too_late_named t c knows =
       let chunk : ChunkTree = error_chunk (cookie_received_while_shutting_down ∷ []) in
       let p : PacketDraft = new_packet c.options t in
       let q : PacketDraft = add shutdown_ack_chunk p in
       let out : Context P → Context P = λ d. emit_error WrongSequence (codes "Received COOKIE-ECHO while shutting down") d in
-      ap (λ (x : PacketDraft). out (emit (add chunk x) (plain pack c))) (named_add n are shutdown_ack_chunk p)
-      ∙ (ap (λ (x : PacketDraft). out (emit x (plain pack c))) (named_add n are chunk q)
+      ap (λ (x : PacketDraft). out (emit (add chunk x) (plain n pack c))) (named_add n are shutdown_ack_chunk p)
+      ∙ (ap (λ (x : PacketDraft). out (emit x (plain n pack c))) (named_add n are chunk q)
       ∙ ap out (named_emit n are pack (add chunk q) c knows))
 
   restarts_named : (k : Cookie) (s : EndpointState P) (w v : Stream) → DrawsTie n w v → Knows n pack s.context
@@ -186,7 +186,7 @@ module _ {P : Type 0} (n : Names) (are : AreNames n) (pack : Packing P) where
   restarts_in_named (ShutdownAckSent t2) t k s w v d knows = ap (λ (c : Context P). with_context (named_endpoint_state n pack s) c) (too_late_named t s.context knows)
 
   restart_from : (st : State) (k : Cookie) (c : Context P) (w v : Stream) → DrawsTie n w v → Knows n pack c
-      → (restart (named_cookie n k) (with_random v (endpoint_state_in (named_state n st) (plain pack c)))).endpoint_state
+      → (restart (named_cookie n k) (with_random v (endpoint_state_in (named_state n st) (plain n pack c)))).endpoint_state
       ≡ named_endpoint_state n pack (restart k (with_random w (endpoint_state_in st c))).endpoint_state
   restart_from Closed k c w v d knows = refl
   restart_from (CookieWait tag first t1) k c w v d knows = refl
@@ -220,13 +220,28 @@ module _ {P : Type 0} (n : Names) (are : AreNames n) (pack : Packing P) where
       by_tags_new true Discard h = h
       by_tags_new true InvalidTag h = h
 
+  spent_named : (k : Cookie) (c : Context P) → Knows n pack c → refuse_spent (named_cookie n k) (plain n pack c) ≡ plain n pack (refuse_spent k c)
+  spent_named k c knows =
+      let p : PacketDraft = packet_to k.peer_tag c.options.mtu in
+      ap (λ (q : PacketDraft). emit q (plain n pack c)) (named_add n are spent_chunk p) ∙ named_emit n are pack (add spent_chunk p) c knows
+
+  cookie_unless_named : (b : Bool) (tag : ℕ) (k : Cookie) (s : EndpointState P) (w v : Stream)
+      → ((phase : Phase) (t : Tcb) → s.state ≡ Open phase t → TiesTell n tag t.identity k)
+      → (is_new (resolve_cookie false tag k s.state) ≡ true → DrawsTie n w v) → Knows n pack s.context
+      → (on_cookie_unless b (n.tag tag) (named_cookie n k) (with_random v (named_endpoint_state n pack s))).endpoint_state ≡ named_endpoint_state n pack (on_cookie_unless b tag k (with_random w s)).endpoint_state
+  cookie_unless_named true tag k s w v ties draws knows = ap (λ (c : Context P). endpoint_state_in (named_state n s.state) c) (spent_named k s.context knows)
+  cookie_unless_named false tag k s w v ties draws knows =
+      ap (λ (x : CookieResolution). (on_resolution x (named_cookie n k) (with_random v (named_endpoint_state n pack s))).endpoint_state) (judged_named n are s.context.options.avoid_stalls tag k s.state ties)
+      ∙ verdict_named (resolve_cookie s.context.options.avoid_stalls tag k s.state) k s w v (λ new. draws (still_new s.context.options.avoid_stalls tag k s.state new)) knows
+
   read_named : (tag : ℕ) (r : Result Cookie StateCookieError) (s : EndpointState P) (w v : Stream)
       → ((k : Cookie) → r ≡ Ok k → (phase : Phase) (t : Tcb) → s.state ≡ Open phase t → TiesTell n tag t.identity k)
       → ((k : Cookie) → r ≡ Ok k → is_new (resolve_cookie false tag k s.state) ≡ true → DrawsTie n w v) → Knows n pack s.context
       → (on_read_cookie (n.tag tag) (read_under n r) (with_random v (named_endpoint_state n pack s))).endpoint_state ≡ named_endpoint_state n pack (on_read_cookie tag r (with_random w s)).endpoint_state
   read_named tag (Ok k) s w v ties draws knows =
-      ap (λ (x : CookieResolution). (on_resolution x (named_cookie n k) (with_random v (named_endpoint_state n pack s))).endpoint_state) (judged_named n are s.context.options.avoid_stalls tag k s.state (ties k refl))
-      ∙ verdict_named (resolve_cookie s.context.options.avoid_stalls tag k s.state) k s w v (λ new. draws k refl (still_new s.context.options.avoid_stalls tag k s.state new)) knows
+      ap (λ (b : Bool). (on_cookie_unless b (n.tag tag) (named_cookie n k) (with_random v (named_endpoint_state n pack s))).endpoint_state)
+      (is_spent_named n are s.context.options.avoid_stalls s.context.last_tag k s.state)
+      ∙ cookie_unless_named (is_spent_at k s) tag k s w v (ties k refl) (draws k refl) knows
   read_named tag (Err fault) s w v ties draws knows = refl
 
   pub cookie_echo_named : (tag : ℕ) (cookie : List ℕ) (s : EndpointState P) (w v : Stream) → CookieIsNamed n tag cookie s.state w v → Knows n pack s.context

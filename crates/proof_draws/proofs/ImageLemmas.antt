@@ -9,7 +9,7 @@ use Rattle.spec_endpoint.specs.Laws.{Call, called}
 use Rattle.proof_endpoint.specs.Mapped.{Carried, map_event, map_context, as_carried}
 use Rattle.proof_pair.specs.Trace.{Side, drain, state_of}
 use Rattle.proof_draws.specs.NamedChunks.{Names, AreNames}
-use Rattle.proof_draws.specs.Names.{named_state, plain, with_random}
+use Rattle.proof_draws.specs.Names.{named_state, plain, with_random, named_context}
 use Rattle.proof_draws.specs.NamedCalls.{named_call, CallIsNamed, EachCallIsNamed}
 use Rattle.proof_draws.specs.Images.{named_carried, as_named, image}
 use Rattle.proof_draws.specs.Alike.{IsAlike, AreEventsAlike, AreAlike}
@@ -22,18 +22,18 @@ emitted_under n es = map (map_event (as_named n)) es
 
 -- an end that has emitted nothing is its image where its state is
 pub is_image : (n : Names) (s t : EndpointState Carried) → s.context.pack ≡ as_carried → s.context.emitted.events ≡ [] → t.state ≡ named_state n s.state
-    → t.context ≡ s.context → t ≡ image n s
+    → t.context ≡ named_context n.tag s.context → t ≡ image n s
 is_image n s t packing quiet state context =
     let c : Context Carried = s.context in
     let emitted_is : emitted_under n c.emitted.events ≡ c.emitted.events = ap (λ (es : List (Event Carried)). emitted_under n es) quiet ∙ sym quiet in
-    let back : c ≡ plain as_carried (map_context (as_named n) c) =
-    ap (λ (w : Packing Carried). record c { pack = w }) packing
-    ∙ ap (λ (es : List (Event Carried)). record c { emitted = record { events = es; given_up = c.emitted.given_up }; pack = as_carried }) (sym emitted_is) in
+    let back : named_context n.tag c ≡ plain n as_carried (map_context (as_named n) c) =
+    ap (λ (w : Packing Carried). record (named_context n.tag c) { pack = w }) packing
+    ∙ ap (λ (es : List (Event Carried)). record (named_context n.tag c) { emitted = record { events = es; given_up = c.emitted.given_up }; pack = as_carried }) (sym emitted_is) in
     ap (λ (st : State). endpoint_state st t.context) state ∙ ap (λ (d : Context Carried). endpoint_state (named_state n s.state) d) (context ∙ back)
 
 module _ (named : EachCallIsNamed) where
   pub mirrored : (n : Names) → AreNames n → (call : Call) (e f : Endpoint Carried) → e.endpoint_state.context.pack ≡ as_carried
-      → e.endpoint_state.context.emitted.events ≡ [] → f.endpoint_state.state ≡ named_state n e.endpoint_state.state → f.endpoint_state.context ≡ e.endpoint_state.context
+      → e.endpoint_state.context.emitted.events ≡ [] → f.endpoint_state.state ≡ named_state n e.endpoint_state.state → f.endpoint_state.context ≡ named_context n.tag e.endpoint_state.context
       → CallIsNamed n call e.endpoint_state.state e.draws f.draws → (called (named_call n call) f).endpoint_state ≡ image n (called call e).endpoint_state
   mirrored n are call e f packing quiet state context is =
       ap (λ (s : EndpointState Carried). (called (named_call n call) (with_random f.draws s)).endpoint_state) (is_image n e.endpoint_state f.endpoint_state packing quiet state context)
@@ -101,7 +101,7 @@ module _ (x y : Side) (alike : AreAlike x y) (quiet : x.end.endpoint_state.conte
     are = are;
     state = ap (λ (s : EndpointState Carried). s.state) is;
     context = ap (λ (s : EndpointState Carried). taken s.context) is
-        ∙ ap (λ (w : Packing Carried). record (taken e.endpoint_state.context) { pack = w }) (sym packing);
+        ∙ ap (λ (w : Packing Carried). record (named_context n.tag (taken e.endpoint_state.context)) { pack = w }) (sym packing);
     emitted = subst (λ (es : List (Event Carried)). AreEventsAlike (x.emitted ++ e.endpoint_state.context.emitted.events) (y.emitted ++ es))
         (sym (ap (λ (s : EndpointState Carried). s.context.emitted.events) is))
         (emitted_both x.emitted y.emitted e.endpoint_state.context.emitted.events (emitted_under n e.endpoint_state.context.emitted.events) alike.emitted

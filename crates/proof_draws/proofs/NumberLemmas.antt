@@ -28,7 +28,7 @@ use Rattle.spec_endpoint.specs.Shutdown as closing
 use Rattle.spec_endpoint.specs.Data.{on_data_in, on_data_if, on_data, accepts_fragment, fragment_if, accepts_point, handle_forward_tsn_if, handle_forward_tsn_in, has_room, told_of_drop}
 use Rattle.spec_endpoint.specs.Sack.{clean_blocks, sample_rtt, after_sack, on_sack_in, is_late, sampled_unless}
 use Rattle.spec_endpoint.specs.Sack as acks
-use Rattle.spec_endpoint.specs.Opening.{on_cookie_ack, enter_connected, tcb_by, queue_for, cookie_ack, anew, maintain_existing, maintain_existing_in, restarts, restarts_in, restart, CookieResolution, EstablishNew, RestartDetected, SimultaneousInit, MaintainExisting, Discard, InvalidTag, resolve_cookie, on_resolution, on_read_cookie, on_cookie_echo, long_word, restarted}
+use Rattle.spec_endpoint.specs.Opening.{on_cookie_ack, enter_connected, tcb_by, queue_for, cookie_ack, anew, maintain_existing, maintain_existing_in, restarts, restarts_in, restart, CookieResolution, EstablishNew, RestartDetected, SimultaneousInit, MaintainExisting, Discard, InvalidTag, resolve_cookie, on_resolution, on_read_cookie, on_cookie_echo, long_word, restarted, on_cookie_unless, is_spent_at}
 use Rattle.spec_endpoint.specs.StreamReset.{Handling, handling, is_ahead, resets_unless, outgoing_by, incoming_if, on_parameter, is_outgoing, HandledParameters, handle_next, handle_all, send_responses, finish_reconfig_if, on_reconfig}
 use Rattle.spec_endpoint.specs.Input.{violation, on_unknown_if, is_reported, on_heartbeat, on_chunk, received_unless, receive, repeats, repeats_if}
 use Rattle.sctp_wire.specs.Cause.{CauseTree}
@@ -330,7 +330,7 @@ module _ {P : Type 0} where
   anew_fits : (resets : Bool) (k : Cookie) (tie : ℕ) (c : Context P) → k.my_initial_tsn < u32_space → NumbersFitIn (anew resets k tie c).state
   anew_fits resets k tie c first =
       sent_fits k.peer_tag (tcb_by c.options k tie)
-      (enter_connected (record c { queue = queue_for resets (negotiate c.options k.peer_capabilities).message_interleaving c.queue })) (new_fits k c tie first)
+      (enter_connected (record c { queue = queue_for resets (negotiate c.options k.peer_capabilities).message_interleaving c.queue; last_tag = k.my_tag })) (new_fits k c tie first)
 
   kept_fits : (k : Cookie) → OpenFits {P = P} (maintain_existing k)
   kept_fits k (CookieEchoed t1 cookie) t c h = sent_fits k.peer_tag t (enter_connected c) h
@@ -371,9 +371,14 @@ module _ {P : Type 0} where
   verdict_fits Discard k e first h = h
   verdict_fits InvalidTag k e first h = h
 
+  cookie_unless_fits : (b : Bool) (tag : ℕ) (k : Cookie) (e : Endpoint P) → k.my_initial_tsn < u32_space → NumbersFitIn e.endpoint_state.state
+      → NumbersFitIn (on_cookie_unless b tag k e).endpoint_state.state
+  cookie_unless_fits true tag k e first h = h
+  cookie_unless_fits false tag k e first h = verdict_fits (resolve_cookie e.endpoint_state.context.options.avoid_stalls tag k e.endpoint_state.state) k e first h
+
   read_fits : (tag : ℕ) (r : Result Cookie StateCookieError) (e : Endpoint P) → ((k : Cookie) → r ≡ Ok k → k.my_initial_tsn < u32_space) → NumbersFitIn e.endpoint_state.state
       → NumbersFitIn (on_read_cookie tag r e).endpoint_state.state
-  read_fits tag (Ok k) e first h = verdict_fits (resolve_cookie e.endpoint_state.context.options.avoid_stalls tag k e.endpoint_state.state) k e (first k refl) h
+  read_fits tag (Ok k) e first h = cookie_unless_fits (is_spent_at k e.endpoint_state) tag k e (first k refl) h
   read_fits tag (Err fault) e first h = h
 
   pub cookie_echo_fits : (tag : ℕ) (cookie : List ℕ) (e : Endpoint P) → ((k : Cookie) → read_cookie cookie ≡ Ok k → k.my_initial_tsn < u32_space) → NumbersFitIn e.endpoint_state.state

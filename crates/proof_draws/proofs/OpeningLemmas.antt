@@ -33,26 +33,26 @@ module _ (n : Names) where
       ∙ ap (λ (ps : List ParameterTree). ps ++ last) (where_named (not (method == 0)) (zero_checksum_acceptable method) refl)))
 
 module _ {P : Type 0} (n : Names) (are : AreNames n) (pack : Packing P) where
-  pub named_send_init : (tag first : ℕ) (c : Context P) → Knows n pack c → send_init (n.tag tag) (move_by n.own first) (plain pack c) ≡ plain pack (send_init tag first c)
+  pub named_send_init : (tag first : ℕ) (c : Context P) → Knows n pack c → send_init (n.tag tag) (move_by n.own first) (plain n pack c) ≡ plain n pack (send_init tag first c)
   named_send_init tag first c k =
       let ps : List ParameterTree = announced_parameters c.options c.options.zero_checksum_method in
       let chunk : ChunkTree = init_chunk (init_of c.options tag first ps) in
       let to : PacketDraft = packet_to 0 c.options.mtu in
-      ap (λ (qs : List ParameterTree). emit (add (init_chunk (init_of c.options (n.tag tag) (move_by n.own first) qs)) to) (plain pack c)) (sym (announced_named n c.options c.options.zero_checksum_method))
-      ∙ (ap (λ (none : ℕ). emit (add (named_chunk n chunk) (packet_to none c.options.mtu)) (plain pack c)) (sym are.none)
-      ∙ (ap (λ (p : PacketDraft). emit p (plain pack c)) (named_add n are chunk to) ∙ named_emit n are pack (add chunk to) c k))
+      ap (λ (qs : List ParameterTree). emit (add (init_chunk (init_of c.options (n.tag tag) (move_by n.own first) qs)) to) (plain n pack c)) (sym (announced_named n c.options c.options.zero_checksum_method))
+      ∙ (ap (λ (none : ℕ). emit (add (named_chunk n chunk) (packet_to none c.options.mtu)) (plain n pack c)) (sym are.none)
+      ∙ (ap (λ (p : PacketDraft). emit p (plain n pack c)) (named_add n are chunk to) ∙ named_emit n are pack (add chunk to) c k))
 
-  named_waiting : (tag first : ℕ) (c : Context P) → Knows n pack c → waiting (n.tag tag) (move_by n.own first) (plain pack c) ≡ named_endpoint_state n pack (waiting tag first c)
+  named_waiting : (tag first : ℕ) (c : Context P) → Knows n pack c → waiting (n.tag tag) (move_by n.own first) (plain n pack c) ≡ named_endpoint_state n pack (waiting tag first c)
   named_waiting tag first c k =
-      ap (λ (d : Context P). endpoint_state_in (CookieWait (n.tag tag) (move_by n.own first) (t1_init c)) d) (named_send_init tag first c k)
+      ap (λ (d : Context P). endpoint_state_in (CookieWait (n.tag tag) (move_by n.own first) (t1_init c)) d) (named_send_init tag first (record c { last_tag = tag }) k)
 
   connect_in_named : (st : State) (c : Context P) (w v : Stream) → Knows n pack c → (st ≡ Closed → DrawsTwo n w v)
-      → (connect_in (named_state n st) (with_random v (endpoint_state_in (named_state n st) (plain pack c)))).endpoint_state ≡ named_endpoint_state n pack (connect_in st (with_random w (endpoint_state_in st c))).endpoint_state
+      → (connect_in (named_state n st) (with_random v (endpoint_state_in (named_state n st) (plain n pack c)))).endpoint_state ≡ named_endpoint_state n pack (connect_in st (with_random w (endpoint_state_in st c))).endpoint_state
   connect_in_named Closed c w v k draws =
       let d : DrawsTwo n w v = draws refl in
       let e : Endpoint P = with_random w (endpoint_state_in Closed c) in
-      ap (λ (tag : ℕ). waiting tag (tsn_from (word (with_random v (endpoint_state_in Closed (plain pack c))))) (plain pack c)) d.tag
-      ∙ (ap (λ (first : ℕ). waiting (n.tag (tag_from (word (drew_word e)))) first (plain pack c)) d.first
+      ap (λ (tag : ℕ). waiting tag (tsn_from (word (with_random v (endpoint_state_in Closed (plain n pack c))))) (plain n pack c)) d.tag
+      ∙ (ap (λ (first : ℕ). waiting (n.tag (tag_from (word (drew_word e)))) first (plain n pack c)) d.first
       ∙ named_waiting (tag_from (word (drew_word e))) (tsn_from (word e)) c k)
   connect_in_named (CookieWait tag first t1) c w v k draws = refl
   connect_in_named (Open phase t) c w v k draws = refl

@@ -1,5 +1,5 @@
 -- A packet without a checksum is let through in one trace where its image is in the other.
-use Rattle.std.proofs.Common.{◌≡◌, ◌==◌, List, [], ◌∷◌, All, sym, ap, subst, ◌∙◌}
+use Rattle.std.proofs.Common.{◌≡◌, ℕ, ◌==◌, List, [], ◌∷◌, All, sym, ap, subst, ◌∙◌}
 use Rattle.std.proofs.lemmas.List.Elements.{All-nil, All-cons, All-head, All-tail}
 use Rattle.sctp_state.specs.Events.{Event, SendPacket, OnError, OnAborted}
 use Rattle.spec_endpoint.specs.Association.{Context}
@@ -7,8 +7,9 @@ use Rattle.proof_endpoint.specs.Mapped.{Carried}
 use Rattle.proof_pair.specs.Trace.{Side}
 use Rattle.spec_endpoint.specs.Packets.{packets_in}
 use Rattle.proof_draws.specs.Alike.{IsImage, AreEventsAlike, PassesAt, ImagesPass}
+use Rattle.proof_draws.specs.Names.{named_context}
 
-module _ (y z : Side) (same : z.end.endpoint_state.context ≡ y.end.endpoint_state.context) where
+module _ (y z : Side) (tag : ℕ → ℕ) (same : z.end.endpoint_state.context ≡ named_context tag y.end.endpoint_state.context) where
   passes : (p q : Carried) → IsImage p q → PassesAt y p → PassesAt z q
   passes p q i h e =
       ap (λ (c : Context Carried). c.options.zero_checksum_method == 0) same ∙ h (sym (ap (λ (r : Carried). r.is_summed) i.is) ∙ e)
@@ -27,6 +28,6 @@ module _ (y z : Side) (same : z.end.endpoint_state.context ≡ y.end.endpoint_st
 
 pub images_pass : ImagesPass
 images_pass w v alike h = record {
-  a = passed w.b v.b alike.b.context w.a.emitted v.a.emitted alike.a.emitted h.a;
-  b = passed w.a v.a alike.a.context w.b.emitted v.b.emitted alike.b.emitted h.b;
+  a = passed w.b v.b alike.b.names.tag alike.b.context w.a.emitted v.a.emitted alike.a.emitted h.a;
+  b = passed w.a v.a alike.a.names.tag alike.a.context w.b.emitted v.b.emitted alike.b.emitted h.b;
 }

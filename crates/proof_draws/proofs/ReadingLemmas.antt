@@ -203,11 +203,11 @@ module _ (n : Names) where
 
 module _ {P : Type 0} (n : Names) (pack : Packing P) where
   data_in_named : (s : State) (tsn : ℕ) (is_immediate : Bool) (f : FragmentTree) (c : Context P)
-      → on_data_in (named_state n s) (move_by n.peer tsn) is_immediate f (plain pack c) ≡ named_endpoint_state n pack (on_data_in s tsn is_immediate f c)
+      → on_data_in (named_state n s) (move_by n.peer tsn) is_immediate f (plain n pack c) ≡ named_endpoint_state n pack (on_data_in s tsn is_immediate f c)
   data_in_named Closed tsn is_immediate f c = refl
   data_in_named (CookieWait tag first t1) tsn is_immediate f c = refl
   data_in_named (Open phase t) tsn is_immediate f c =
-      ap (λ (u : Tcb). open_endpoint_state n phase u (plain pack c)) (take_data_named n c.options tsn is_immediate f t)
+      ap (λ (u : Tcb). open_endpoint_state n phase u (plain n pack c)) (take_data_named n c.options tsn is_immediate f t)
 
   -- a fragment with a payload
   pub named_data : (tsn : ℕ) (is_immediate : Bool) (f : FragmentTree) (s : EndpointState P) → (length f.payload == 0) ≡ false
@@ -219,4 +219,4 @@ module _ {P : Type 0} (n : Names) (pack : Packing P) where
 
   pub named_forward : (tsn : ℕ) (es : List SkippedStream) (s : EndpointState P)
       → on_forward (move_by n.peer tsn) es (named_endpoint_state n pack s) ≡ named_endpoint_state n pack (on_forward tsn es s)
-  named_forward tsn es s = ap (λ (st : State). endpoint_state_in st (plain pack s.context)) (forwarded_in_named n s.state tsn es)
+  named_forward tsn es s = ap (λ (st : State). endpoint_state_in st (plain n pack s.context)) (forwarded_in_named n s.state tsn es)

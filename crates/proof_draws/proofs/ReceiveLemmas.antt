@@ -228,25 +228,26 @@ module _ (m : Names) where
   misused_named k (i_forward_tsn_chunk tsn skipped) = refl
   misused_named k (unknown_chunk typ flags value) = refl
 
-  goes_on_named : (avoids : Bool) (tag to : ℕ) (st r : State) (chunk : ChunkTree) → is_flowing chunk ≡ true → allows_next avoids to r (named_chunk m chunk) ≡ allows_next avoids tag st chunk
-  goes_on_named avoids tag to st r (data_chunk tsn immediate f) h = refl
-  goes_on_named avoids tag to st r (idata_chunk tsn immediate f) h = refl
-  goes_on_named avoids tag to st r (init_chunk i) h = refl
-  goes_on_named avoids tag to st r (init_ack_chunk i) h = refl
-  goes_on_named avoids tag to st r (sack_chunk k) h = refl
-  goes_on_named avoids tag to st r (heartbeat_request_chunk parameters) h = refl
-  goes_on_named avoids tag to st r (heartbeat_ack_chunk parameters) h = refl
-  goes_on_named avoids tag to st r (abort_chunk reflected causes) h = refl
-  goes_on_named avoids tag to st r (shutdown_chunk tsn) h = refl
-  goes_on_named avoids tag to st r shutdown_ack_chunk h = refl
-  goes_on_named avoids tag to st r (error_chunk causes) h = refl
-  goes_on_named avoids tag to st r (cookie_echo_chunk cookie) h = cc
-  goes_on_named avoids tag to st r cookie_ack_chunk h = refl
-  goes_on_named avoids tag to st r (shutdown_complete_chunk reflected) h = refl
-  goes_on_named avoids tag to st r (re_config_chunk parameters) h = refl
-  goes_on_named avoids tag to st r (forward_tsn_chunk tsn skipped) h = refl
-  goes_on_named avoids tag to st r (i_forward_tsn_chunk tsn skipped) h = refl
-  goes_on_named avoids tag to st r (unknown_chunk typ flags value) h = refl
+  goes_on_named : (avoids : Bool) (last now tag to : ℕ) (st r : State) (chunk : ChunkTree) → is_flowing chunk ≡ true
+      → allows_next avoids now to r (named_chunk m chunk) ≡ allows_next avoids last tag st chunk
+  goes_on_named avoids last now tag to st r (data_chunk tsn immediate f) h = refl
+  goes_on_named avoids last now tag to st r (idata_chunk tsn immediate f) h = refl
+  goes_on_named avoids last now tag to st r (init_chunk i) h = refl
+  goes_on_named avoids last now tag to st r (init_ack_chunk i) h = refl
+  goes_on_named avoids last now tag to st r (sack_chunk k) h = refl
+  goes_on_named avoids last now tag to st r (heartbeat_request_chunk parameters) h = refl
+  goes_on_named avoids last now tag to st r (heartbeat_ack_chunk parameters) h = refl
+  goes_on_named avoids last now tag to st r (abort_chunk reflected causes) h = refl
+  goes_on_named avoids last now tag to st r (shutdown_chunk tsn) h = refl
+  goes_on_named avoids last now tag to st r shutdown_ack_chunk h = refl
+  goes_on_named avoids last now tag to st r (error_chunk causes) h = refl
+  goes_on_named avoids last now tag to st r (cookie_echo_chunk cookie) h = cc
+  goes_on_named avoids last now tag to st r cookie_ack_chunk h = refl
+  goes_on_named avoids last now tag to st r (shutdown_complete_chunk reflected) h = refl
+  goes_on_named avoids last now tag to st r (re_config_chunk parameters) h = refl
+  goes_on_named avoids last now tag to st r (forward_tsn_chunk tsn skipped) h = refl
+  goes_on_named avoids last now tag to st r (i_forward_tsn_chunk tsn skipped) h = refl
+  goes_on_named avoids last now tag to st r (unknown_chunk typ flags value) h = refl
 
 pub violation_named : (n m : Names) (st : State) (chunk : ChunkTree) → violation (named_state n st) (named_chunk m chunk) ≡ violation st chunk
 violation_named n m Closed chunk = refl
@@ -266,19 +267,19 @@ module _ {P : Type 0} (n : Names) (are : AreNames n) (pack : Packing P) where
   heartbeat_named parameters phase t c k =
       ap (λ (d : Context P). record (named_endpoint_state n pack (on_heartbeat parameters phase t c)) { context = d }) (named_emit_chunk n are pack (heartbeat_ack_chunk parameters) t c k)
 
-  answered_if_named : (b : Bool) (c : Context P) → clear_if_last b (plain pack c) ≡ plain pack (clear_if_last b c)
+  answered_if_named : (b : Bool) (c : Context P) → clear_if_last b (plain n pack c) ≡ plain n pack (clear_if_last b c)
   answered_if_named true c = refl
   answered_if_named false c = refl
 
-  answered_by_named : (b : Bool) (info : List ℕ) (c : Context P) → ack_by_length b info (plain pack c) ≡ plain pack (ack_by_length b info c)
+  answered_by_named : (b : Bool) (info : List ℕ) (c : Context P) → ack_by_length b info (plain n pack c) ≡ plain n pack (ack_by_length b info c)
   answered_by_named true info c = answered_if_named (is_last_info info c) c
   answered_by_named false info c = refl
 
-  heartbeat_info_named : (o : Option (List ℕ)) (c : Context P) → on_heartbeat_info o (plain pack c) ≡ plain pack (on_heartbeat_info o c)
+  heartbeat_info_named : (o : Option (List ℕ)) (c : Context P) → on_heartbeat_info o (plain n pack c) ≡ plain n pack (on_heartbeat_info o c)
   heartbeat_info_named None c = refl
   heartbeat_info_named (Some info) c = answered_by_named (length info == 4) info c
 
-  echoed_named : (st : State) (typ flags : ℕ) (value : List ℕ) (c : Context P) → Knows n pack c → report_unrecognized_in (named_state n st) typ flags value (plain pack c) ≡ plain pack (report_unrecognized_in st typ flags value c)
+  echoed_named : (st : State) (typ flags : ℕ) (value : List ℕ) (c : Context P) → Knows n pack c → report_unrecognized_in (named_state n st) typ flags value (plain n pack c) ≡ plain n pack (report_unrecognized_in st typ flags value c)
   echoed_named Closed typ flags value c k = refl
   echoed_named (CookieWait tag first t1) typ flags value c k = refl
   echoed_named (Open phase t) typ flags value c k = named_emit_chunk n are pack (unrecognized_chunk_error c.options.mtu typ flags value) t c k
@@ -291,7 +292,7 @@ module _ {P : Type 0} (n : Names) (are : AreNames n) (pack : Packing P) where
 
   -- RE-CONFIG, in an end whose request numbers are of 32 bits
   reconfig_in_named : (ps : List ParameterTree) (st : State) (c : Context P) → list_all number_fits ps ≡ true → NumbersFitIn st → Knows n pack c
-      → where_open (on_reconfig (map (named_parameter (flip n)) ps)) (record { state = named_state n st; context = plain pack c })
+      → where_open (on_reconfig (map (named_parameter (flip n)) ps)) (record { state = named_state n st; context = plain n pack c })
       ≡ named_endpoint_state n pack (where_open (on_reconfig ps) (record { state = st; context = c }))
   reconfig_in_named ps Closed c all f k = refl
   reconfig_in_named ps (CookieWait tag first t1) c all f k = refl
@@ -325,8 +326,9 @@ module _ {P : Type 0} (n : Names) (are : AreNames n) (pack : Packing P) where
   received_unless_named None tag chunk e h f k =
       let avoids : Bool = e.endpoint_state.context.options.avoid_stalls in
       let st : State = e.endpoint_state.state in
-      ap (λ (b : Bool). received_as b (on_chunk (n.tag tag) (named_chunk (flip n) chunk) (named_end n pack e))) (goes_on_named (flip n) avoids tag (n.tag tag) st (named_state n st) chunk h)
-      ∙ ap (λ (x : Endpoint P). received_as (allows_next avoids tag st chunk) x) (chunk_named tag chunk e h f k)
+      let last : ℕ = e.endpoint_state.context.last_tag in
+      ap (λ (b : Bool). received_as b (on_chunk (n.tag tag) (named_chunk (flip n) chunk) (named_end n pack e))) (goes_on_named (flip n) avoids last (n.tag last) tag (n.tag tag) st (named_state n st) chunk h)
+      ∙ ap (λ (x : Endpoint P). received_as (allows_next avoids last tag st chunk) x) (chunk_named tag chunk e h f k)
 
   receive_named : (tag : ℕ) (chunk : ChunkTree) (e : Endpoint P) → is_flowing chunk ≡ true → NumbersFitIn e.endpoint_state.state → Knows n pack e.endpoint_state.context
       → receive (n.tag tag) (named_chunk (flip n) chunk) (named_end n pack e) ≡ received_as (receive tag chunk e).allows_next (named_end n pack (receive tag chunk e).end)

@@ -14,18 +14,19 @@ use Rattle.proof_pair.specs.Agreement.{Draw}
 use Rattle.proof_pair.proofs.AddedLemmas.{all_at}
 use Rattle.proof_pair.proofs.TraceLemmas.{packet_of}
 use Rattle.proof_draws.specs.NamedChunks.{Names, flip, named_chunks}
-use Rattle.proof_draws.specs.Names.{named_state}
+use Rattle.proof_draws.specs.Names.{named_state, named_context}
 use Rattle.proof_draws.specs.Laws.{NumbersFitIn}
 use Rattle.proof_draws.specs.NamedCalls.{AreNamed, EachCallIsNamed}
 use Rattle.proof_draws.specs.Images.{named_carried, image}
 use Rattle.proof_draws.proofs.TagLemmas.{refused_named}
 use Rattle.proof_draws.proofs.TakenLemmas.{none_of}
-use Rattle.proof_draws.specs.Pairing.{names, Knows}
+use Rattle.proof_draws.specs.Pairing.{names, Knows, tags_of}
 use Rattle.proof_draws.proofs.NamesLemmas.{names_in, are_names}
 use Rattle.proof_draws.proofs.ImageLemmas.{mirrored}
 use Rattle.proof_draws.proofs.ChunkLemmas.{all_carried_named}
 use Rattle.proof_draws.proofs.BlankLemmas.{on_chunks}
 use Rattle.proof_draws.proofs.StepLemmas.{Refused}
+use Rattle.proof_draws.specs.Renamed.{rename}
 
 -- a fact of each chunk that is received
 pub all_received : (Q : ChunkTree → Type 0) (p : PacketTree) → All Q p.chunks → (tag : ℕ) (c : ChunkTree) → BringsChunk (ReceivePacket p) tag c → Q c
@@ -147,7 +148,7 @@ module _ (ps : List (Draw × Draw)) (k : Knows ps) (x z : Side) (p q : Carried) 
   -- ---- taken by both
 
   module _ (law : EachCallIsNamed) (packing : x.end.endpoint_state.context.pack ≡ as_carried) (quiet : x.end.endpoint_state.context.emitted.events ≡ [])
-      (same : z.end.endpoint_state.context ≡ x.end.endpoint_state.context) (none : packet_refusal tag received (state_of x) ≡ None) (numbers : NumbersFitIn (state_of x)) where
+      (same : z.end.endpoint_state.context ≡ named_context (rename (tags_of ps)) x.end.endpoint_state.context) (none : packet_refusal tag received (state_of x) ≡ None) (numbers : NumbersFitIn (state_of x)) where
     -- under names by which the reader's image receives it, or what does the same
     pub taken_as : (own other_tag : ℕ) (t c : ℕ → ℕ) → state_of z ≡ named_state (names ps own other_tag t c) (state_of x)
         → (on_chunks (m.tag tag) received_too z.end).endpoint_state ≡ (on_chunks (m.tag tag) (named_chunks (flip (names ps own other_tag t c)) received) z.end).endpoint_state

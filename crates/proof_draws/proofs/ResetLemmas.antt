@@ -120,7 +120,7 @@ module _ (n : Names) where
 -- ---- RE-CONFIG
 
 abbrev named_handling : {P : Type 0} → Names → Packing P → Handling P → Handling P
-named_handling n pack x = record { tcb = named_tcb n x.tcb; context = plain pack x.context; responses = map (named_parameter n) x.responses }
+named_handling n pack x = record { tcb = named_tcb n x.tcb; context = plain n pack x.context; responses = map (named_parameter n) x.responses }
 
 abbrev named_handled : {P : Type 0} → Names → Packing P → HandledParameters P → HandledParameters P
 named_handled n pack h = record { handling = named_handling n pack h.handling; is_whole = h.is_whole }
@@ -191,7 +191,7 @@ module _ {P : Type 0} (n : Names) (are : AreNames n) (pack : Packing P) where
 
   respond_named : (number result : ℕ) (x : Handling P) → respond (move_by n.peer number) result (named_handling n pack x) ≡ named_handling n pack (respond number result x)
   respond_named number result x =
-      ap (λ (rs : List ParameterTree). with_responses (named_tcb n x.tcb) (plain pack x.context) rs)
+      ap (λ (rs : List ParameterTree). with_responses (named_tcb n x.tcb) (plain n pack x.context) rs)
       (sym (map-append (named_parameter n) x.responses (reset_response number result None None ∷ [])))
 
   process_named : (number result : ℕ) (x : Handling P) → process (move_by n.peer number) result (named_handling n pack x) ≡ named_handling n pack (process number result x)
@@ -205,7 +205,7 @@ module _ {P : Type 0} (n : Names) (are : AreNames n) (pack : Packing P) where
       ∙ process_named number in_progress (record x { tcb = with_reassembly x.tcb (defer last_tsn streams x.tcb.reassembly) })
   resets_unless_named false number last_tsn streams x =
       let y : Handling P = named_handling n pack x in
-      ap (λ (r : Reassembly). process (move_by n.peer number) performed (record y { tcb = with_reassembly y.tcb r; context = plain pack (said streams x.context) })) (reset_named n streams x.tcb.reassembly)
+      ap (λ (r : Reassembly). process (move_by n.peer number) performed (record y { tcb = with_reassembly y.tcb r; context = plain n pack (said streams x.context) })) (reset_named n streams x.tcb.reassembly)
       ∙ process_named number performed (record x { tcb = with_reassembly x.tcb (reset streams x.tcb.reassembly); context = said streams x.context })
 
   resets_named : (number last_tsn : ℕ) (streams : List StreamId) (x : Handling P)
@@ -237,17 +237,17 @@ module _ {P : Type 0} (n : Names) (are : AreNames n) (pack : Packing P) where
 
   -- ---- an answer to the own one
 
-  on_outcome_named : (o : Outcome) (c : Context P) → on_outcome o (plain pack c) ≡ plain pack (on_outcome o c)
+  on_outcome_named : (o : Outcome) (c : Context P) → on_outcome o (plain n pack c) ≡ plain n pack (on_outcome o c)
   on_outcome_named Unsettled c = refl
   on_outcome_named (Done streams) c = refl
   on_outcome_named (Denied streams) c = refl
 
   response_named : (number result : ℕ) (x : Handling P) → number < u32_space → NumbersFit x.tcb.requests
-      → resets_rows.with_sent (on_response (move_by n.own number) result (named_tcb n x.tcb) (plain pack x.context)) (named_handling n pack x)
+      → resets_rows.with_sent (on_response (move_by n.own number) result (named_tcb n x.tcb) (plain n pack x.context)) (named_handling n pack x)
       ≡ named_handling n pack (resets_rows.with_sent (on_response number result x.tcb x.context) x)
   response_named number result x small h =
       let r : Requests = x.tcb.requests in
-      let after_it : Requests → Outcome → Handling P = λ q o. with_responses (with_requests (named_tcb n x.tcb) q) (on_outcome o (plain pack x.context)) (map (named_parameter n) x.responses) in
+      let after_it : Requests → Outcome → Handling P = λ q o. with_responses (with_requests (named_tcb n x.tcb) q) (on_outcome o (plain n pack x.context)) (map (named_parameter n) x.responses) in
       ap (λ (q : Requests). after_it q (outcome (move_by n.own number) result (option_map (named_request n) r.current))) (answered_in_named n r.current x.context.now (rto x.tcb.rtt) number result r small h.current)
       ∙ (ap (λ (o : Outcome). after_it (named_requests n (handle_response x.context.now (rto x.tcb.rtt) number result r)) o) (outcome_named n r.current number result small h.current)
       ∙ ap (λ (c : Context P). with_responses (with_requests (named_tcb n x.tcb) (named_requests n (handle_response x.context.now (rto x.tcb.rtt) number result r))) c (map (named_parameter n) x.responses))
@@ -287,7 +287,7 @@ module _ {P : Type 0} (n : Names) (are : AreNames n) (pack : Packing P) where
   -- ---- the row
 
   responses_named : (rs : List ParameterTree) (t : Tcb) (c : Context P) → Knows n pack c
-      → send_responses (map (named_parameter n) rs) (named_tcb n t) (plain pack c) ≡ plain pack (send_responses rs t c)
+      → send_responses (map (named_parameter n) rs) (named_tcb n t) (plain n pack c) ≡ plain n pack (send_responses rs t c)
   responses_named [] t c k = refl
   responses_named (r ∷ rs) t c k = named_emit_chunk n are pack (re_config_chunk (r ∷ rs)) t c k
 
@@ -296,13 +296,13 @@ module _ {P : Type 0} (n : Names) (are : AreNames n) (pack : Packing P) where
   finished_named true phase x k =
       let d : Context P = send_responses x.responses x.tcb x.context in
       let go : Bool → Context P → EndpointState P = λ b c. open_with (named_phase n phase) (send_buffered b (named_tcb n x.tcb) c) in
-      ap (λ (b : Bool). go b (send_responses (map (named_parameter n) x.responses) (named_tcb n x.tcb) (plain pack x.context))) (alone_named n phase)
+      ap (λ (b : Bool). go b (send_responses (map (named_parameter n) x.responses) (named_tcb n x.tcb) (plain n pack x.context))) (alone_named n phase)
       ∙ (ap (λ (c : Context P). go (is_before_cookie_ack phase) c) (responses_named x.responses x.tcb x.context k)
       ∙ ap (λ (s : AfterSending P). open_with (named_phase n phase) s) (send_buffered_named n are pack (is_before_cookie_ack phase) x.tcb d (responses_stay x.responses x.tcb x.context ∙ k)))
   finished_named false phase x k = refl
 
   pub reconfig_named : (ps : List ParameterTree) (phase : Phase) (t : Tcb) (c : Context P) → list_all number_fits ps ≡ true → NumbersFit t.requests → Knows n pack c
-      → on_reconfig (map (named_parameter (flip n)) ps) (named_phase n phase) (named_tcb n t) (plain pack c) ≡ named_endpoint_state n pack (on_reconfig ps phase t c)
+      → on_reconfig (map (named_parameter (flip n)) ps) (named_phase n phase) (named_tcb n t) (plain n pack c) ≡ named_endpoint_state n pack (on_reconfig ps phase t c)
   reconfig_named [] phase t c all h k = refl
   reconfig_named (p ∷ ps) phase t c all h k =
       let x : HandledParameters P = handle_all (p ∷ ps) false (handling t c) in

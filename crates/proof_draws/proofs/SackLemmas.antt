@@ -23,7 +23,7 @@ use Rattle.proof_draws.proofs.FillingLemmas.{named_sent, send_lost_named, send_b
 use Rattle.proof_endpoint.proofs.RowMapsLemmas.{received_with}
 
 abbrev pub named_onward : {P : Type 0} → Names → Packing P → PhaseStep P → PhaseStep P
-named_onward n pack o = record { phase = named_phase n o.phase; context = plain pack o.context }
+named_onward n pack o = record { phase = named_phase n o.phase; context = plain n pack o.context }
 
 module _ {P : Type 0} where
   pending_stays : (b : Bool) (t : Tcb) (c : Context P) → (pending_next b t c).context.pack ≡ c.pack
@@ -66,21 +66,21 @@ module _ {P : Type 0} (n : Names) where
 -- ---- the row
 
 module _ {P : Type 0} (n : Names) (are : AreNames n) (pack : Packing P) where
-  pub send_shutdown_named : (t : Tcb) (c : Context P) → Knows n pack c → send_shutdown (named_tcb n t) (plain pack c) ≡ plain pack (send_shutdown t c)
+  pub send_shutdown_named : (t : Tcb) (c : Context P) → Knows n pack c → send_shutdown (named_tcb n t) (plain n pack c) ≡ plain n pack (send_shutdown t c)
   send_shutdown_named t c k =
       let front : ℕ = t.tracker.tracker.seen.front in
-      ap (λ (w : ℕ). emit_chunk (shutdown_chunk w) (named_tcb n t) (plain pack c)) (moved_wire n.peer t.tracker.first front)
+      ap (λ (w : ℕ). emit_chunk (shutdown_chunk w) (named_tcb n t) (plain n pack c)) (moved_wire n.peer t.tracker.first front)
       ∙ named_emit_chunk n are pack (shutdown_chunk (tracker.wire_tsn t.tracker front)) t c k
 
-  pub pending_named : (b : Bool) (t : Tcb) (c : Context P) → Knows n pack c → pending_next b (named_tcb n t) (plain pack c) ≡ named_onward n pack (pending_next b t c)
+  pub pending_named : (b : Bool) (t : Tcb) (c : Context P) → Knows n pack c → pending_next b (named_tcb n t) (plain n pack c) ≡ named_onward n pack (pending_next b t c)
   pending_named true t c k = ap (λ (d : Context P). phase_step (ShutdownSent (t2_shutdown t c)) d) (send_shutdown_named t c k)
   pending_named false t c k = refl
 
-  received_named : (b : Bool) (t : Tcb) (c : Context P) → Knows n pack c → received_next b (named_tcb n t) (plain pack c) ≡ named_onward n pack (received_next b t c)
+  received_named : (b : Bool) (t : Tcb) (c : Context P) → Knows n pack c → received_next b (named_tcb n t) (plain n pack c) ≡ named_onward n pack (received_next b t c)
   received_named true t c k = ap (λ (d : Context P). phase_step (ShutdownAckSent (t2_shutdown t c)) d) (named_emit_chunk n are pack shutdown_ack_chunk t c k)
   received_named false t c k = refl
 
-  pub go_on_named : (phase : Phase) (t : Tcb) (c : Context P) → Knows n pack c → maybe_send_shutdown_or_ack (named_phase n phase) (named_tcb n t) (plain pack c) ≡ named_onward n pack (maybe_send_shutdown_or_ack phase t c)
+  pub go_on_named : (phase : Phase) (t : Tcb) (c : Context P) → Knows n pack c → maybe_send_shutdown_or_ack (named_phase n phase) (named_tcb n t) (plain n pack c) ≡ named_onward n pack (maybe_send_shutdown_or_ack phase t c)
   go_on_named (CookieEchoed t1 cookie) t c k = refl
   go_on_named Established t c k = refl
   go_on_named ShutdownPending t c k = pending_named (is_quiet t c) t c k
@@ -88,7 +88,7 @@ module _ {P : Type 0} (n : Names) (are : AreNames n) (pack : Packing P) where
   go_on_named ShutdownReceived t c k = received_named (is_quiet t c) t c k
   go_on_named (ShutdownAckSent t2) t c k = refl
 
-  send_after_named : (is_alone : Bool) (t : Tcb) (c : Context P) → Knows n pack c → send_after is_alone (named_tcb n t) (plain pack c) ≡ named_sent n pack (send_after is_alone t c)
+  send_after_named : (is_alone : Bool) (t : Tcb) (c : Context P) → Knows n pack c → send_after is_alone (named_tcb n t) (plain n pack c) ≡ named_sent n pack (send_after is_alone t c)
   send_after_named is_alone t c k =
       let x : AfterSending P = send_lost t c in
       ap (λ (y : AfterSending P). send_buffered is_alone y.tcb y.context) (send_lost_named n are pack t c k)
@@ -96,19 +96,19 @@ module _ {P : Type 0} (n : Names) (are : AreNames n) (pack : Packing P) where
 
   goes_on_named : (t : Tcb) (o : PhaseStep P) → Knows n pack o.context → acks.send_after_sack (named_tcb n t) (named_onward n pack o) ≡ named_endpoint_state n pack (acks.send_after_sack t o)
   goes_on_named t o k =
-      ap (λ (b : Bool). open_with (named_phase n o.phase) (send_after b (named_tcb n t) (plain pack o.context))) (alone_named n o.phase)
+      ap (λ (b : Bool). open_with (named_phase n o.phase) (send_after b (named_tcb n t) (plain n pack o.context))) (alone_named n o.phase)
       ∙ ap (λ (x : AfterSending P). open_with (named_phase n o.phase) x) (send_after_named (is_before_cookie_ack o.phase) t o.context k)
 
-  receives_named : (a : SackAnswer) (phase : Phase) (t : Tcb) (c : Context P) → Knows n pack c → after_sack a (named_phase n phase) (named_tcb n t) (plain pack c) ≡ named_endpoint_state n pack (after_sack a phase t c)
+  receives_named : (a : SackAnswer) (phase : Phase) (t : Tcb) (c : Context P) → Knows n pack c → after_sack a (named_phase n phase) (named_tcb n t) (plain n pack c) ≡ named_endpoint_state n pack (after_sack a phase t c)
   receives_named Invalid phase t c k = refl
   receives_named (Valid rtt is_progress) phase t c k =
       let d : Context P = clear_errors_if is_progress c in
       let v : Tcb = sample_rtt rtt t in
-      ap (λ (u : Tcb). acks.send_after_sack u (maybe_send_shutdown_or_ack (named_phase n phase) u (plain pack d))) (sampled_named n rtt t)
+      ap (λ (u : Tcb). acks.send_after_sack u (maybe_send_shutdown_or_ack (named_phase n phase) u (plain n pack d))) (sampled_named n rtt t)
       ∙ (ap (λ (o : PhaseStep P). acks.send_after_sack (named_tcb n v) o) (go_on_named phase v d k) ∙ goes_on_named v (maybe_send_shutdown_or_ack phase v d) (go_on_stays phase v d ∙ k))
 
   clean_sack_named : (m a_rwnd : ℕ) (bs : List GapAckBlock) (phase : Phase) (t : Tcb) (c : Context P) → Knows n pack c
-      → on_clean_sack m a_rwnd bs (named_phase n phase) (named_tcb n t) (plain pack c) ≡ named_endpoint_state n pack (on_clean_sack m a_rwnd bs phase t c)
+      → on_clean_sack m a_rwnd bs (named_phase n phase) (named_tcb n t) (plain n pack c) ≡ named_endpoint_state n pack (on_clean_sack m a_rwnd bs phase t c)
   clean_sack_named m a_rwnd bs phase t c k =
       let valid : Bool = is_valid m bs t.sender.outstanding.items in
       let late : Bool = is_late c.options m t.sender.outstanding.items in
@@ -117,17 +117,17 @@ module _ {P : Type 0} (n : Names) (are : AreNames n) (pack : Packing P) where
       let u : Emitted P = emitted_if valid m bs t.sender c.emitted in
       let s' : Sender = named_sender n t.sender in
       let p : Phase = named_phase n phase in
-      ap (λ (x : SackAnswer). received_with (sampled_unless late x) p (named_tcb n t) (plain pack c) (sender_if valid c.now m a_rwnd bs s' c.emitted) (emitted_if valid m bs s' c.emitted)) (answer_named n valid c.now m bs t.sender)
-      ∙ (ap (λ (x : Sender). received_with a p (named_tcb n t) (plain pack c) x (emitted_if valid m bs s' c.emitted)) (sender_named n valid c.now m a_rwnd bs t.sender c.emitted)
-      ∙ (ap (λ (x : Emitted P). received_with a p (named_tcb n t) (plain pack c) (named_sender n s) x) (emitted_named n valid m bs t.sender c.emitted)
+      ap (λ (x : SackAnswer). received_with (sampled_unless late x) p (named_tcb n t) (plain n pack c) (sender_if valid c.now m a_rwnd bs s' c.emitted) (emitted_if valid m bs s' c.emitted)) (answer_named n valid c.now m bs t.sender)
+      ∙ (ap (λ (x : Sender). received_with a p (named_tcb n t) (plain n pack c) x (emitted_if valid m bs s' c.emitted)) (sender_named n valid c.now m a_rwnd bs t.sender c.emitted)
+      ∙ (ap (λ (x : Emitted P). received_with a p (named_tcb n t) (plain n pack c) (named_sender n s) x) (emitted_named n valid m bs t.sender c.emitted)
       ∙ receives_named a phase (record t { sender = s }) (record c { emitted = u }) k))
 
   sack_in_named : (st : State) (h : SackTree) (c : Context P) → Knows n pack c
-      → on_sack_in (named_state n st) (named_sack (flip n) h) (plain pack c) ≡ named_endpoint_state n pack (on_sack_in st h c)
+      → on_sack_in (named_state n st) (named_sack (flip n) h) (plain n pack c) ≡ named_endpoint_state n pack (on_sack_in st h c)
   sack_in_named Closed h c k = refl
   sack_in_named (CookieWait tag first t1) h c k = refl
   sack_in_named (Open phase t) h c k =
-      ap (λ (m : ℕ). on_clean_sack m h.a_rwnd (clean_blocks h.gap_ack_blocks) (named_phase n phase) (named_tcb n t) (plain pack c)) (acked_number n t.sender.outstanding h.cumulative_tsn_ack)
+      ap (λ (m : ℕ). on_clean_sack m h.a_rwnd (clean_blocks h.gap_ack_blocks) (named_phase n phase) (named_tcb n t) (plain n pack c)) (acked_number n t.sender.outstanding h.cumulative_tsn_ack)
       ∙ clean_sack_named (number_of t.sender.outstanding h.cumulative_tsn_ack) h.a_rwnd (clean_blocks h.gap_ack_blocks) phase t c k
 
   pub named_on_sack : (h : SackTree) (s : EndpointState P) → Knows n pack s.context → on_sack (named_sack (flip n) h) (named_endpoint_state n pack s) ≡ named_endpoint_state n pack (on_sack h s)

@@ -21,12 +21,13 @@ use Rattle.spec_endpoint.specs.Packets.{packets_in}
 use Rattle.proof_pair.proofs.JoinLemmas.{Draw, Both, view_of, IsInitAck, Says}
 use Rattle.proof_pair.proofs.TraceLemmas.{SaysAll}
 use Rattle.proof_pair.proofs.AgreeLemmas.{is_load}
-use Rattle.proof_draws.specs.Names.{named_state}
+use Rattle.proof_draws.specs.Names.{named_state, named_context}
 use Rattle.proof_draws.specs.Images.{image}
-use Rattle.proof_draws.specs.Pairing.{names, Knows}
+use Rattle.proof_draws.specs.Pairing.{names, Knows, tags_of}
 use Rattle.proof_draws.proofs.NamesLemmas.{same_tie, names_in, TagsAre, state_by, are_names}
 use Rattle.proof_draws.proofs.ImageLemmas.{Mirrors, named, refused, emitted_under, asked_as, taken}
 use Rattle.proof_draws.proofs.TwinLemmas.{Holds, HoldsOne, IsTaken, IsEchoing, Numbers, Marked, Stand, Twins, Twin, twins_on, twins_both, AreMarked, twins_under}
+use Rattle.proof_draws.specs.Renamed.{rename}
 
 -- ---- what a call emits, by what it receives and leaves
 
@@ -257,7 +258,7 @@ module _ (ps : List (Drawn × Drawn)) (k : Knows ps) where
         record {
           tie = n.tie;
           state = ap (λ (w : EndpointState Carried). w.state) n.is ∙ state_after n n.ties;
-          context = ap (λ (w : EndpointState Carried). taken w.context) n.is ∙ ap (λ (w : _). record (taken e.endpoint_state.context) { pack = w }) (sym packing);
+          context = ap (λ (w : EndpointState Carried). taken w.context) n.is ∙ ap (λ (w : _). record (named_context (rename (tags_of ps)) (taken e.endpoint_state.context)) { pack = w }) (sym packing);
           emitted = subst (λ (fs : List (Event Carried)). Twins ps s u (x.emitted ++ es) (z.emitted ++ fs))
               (sym (ap (λ (w : EndpointState Carried). w.context.emitted.events) n.is))
               (twins_both ps s u x.emitted z.emitted es (emitted_under (names ps n.mine n.peer n.tie n.cookie_tie) es)

@@ -5,7 +5,7 @@ use Rattle.sctp_capabilities.specs.StateCookie.{Cookie, read_cookie}
 use Rattle.spec_endpoint.specs.Association.{Identity, Tcb, Phase, CookieEchoed, Established, ShutdownPending, ShutdownSent, ShutdownReceived, ShutdownAckSent, State, Closed, CookieWait, Open}
 use Rattle.spec_endpoint.specs.Sending.{is_before_cookie_ack}
 use Rattle.spec_endpoint.specs.Input.{my_tag, has_tag_in, abort_flag, complete_flag, has_shutdown_ack, has_data_chunk, begins_with_cookie, is_single_init, is_early, unless, plain_refusal, has_more_counted, unless_many, packet_refusal_by, packet_refusal}
-use Rattle.spec_endpoint.specs.Opening.{by_tags, new_if, resolve_by_tags, resolve_cookie, new_unless, may_restart, is_taken, is_taken_in, goes_on_behind, CookieResolution, EstablishNew, RestartDetected, SimultaneousInit, MaintainExisting, Discard, InvalidTag, as_restart}
+use Rattle.spec_endpoint.specs.Opening.{by_tags, new_if, resolve_by_tags, resolve_cookie, new_unless, may_restart, is_taken, is_taken_in, goes_on_behind, CookieResolution, EstablishNew, RestartDetected, SimultaneousInit, MaintainExisting, Discard, InvalidTag, as_restart, is_spent}
 use Rattle.sctp_capabilities.specs.declared.state_cookie.StateCookieError.{StateCookieError}
 use Rattle.proof_draws.specs.NamedCalls.{read_under}
 use Rattle.proof_draws.specs.NamedChunks.{Names, AreNames, named_chunks}
@@ -295,16 +295,24 @@ module _ (n : Names) (are : AreNames n) where
   taken_named Discard s = refl
   taken_named InvalidTag s = refl
 
-  taken_in_named : (tag : ℕ) (r : Result Cookie StateCookieError) (s : State)
-      → ((k : Cookie) → r ≡ Ok k → (phase : Phase) (t : Tcb) → s ≡ Open phase t → TiesTell n tag t.identity k)
-      → is_taken_in (n.tag tag) (read_under n r) (named_state n s) ≡ is_taken_in tag r s
-  taken_in_named tag (Ok k) s ties =
-      ap (λ (v : CookieResolution). is_taken v (named_state n s)) (judged_named true tag k s (ties k refl)) ∙ taken_named (resolve_cookie true tag k s) s
-  taken_in_named tag (Err fault) s ties = refl
+  pub is_spent_named : (avoids_stalls : Bool) (last : ℕ) (k : Cookie) (s : State)
+      → is_spent avoids_stalls (n.tag last) (named_cookie n k) (named_state n s) ≡ is_spent avoids_stalls last k s
+  is_spent_named avoids_stalls last k Closed = ap (λ (b : Bool). avoids_stalls && b) (are.apart k.my_tag last)
+  is_spent_named avoids_stalls last k (CookieWait my first t1) = refl
+  is_spent_named avoids_stalls last k (Open phase t) = refl
 
-  pub behind_named : (avoids_stalls : Bool) (tag : ℕ) (cookie : List ℕ) (s : State) → read_cookie (n.cookie cookie) ≡ read_under n (read_cookie cookie)
+  taken_in_named : (last tag : ℕ) (r : Result Cookie StateCookieError) (s : State)
+      → ((k : Cookie) → r ≡ Ok k → (phase : Phase) (t : Tcb) → s ≡ Open phase t → TiesTell n tag t.identity k)
+      → is_taken_in (n.tag last) (n.tag tag) (read_under n r) (named_state n s) ≡ is_taken_in last tag r s
+  taken_in_named last tag (Ok k) s ties =
+      ap (λ (b : Bool). not b && is_taken (resolve_cookie true (n.tag tag) (named_cookie n k) (named_state n s)) (named_state n s)) (is_spent_named true last k s)
+      ∙ ap (λ (b : Bool). not (is_spent true last k s) && b)
+      (ap (λ (v : CookieResolution). is_taken v (named_state n s)) (judged_named true tag k s (ties k refl)) ∙ taken_named (resolve_cookie true tag k s) s)
+  taken_in_named last tag (Err fault) s ties = refl
+
+  pub behind_named : (avoids_stalls : Bool) (last tag : ℕ) (cookie : List ℕ) (s : State) → read_cookie (n.cookie cookie) ≡ read_under n (read_cookie cookie)
       → ((k : Cookie) → read_cookie cookie ≡ Ok k → (phase : Phase) (t : Tcb) → s ≡ Open phase t → TiesTell n tag t.identity k)
-      → goes_on_behind avoids_stalls (n.tag tag) (n.cookie cookie) (named_state n s) ≡ goes_on_behind avoids_stalls tag cookie s
-  behind_named true tag cookie s reads ties =
-      ap (λ (r : Result Cookie StateCookieError). is_taken_in (n.tag tag) r (named_state n s)) reads ∙ taken_in_named tag (read_cookie cookie) s ties
-  behind_named false tag cookie s reads ties = refl
+      → goes_on_behind avoids_stalls (n.tag last) (n.tag tag) (n.cookie cookie) (named_state n s) ≡ goes_on_behind avoids_stalls last tag cookie s
+  behind_named true last tag cookie s reads ties =
+      ap (λ (r : Result Cookie StateCookieError). is_taken_in (n.tag last) (n.tag tag) r (named_state n s)) reads ∙ taken_in_named last tag (read_cookie cookie) s ties
+  behind_named false last tag cookie s reads ties = refl

@@ -53,7 +53,7 @@ module _ {P : Type 0} (v : Stream) where
   received_quiet : (o : Option (List ℕ)) (tag : ℕ) (chunk : ChunkTree) (e : Endpoint P) → is_flowing chunk ≡ true
       → received_unless o tag chunk (worded v e) ≡ received_as (received_unless o tag chunk e).allows_next (worded v (received_unless o tag chunk e).end)
   received_quiet (Some reason) tag chunk e h = refl
-  received_quiet None tag chunk e h = ap (λ (x : Endpoint P). received_as (allows_next e.endpoint_state.context.options.avoid_stalls tag e.endpoint_state.state chunk) x) (chunk_quiet tag chunk e h)
+  received_quiet None tag chunk e h = ap (λ (x : Endpoint P). received_as (allows_next e.endpoint_state.context.options.avoid_stalls e.endpoint_state.context.last_tag tag e.endpoint_state.state chunk) x) (chunk_quiet tag chunk e h)
 
   rest_quiet : (rest : Endpoint P → Endpoint P) (b : Bool) (e : Endpoint P) → rest (worded v e) ≡ worded v (rest e)
       → receive_rest rest (received_as b (worded v e)) ≡ worded v (receive_rest rest (received_as b e))
@@ -74,7 +74,7 @@ module _ {P : Type 0} where
   -- one that nothing forbids
   first_received : (tag : ℕ) (c : ChunkTree) (cs : List ChunkTree) (e : Endpoint P) → violation e.endpoint_state.state c ≡ None
       → receive_all tag (c ∷ cs) e
-      ≡ receive_rest (receive_all tag cs) (received_as (allows_next e.endpoint_state.context.options.avoid_stalls tag e.endpoint_state.state c) (on_chunk tag c e))
+      ≡ receive_rest (receive_all tag cs) (received_as (allows_next e.endpoint_state.context.options.avoid_stalls e.endpoint_state.context.last_tag tag e.endpoint_state.state c) (on_chunk tag c e))
   first_received tag c cs e allowed = ap (λ (o : Option (List ℕ)). receive_rest (receive_all tag cs) (received_unless o tag c e)) allowed
 
 init_allowed : (st : State) (i : InitTree) → violation st (init_chunk i) ≡ None
@@ -189,7 +189,8 @@ module _ {P : Type 0} (n : Names) (are : AreNames n) (pack : Packing P) where
   -- behind a first chunk that both take alike
   first_alike : (tag : ℕ) (c : ChunkTree) (cs : List ChunkTree) (s : EndpointState P) (w v : Stream)
       → violation s.state c ≡ None
-      → allows_next s.context.options.avoid_stalls (n.tag tag) (named_state n s.state) (named_chunk (flip n) c) ≡ allows_next s.context.options.avoid_stalls tag s.state c
+      → allows_next s.context.options.avoid_stalls (n.tag s.context.last_tag) (n.tag tag) (named_state n s.state) (named_chunk (flip n) c)
+      ≡ allows_next s.context.options.avoid_stalls s.context.last_tag tag s.state c
       → list_all is_flowing cs ≡ true
       → FitsFor cs (on_chunk tag c (with_random w s)).endpoint_state.state → Knows n pack (on_chunk tag c (with_random w s)).endpoint_state.context
       → (on_chunk (n.tag tag) (named_chunk (flip n) c) (with_random v (named_endpoint_state n pack s))).endpoint_state ≡ named_endpoint_state n pack (on_chunk tag c (with_random w s)).endpoint_state
@@ -199,7 +200,7 @@ module _ {P : Type 0} (n : Names) (are : AreNames n) (pack : Packing P) where
       let d : ChunkTree = named_chunk (flip n) c in
       let r : EndpointState P = named_endpoint_state n pack s in
       let y : Endpoint P = on_chunk (n.tag tag) d (with_random v r) in
-      let b : Bool = allows_next s.context.options.avoid_stalls tag s.state c in
+      let b : Bool = allows_next s.context.options.avoid_stalls s.context.last_tag tag s.state c in
       let here : receive_all tag (c ∷ cs) (with_random w s) ≡ receive_rest (receive_all tag cs) (received_as b x) = first_received tag c cs (with_random w s) allowed in
       let there : receive_all (n.tag tag) (named_chunks (flip n) (c ∷ cs)) (with_random v r) ≡ receive_rest (receive_all (n.tag tag) (named_chunks (flip n) cs)) (received_as b y) =
       first_received (n.tag tag) d (named_chunks (flip n) cs) (with_random v r) (violation_named n (flip n) s.state c ∙ allowed)
@@ -249,7 +250,7 @@ module _ {P : Type 0} (n : Names) (are : AreNames n) (pack : Packing P) where
       let after = cookie_after b tag cookie s.state s.context w v is in
       subst (λ (ds : List ChunkTree). HandledAlike n pack tag ds s w v) (sym e)
       (handled_alike tag (cookie_echo_chunk cookie ∷ rest) s w v
-      (first_alike tag (cookie_echo_chunk cookie) rest r w v (cookie_echo_allowed r.state cookie) (behind_named n are r.context.options.avoid_stalls tag cookie r.state after.reads after.ties) h
+      (first_alike tag (cookie_echo_chunk cookie) rest r w v (cookie_echo_allowed r.state cookie) (behind_named n are r.context.options.avoid_stalls r.context.last_tag tag cookie r.state after.reads after.ties) h
       (fits_for rest (on_chunk tag (cookie_echo_chunk cookie) (with_random w r)).endpoint_state.state (cookie_echo_fits tag cookie (with_random w r) is.first (repeats_if_fits b s f)))
       ((steps_cookie_echo tag cookie (with_random w r)).pack ∙ at)
       (cookie_echo_named n are pack tag cookie r w v after at)) k)

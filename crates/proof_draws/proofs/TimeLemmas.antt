@@ -23,13 +23,13 @@ use Rattle.proof_draws.proofs.ClosingLemmas.{acked_named, too_many_named}
 use Rattle.proof_endpoint.proofs.TimeMapsLemmas.{ticking_as}
 
 abbrev named_ticking : {P : Type 0} → Names → Packing P → Ticking P → Ticking P
-named_ticking n pack x = record { tcb = named_tcb n x.tcb; context = plain pack x.context; has_expired = x.has_expired }
+named_ticking n pack x = record { tcb = named_tcb n x.tcb; context = plain n pack x.context; has_expired = x.has_expired }
 
 abbrev named_left : {P : Type 0} → Names → Packing P → TimerOutcome P → TimerOutcome P
-named_left n pack x = record { tcb = named_tcb n x.tcb; context = plain pack x.context; has_ended = x.has_ended }
+named_left n pack x = record { tcb = named_tcb n x.tcb; context = plain n pack x.context; has_ended = x.has_ended }
 
-abbrev plain_waited : {P : Type 0} → Packing P → InitOutcome P → InitOutcome P
-plain_waited pack x = record { context = plain pack x.context; has_ended = x.has_ended }
+abbrev plain_waited : {P : Type 0} → Names → Packing P → InitOutcome P → InitOutcome P
+plain_waited n pack x = record { context = plain n pack x.context; has_ended = x.has_ended }
 
 -- ---- who writes stays
 
@@ -91,7 +91,7 @@ module _ {P : Type 0} (n : Names) (are : AreNames n) (pack : Packing P) where
   t3_named true x = refl
   t3_named false x = refl
 
-  beat_named : (b : Bool) (t : Tcb) (c : Context P) → Knows n pack c → send_heartbeat_if b (named_tcb n t) (plain pack c) ≡ plain pack (send_heartbeat_if b t c)
+  beat_named : (b : Bool) (t : Tcb) (c : Context P) → Knows n pack c → send_heartbeat_if b (named_tcb n t) (plain n pack c) ≡ plain n pack (send_heartbeat_if b t c)
   beat_named true t c k = let d : Context P = counted_on c in named_emit_chunk n are pack (heartbeat_chunk d.heartbeats.counter) t d k
   beat_named false t c k = refl
 
@@ -100,7 +100,7 @@ module _ {P : Type 0} (n : Names) (are : AreNames n) (pack : Packing P) where
       ap (λ (c : Context P). ticking_as (named_tcb n x.tcb) c (tick_interval x).has_expired)
       (beat_named (is_due x.context.now x.context.heartbeats.interval) x.tcb x.context k)
 
-  unanswered_if_named : (b : Bool) (c : Context P) → heartbeat_timeout_if b (plain pack c) ≡ plain pack (heartbeat_timeout_if b c)
+  unanswered_if_named : (b : Bool) (c : Context P) → heartbeat_timeout_if b (plain n pack c) ≡ plain n pack (heartbeat_timeout_if b c)
   unanswered_if_named true c = refl
   unanswered_if_named false c = refl
 
@@ -114,10 +114,10 @@ module _ {P : Type 0} (n : Names) (are : AreNames n) (pack : Packing P) where
   again_named false x k =
       let t : Tcb = record x.tcb { requests = lasting (rto x.tcb.rtt) x.tcb.requests } in
       let p : PacketDraft = new_packet x.context.options t in
-      ap (λ (q : PacketDraft). ticking_as (named_tcb n t) (emit q (plain pack x.context)) x.has_expired) (add_request_named n are pack t.requests.current p)
+      ap (λ (q : PacketDraft). ticking_as (named_tcb n t) (emit q (plain n pack x.context)) x.has_expired) (add_request_named n are pack t.requests.current p)
       ∙ ap (λ (d : Context P). ticking_as (named_tcb n t) d x.has_expired) (named_emit n are pack (add_request t.requests.current p) x.context k)
 
-  errs_named : (b : Bool) (c : Context P) → errs_if b (plain pack c) ≡ plain pack (errs_if b c)
+  errs_named : (b : Bool) (c : Context P) → errs_if b (plain n pack c) ≡ plain n pack (errs_if b c)
   errs_named true c = refl
   errs_named false c = refl
 
@@ -137,7 +137,7 @@ module _ {P : Type 0} (n : Names) (are : AreNames n) (pack : Packing P) where
       let is_error : Bool = is_unanswered x.tcb.requests.current in
       let r : Requests = expire_reconfig_timer x.context.now x.tcb.requests in
       let t : Tcb = record x.tcb { requests = clear_deferral r } in
-      let c : Context P = plain pack x.context in
+      let c : Context P = plain n pack x.context in
       let y : Ticking P = ticking_as t (errs_if is_error x.context) true in
       ap (λ (s : Requests). requests_again (ticking_as (with_requests (named_tcb n t) s) (errs_if (is_unanswered (option_map (named_request n) x.tcb.requests.current)) c) true)) (woken_named r)
       ∙ (ap (λ (b : Bool). requests_again (ticking_as (named_tcb n t) (errs_if b c) true)) (waits_named x.tcb.requests.current)
@@ -148,7 +148,7 @@ module _ {P : Type 0} (n : Names) (are : AreNames n) (pack : Packing P) where
   requests_if_named true x k = reconfig_timeout_named x k
   requests_if_named false x k = refl
 
-  ticked_named : (t : Tcb) (c : Context P) → Knows n pack c → tick_timers (named_tcb n t) (plain pack c) ≡ named_ticking n pack (tick_timers t c)
+  ticked_named : (t : Tcb) (c : Context P) → Knows n pack c → tick_timers (named_tcb n t) (plain n pack c) ≡ named_ticking n pack (tick_timers t c)
   unfolding tick_timers
   ticked_named t c k =
       let x : Ticking P = tick_ack (ticking t c) in
@@ -164,31 +164,31 @@ module _ {P : Type 0} (n : Names) (are : AreNames n) (pack : Packing P) where
 
   -- ---- what an expiry leads to
 
-  endpoint_state_if_named : (b : Bool) (phase : Phase) (t : Tcb) (c : Context P) → closed_if b (named_phase n phase) (named_tcb n t) (plain pack c) ≡ named_endpoint_state n pack (closed_if b phase t c)
+  endpoint_state_if_named : (b : Bool) (phase : Phase) (t : Tcb) (c : Context P) → closed_if b (named_phase n phase) (named_tcb n t) (plain n pack c) ≡ named_endpoint_state n pack (closed_if b phase t c)
   endpoint_state_if_named true phase t c = refl
   endpoint_state_if_named false phase t c = refl
 
   endpoint_state_left_named : (phase : Phase) (x y : TimerOutcome P) → y ≡ named_left n pack x → after_timers (named_phase n phase) y ≡ named_endpoint_state n pack (after_timers phase x)
   endpoint_state_left_named phase x y h = ap (λ (z : TimerOutcome P). after_timers (named_phase n phase) z) h ∙ endpoint_state_if_named x.has_ended phase x.tcb x.context
 
-  given_up_named : (t : Tcb) (c : Context P) → Knows n pack c → timer_outcome (named_tcb n t) (too_many (named_tcb n t) (plain pack c)).context true ≡ named_left n pack (timer_outcome t (too_many t c).context true)
+  given_up_named : (t : Tcb) (c : Context P) → Knows n pack c → timer_outcome (named_tcb n t) (too_many (named_tcb n t) (plain n pack c)).context true ≡ named_left n pack (timer_outcome t (too_many t c).context true)
   given_up_named t c k = ap (λ (s : EndpointState P). timer_outcome (named_tcb n t) s.context true) (too_many_named n are pack t c k)
 
-  ended_if_named : (b : Bool) (t : Tcb) (c : Context P) → Knows n pack c → abort_if b (named_tcb n t) (plain pack c) ≡ named_left n pack (abort_if b t c)
+  ended_if_named : (b : Bool) (t : Tcb) (c : Context P) → Knows n pack c → abort_if b (named_tcb n t) (plain n pack c) ≡ named_left n pack (abort_if b t c)
   ended_if_named true t c k = given_up_named t c k
   ended_if_named false t c k = refl
 
-  abort_if_exhausted_named : (t : Tcb) (c : Context P) → Knows n pack c → abort_if_exhausted (named_tcb n t) (plain pack c) ≡ named_left n pack (abort_if_exhausted t c)
+  abort_if_exhausted_named : (t : Tcb) (c : Context P) → Knows n pack c → abort_if_exhausted (named_tcb n t) (plain n pack c) ≡ named_left n pack (abort_if_exhausted t c)
   abort_if_exhausted_named t c k = ended_if_named (is_exhausted c.errors) t c k
 
-  or_sent_named : (b : Bool) (t : Tcb) (c : Context P) → Knows n pack c → abort_or_send_if b (named_tcb n t) (plain pack c) ≡ named_left n pack (abort_or_send_if b t c)
+  or_sent_named : (b : Bool) (t : Tcb) (c : Context P) → Knows n pack c → abort_or_send_if b (named_tcb n t) (plain n pack c) ≡ named_left n pack (abort_or_send_if b t c)
   or_sent_named true t c k = given_up_named t c k
   or_sent_named false t c k = ap (λ (x : AfterSending P). timer_outcome x.tcb x.context false) (send_buffered_named n are pack false t c k)
 
-  on_named : (t : Tcb) (c : Context P) → Knows n pack c → abort_or_send (named_tcb n t) (plain pack c) ≡ named_left n pack (abort_or_send t c)
+  on_named : (t : Tcb) (c : Context P) → Knows n pack c → abort_or_send (named_tcb n t) (plain n pack c) ≡ named_left n pack (abort_or_send t c)
   on_named t c k = or_sent_named (is_exhausted c.errors) t c k
 
-  settled_if_named : (b : Bool) (t : Tcb) (c : Context P) → Knows n pack c → after_ticks_if b (named_tcb n t) (plain pack c) ≡ named_left n pack (after_ticks_if b t c)
+  settled_if_named : (b : Bool) (t : Tcb) (c : Context P) → Knows n pack c → after_ticks_if b (named_tcb n t) (plain n pack c) ≡ named_left n pack (after_ticks_if b t c)
   settled_if_named true t c k = on_named t c k
   settled_if_named false t c k = refl
 
@@ -199,10 +199,10 @@ module _ {P : Type 0} (n : Names) (are : AreNames n) (pack : Packing P) where
 
   abbrev Again : (Tcb → Context P → Context P) → Type 0
   Again again =
-      (t : Tcb) (c : Context P) → Knows n pack c → (again (named_tcb n t) (plain pack c) ≡ plain pack (again t c)) × ((again t c).pack ≡ c.pack)
+      (t : Tcb) (c : Context P) → Knows n pack c → (again (named_tcb n t) (plain n pack c) ≡ plain n pack (again t c)) × ((again t c).pack ≡ c.pack)
 
   t2_expired_named : (b : Bool) (again : Tcb → Context P → Context P) → Again again → (t : Tcb) (c : Context P) → Knows n pack c
-      → t2_expired b again (named_tcb n t) (plain pack c) ≡ named_left n pack (t2_expired b again t c)
+      → t2_expired b again (named_tcb n t) (plain n pack c) ≡ named_left n pack (t2_expired b again t c)
   t2_expired_named true again h t c k = ap (λ (d : Context P). abort_or_send (named_tcb n t) d) (h t c k).0 ∙ on_named t (again t c) ((h t c k).1 ∙ k)
   t2_expired_named false again h t c k = given_up_named t c k
 
@@ -212,19 +212,19 @@ module _ {P : Type 0} (n : Names) (are : AreNames n) (pack : Packing P) where
   t2_if_named false now again h t2 x k = settled_named x k
 
   t2_named : (again : Tcb → Context P → Context P) → Again again → (t2 : Timer) (t : Tcb) (c : Context P) → Knows n pack c
-      → tick_t2 c.now again t2 (tick_timers (named_tcb n t) (plain pack c)) ≡ named_left n pack (tick_t2 c.now again t2 (tick_timers t c))
+      → tick_t2 c.now again t2 (tick_timers (named_tcb n t) (plain n pack c)) ≡ named_left n pack (tick_t2 c.now again t2 (tick_timers t c))
   t2_named again h t2 t c k =
       let x : Ticking P = tick_timers t c in
       ap (λ (y : Ticking P). tick_t2 c.now again t2 y) (ticked_named t c k) ∙ t2_if_named (is_due c.now t2) c.now again h t2 x (ticked_stays t c ∙ k)
 
   -- ---- T1-cookie
 
-  waits_unless_named : (b : Bool) (t : Tcb) (c : Context P) → Knows n pack c → waits_unless b (named_tcb n t) (plain pack c) ≡ named_left n pack (waits_unless b t c)
+  waits_unless_named : (b : Bool) (t : Tcb) (c : Context P) → Knows n pack c → waits_unless b (named_tcb n t) (plain n pack c) ≡ named_left n pack (waits_unless b t c)
   waits_unless_named true t c k = abort_if_exhausted_named t c k
   waits_unless_named false t c k = refl
 
   t1_expired_named : (b : Bool) (cookie : List ℕ) (t : Tcb) (c : Context P) → Knows n pack c
-      → t1_expired b (n.cookie cookie) (named_tcb n t) (plain pack c) ≡ named_left n pack (t1_expired b cookie t c)
+      → t1_expired b (n.cookie cookie) (named_tcb n t) (plain n pack c) ≡ named_left n pack (t1_expired b cookie t c)
   t1_expired_named true cookie t c k =
       let x : AfterSending P = send_cookie cookie t c in
       ap (λ (y : AfterSending P). echoed_again y) (send_cookie_named n are pack cookie t c k) ∙ abort_if_exhausted_named x.tcb x.context (send_cookie_stays cookie t c ∙ k)
@@ -236,30 +236,30 @@ module _ {P : Type 0} (n : Names) (are : AreNames n) (pack : Packing P) where
   t1_if_named false t1 cookie x k = waits_unless_named x.has_expired x.tcb x.context k
 
   cookie_named : (t1 : Timer) (cookie : List ℕ) (t : Tcb) (c : Context P) → Knows n pack c
-      → tick_cookie t1 (n.cookie cookie) (tick_ack (ticking (named_tcb n t) (plain pack c))) ≡ named_left n pack (tick_cookie t1 cookie (tick_ack (ticking t c)))
+      → tick_cookie t1 (n.cookie cookie) (tick_ack (ticking (named_tcb n t) (plain n pack c))) ≡ named_left n pack (tick_cookie t1 cookie (tick_ack (ticking t c)))
   cookie_named t1 cookie t c k = t1_if_named (is_due c.now t1) t1 cookie (tick_ack (ticking t c)) k
 
   -- ---- T1-init
 
   init_expired_named : (b : Bool) (tag first : ℕ) (c : Context P) → Knows n pack c
-      → init_expired b (n.tag tag) (move_by n.own first) (plain pack c) ≡ plain_waited pack (init_expired b tag first c)
+      → init_expired b (n.tag tag) (move_by n.own first) (plain n pack c) ≡ plain_waited n pack (init_expired b tag first c)
   init_expired_named true tag first c k = ap (λ (d : Context P). init_outcome d false) (named_send_init n are pack tag first c k)
   init_expired_named false tag first c k = refl
 
   init_if_named : (b : Bool) (tag first : ℕ) (t1 : Timer) (c : Context P) → Knows n pack c
-      → init_if b (n.tag tag) (move_by n.own first) t1 (plain pack c) ≡ plain_waited pack (init_if b tag first t1 c)
+      → init_if b (n.tag tag) (move_by n.own first) t1 (plain n pack c) ≡ plain_waited n pack (init_if b tag first t1 c)
   init_if_named true tag first t1 c k = init_expired_named (is_running (expire c.now t1)) tag first c k
   init_if_named false tag first t1 c k = refl
 
   waiting_unless_named : (b : Bool) (tag first : ℕ) (t1 : Timer) (c : Context P)
-      → waiting_unless b (n.tag tag) (move_by n.own first) t1 (plain pack c) ≡ named_endpoint_state n pack (waiting_unless b tag first t1 c)
+      → waiting_unless b (n.tag tag) (move_by n.own first) t1 (plain n pack c) ≡ named_endpoint_state n pack (waiting_unless b tag first t1 c)
   waiting_unless_named true tag first t1 c = refl
   waiting_unless_named false tag first t1 c = refl
 
   -- ---- by state
 
   settled_in_named : (phase : Phase) (t : Tcb) (c : Context P) → Knows n pack c
-      → after_timers (named_phase n phase) (after_ticks (tick_timers (named_tcb n t) (plain pack c))) ≡ named_endpoint_state n pack (after_timers phase (after_ticks (tick_timers t c)))
+      → after_timers (named_phase n phase) (after_ticks (tick_timers (named_tcb n t) (plain n pack c))) ≡ named_endpoint_state n pack (after_timers phase (after_ticks (tick_timers t c)))
   settled_in_named phase t c k =
       endpoint_state_left_named phase (after_ticks (tick_timers t c)) _ (ap (λ (x : Ticking P). after_ticks x) (ticked_named t c k) ∙ settled_named (tick_timers t c) (ticked_stays t c ∙ k))
 
@@ -269,7 +269,7 @@ module _ {P : Type 0} (n : Names) (are : AreNames n) (pack : Packing P) where
   acks_again : Again send_shutdown_ack
   acks_again t c k = (acked_named n are pack t c k, shutdown_ack_stays t c)
 
-  tick_open_named : (phase : Phase) (t : Tcb) (c : Context P) → Knows n pack c → tick_open (named_phase n phase) (named_tcb n t) (plain pack c) ≡ named_endpoint_state n pack (tick_open phase t c)
+  tick_open_named : (phase : Phase) (t : Tcb) (c : Context P) → Knows n pack c → tick_open (named_phase n phase) (named_tcb n t) (plain n pack c) ≡ named_endpoint_state n pack (tick_open phase t c)
   tick_open_named (CookieEchoed t1 cookie) t c k = endpoint_state_left_named (CookieEchoed (expire c.now t1) cookie) _ _ (cookie_named t1 cookie t c k)
   tick_open_named Established t c k = settled_in_named Established t c k
   tick_open_named ShutdownPending t c k = settled_in_named ShutdownPending t c k
@@ -277,7 +277,7 @@ module _ {P : Type 0} (n : Names) (are : AreNames n) (pack : Packing P) where
   tick_open_named ShutdownReceived t c k = settled_in_named ShutdownReceived t c k
   tick_open_named (ShutdownAckSent t2) t c k = endpoint_state_left_named (ShutdownAckSent (expire c.now t2)) _ _ (t2_named send_shutdown_ack acks_again t2 t c k)
 
-  tick_named : (st : State) (c : Context P) → Knows n pack c → tick_in (named_state n st) (plain pack c) ≡ named_endpoint_state n pack (tick_in st c)
+  tick_named : (st : State) (c : Context P) → Knows n pack c → tick_in (named_state n st) (plain n pack c) ≡ named_endpoint_state n pack (tick_in st c)
   tick_named Closed c k = refl
   tick_named (CookieWait tag first t1) c k =
       let x : InitOutcome P = tick_init tag first t1 c in

@@ -1,5 +1,5 @@
 -- Along two traces of the same actions: both ends are twins until an association first ends, and alike after the action that ends it.
-use Rattle.std.proofs.Common.{◌≡◌, Bool, true, false, List, [], ◌∷◌, ◌++◌, All, inl, inr, refl, sym, subst}
+use Rattle.std.proofs.Common.{◌≡◌, ℕ, ap, Bool, true, false, List, [], ◌∷◌, ◌++◌, All, inl, inr, refl, sym, subst}
 use Rattle.rand_core.specs.Stream.{Stream}
 use Rattle.sctp_state.specs.Options.{Options}
 use Rattle.spec_endpoint.specs.Laws.{endings}
@@ -159,8 +159,14 @@ module _ (ps : List (Drawn × Drawn)) (k : Knows ps) (law : EachCallIsNamed) (la
         (goes_by g.0 c.0 g.1 c.1 w v same.0 h kinds.0 same.1 follows.0 (λ d b m. among d b (has_front (d, b) now rest m)) (before_run es w1 none))
 
 -- two new ends
-first_twin : (ps : List (Drawn × Drawn)) (o q : Options) (w v s : Stream) → Twin ps (new_side o w) (new_side q s) (new_side o v)
-first_twin ps o q w v s = record { tie = same_tie; state = refl; context = refl; emitted = tt; asked = refl }
+first_twin : (ps : List (Drawn × Drawn)) → Knows ps → (o q : Options) (w v s : Stream) → Twin ps (new_side o w) (new_side q s) (new_side o v)
+first_twin ps k o q w v s = record {
+  tie = same_tie;
+  state = refl;
+  context = ap (λ (tag : ℕ). record (new_side o w).end.endpoint_state.context { last_tag = tag }) (sym k.renames.none);
+  emitted = tt;
+  asked = refl;
+}
 
 -- The first trace follows the rules, so that its packets are of a kind.
 pub traces_alike : EachCallIsNamed → EndsEmitEventOwn → ((ps : List (Drawn × Drawn)) → Knows ps → LateInitsAreNamed ps) → TracesAreAlike
@@ -173,6 +179,6 @@ traces_alike law emits late a b draws_a draws_b others_a others_b es fs e f give
     along ps k law (late ps k) emits a b given_a given_b es fs e f w v same follows none kinds (λ d c m. m)
     (record {
       halves = first_halves a b draws_a draws_b;
-      own = first_twin ps a b draws_a others_a draws_b;
-      other = first_twin ps b a draws_b others_b draws_a;
+      own = first_twin ps k a b draws_a others_a draws_b;
+      other = first_twin ps k b a draws_b others_b draws_a;
     })

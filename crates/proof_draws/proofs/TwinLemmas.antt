@@ -12,12 +12,13 @@ use Rattle.proof_pair.specs.Trace.{Side, state_of}
 use Rattle.proof_pair.specs.Agreement.{Draw}
 use Rattle.spec_endpoint.specs.Packets.{packets_in}
 use Rattle.proof_pair.proofs.AgreeLemmas.{is_load}
-use Rattle.proof_draws.specs.Names.{named_state}
+use Rattle.proof_draws.specs.Names.{named_state, named_context}
 use Rattle.proof_draws.specs.Images.{named_carried}
-use Rattle.proof_draws.specs.Pairing.{names, Knows}
+use Rattle.proof_draws.specs.Pairing.{names, Knows, tags_of}
 use Rattle.proof_draws.specs.Alike.{IsAlike, AreEventsAlike, AreAlike}
 use Rattle.proof_draws.proofs.NamesLemmas.{same_tie, names_in, are_names}
 use Rattle.proof_draws.proofs.ImageLemmas.{emitted_under}
+use Rattle.proof_draws.specs.Renamed.{rename}
 
 -- ---- whose numbers a packet holds
 
@@ -103,7 +104,7 @@ Twins ps s u (e ∷ es) (f ∷ fs) = IsTwin ps s u e f × Twins ps s u es fs
 pub record Twin (ps : List (Draw × Draw)) (x y z : Side) : Type 0 where
   pub tie : ℕ → ℕ
   pub state : state_of z ≡ named_state (names_in ps (state_of x) tie) (state_of x)
-  pub context : z.end.endpoint_state.context ≡ x.end.endpoint_state.context
+  pub context : z.end.endpoint_state.context ≡ named_context (rename (tags_of ps)) x.end.endpoint_state.context
   pub emitted : Twins ps (state_of x) (state_of y) x.emitted z.emitted
   pub asked : z.got_init ≡ x.got_init
 

@@ -56,24 +56,24 @@ abbrev pub Knows : {P : Type 0} → Names → Packing P → Context P → Type 0
 Knows n pack c = c.pack ≡ under n pack
 
 -- a packet that this one writes goes out
-abbrev sent_by : {P : Type 0} → Packing P → PacketDraft → Context P → Packing P → Context P
-sent_by pack p c w = record (emit_event_in (SendPacket (w.write (header_to c.options p.tag) p.is_summed p.chunks)) (plain pack c)) {
+abbrev sent_by : {P : Type 0} → Names → Packing P → PacketDraft → Context P → Packing P → Context P
+sent_by n pack p c w = record (emit_event_in (SendPacket (w.write (header_to c.options p.tag) p.is_summed p.chunks)) (plain n pack c)) {
   counts = record c.counts { tx_packets = more c.counts.tx_packets };
 }
 
 module _ {P : Type 0} (n : Names) (are : AreNames n) (pack : Packing P) where
-  named_emit_if : (b : Bool) (p : PacketDraft) (c : Context P) → Knows n pack c → emit_if b (named_packet n p) (plain pack c) ≡ plain pack (emit_if b p c)
-  named_emit_if true p c k = ap (λ (w : Packing P). sent_by pack p c w) (sym k)
+  named_emit_if : (b : Bool) (p : PacketDraft) (c : Context P) → Knows n pack c → emit_if b (named_packet n p) (plain n pack c) ≡ plain n pack (emit_if b p c)
+  named_emit_if true p c k = ap (λ (w : Packing P). sent_by n pack p c w) (sym k)
   named_emit_if false p c k = refl
 
-  pub named_emit : (p : PacketDraft) (c : Context P) → Knows n pack c → emit (named_packet n p) (plain pack c) ≡ plain pack (emit p c)
+  pub named_emit : (p : PacketDraft) (c : Context P) → Knows n pack c → emit (named_packet n p) (plain n pack c) ≡ plain n pack (emit p c)
   named_emit p c k =
-      ap (λ (b : Bool). emit_if b (named_packet n p) (plain pack c)) (some_in n are p) ∙ named_emit_if (has_chunks p) p c k
+      ap (λ (b : Bool). emit_if b (named_packet n p) (plain n pack c)) (some_in n are p) ∙ named_emit_if (has_chunks p) p c k
 
   pub named_emit_chunk : (chunk : ChunkTree) (t : Tcb) (c : Context P) → Knows n pack c
-      → emit_chunk (named_chunk n chunk) (named_tcb n t) (plain pack c) ≡ plain pack (emit_chunk chunk t c)
+      → emit_chunk (named_chunk n chunk) (named_tcb n t) (plain n pack c) ≡ plain n pack (emit_chunk chunk t c)
   named_emit_chunk chunk t c k =
-      ap (λ (p : PacketDraft). emit p (plain pack c)) (named_add n are chunk (new_packet c.options t)) ∙ named_emit (add chunk (new_packet c.options t)) c k
+      ap (λ (p : PacketDraft). emit p (plain n pack c)) (named_add n are chunk (new_packet c.options t)) ∙ named_emit (add chunk (new_packet c.options t)) c k
 
 -- writing goes on as it did
 emits_stay : {P : Type 0} (b : Bool) (p : PacketDraft) (c : Context P) → (emit_if b p c).pack ≡ c.pack

@@ -8,7 +8,7 @@ use Rattle.spec_endpoint.specs.Shown.{association_in}
 use Rattle.proof_endpoint.specs.Mapped.{Carried}
 use Rattle.proof_pair.specs.Trace.{Side, Pair, emitted_packets, EndAction, Calls, Gives, Refuses, as_received, act, goes, run, side_of, KeepsRules, NoAssociationHasEnded, AreValidOptions, start, state_of}
 use Rattle.proof_draws.specs.NamedChunks.{Names, AreNames}
-use Rattle.proof_draws.specs.Names.{named_state}
+use Rattle.proof_draws.specs.Names.{named_state, named_context}
 use Rattle.proof_draws.specs.Images.{named_carried}
 use Rattle.proof_draws.specs.Pairing.{AllDrawnTagsAreDistinct}
 
@@ -41,7 +41,7 @@ pub record AreAlike (x y : Side) : Type 0 where
   pub names : Names
   pub are : AreNames names
   pub state : state_of y ≡ named_state names (state_of x)
-  pub context : y.end.endpoint_state.context ≡ x.end.endpoint_state.context
+  pub context : y.end.endpoint_state.context ≡ named_context names.tag x.end.endpoint_state.context
   pub emitted : AreEventsAlike x.emitted y.emitted
   pub asked : y.got_init ≡ x.got_init
 

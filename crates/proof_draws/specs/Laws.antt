@@ -73,8 +73,8 @@ ForwardPointsAreNamed =
 abbrev pub BurstsAreNamed : Type 0
 BurstsAreNamed =
     (n : Names) → AreNames n → (pack : Packing (List ℕ)) (is_alone : Bool) (p : PacketDraft) (t : Tcb) (c : Context (List ℕ)) → c.pack ≡ under n pack
-    → send_with is_alone (named_packet n p) (named_tcb n t) (plain pack c)
-    ≡ after_sending (named_tcb n (send_with is_alone p t c).tcb) (plain pack (send_with is_alone p t c).context)
+    → send_with is_alone (named_packet n p) (named_tcb n t) (plain n pack c)
+    ≡ after_sending (named_tcb n (send_with is_alone p t c).tcb) (plain n pack (send_with is_alone p t c).context)
 
 -- ---- acknowledgements
 
@@ -95,20 +95,20 @@ abbrev pub AnswersAreNamed : Type 0
 AnswersAreNamed =
     (n : Names) → AreNames n → (pack : Packing (List ℕ)) (i : InitTree) (tag first tie : ℕ) (c : Context (List ℕ)) → Makes n (cookie_for i tag first tie)
     → c.pack ≡ under n pack
-    → answer (named_init (flip n) i) (n.tag tag) (move_by n.own first) (n.cookie_tie tie) (plain pack c) ≡ plain pack (answer i tag first tie c)
+    → answer (named_init (flip n) i) (n.tag tag) (move_by n.own first) (n.cookie_tie tie) (plain n pack c) ≡ plain n pack (answer i tag first tie c)
 
 -- a control block is made by a cookie that came back
 abbrev pub NewBlocksAreNamed : Type 0
 NewBlocksAreNamed =
     (n : Names) → AreNames n → (pack : Packing (List ℕ)) (resets : Bool) (k : Cookie) (tie : ℕ) (c : Context (List ℕ)) → c.pack ≡ under n pack
-    → anew resets (named_cookie n k) (n.tie tie) (plain pack c) ≡ named_endpoint_state n pack (anew resets k tie c)
+    → anew resets (named_cookie n k) (n.tie tie) (plain n pack c) ≡ named_endpoint_state n pack (anew resets k tie c)
 
 -- or by an INIT ACK, whose cookie is echoed
 abbrev pub EchoesAreNamed : Type 0
 EchoesAreNamed =
     (n : Names) → AreNames n → (pack : Packing (List ℕ)) (i : InitTree) (cookie : List ℕ) (me : Identity) (c : Context (List ℕ))
     → maker (n.cookie cookie) ≡ maker cookie → c.pack ≡ under n pack
-    → echo (named_init (flip n) i) (n.cookie cookie) (named_identity n me) (plain pack c) ≡ named_endpoint_state n pack (echo i cookie me c)
+    → echo (named_init (flip n) i) (n.cookie cookie) (named_identity n me) (plain n pack c) ≡ named_endpoint_state n pack (echo i cookie me c)
 
 -- ---- the end of an association, and of a packet
 

@@ -1,6 +1,6 @@
 -- An end under other names. The table knows tags by equality alone and numbers by their differences alone, so the end does the
 -- same; and its packets are the same, written under these names by the one who writes them.
-use Rattle.std.specs.Prelude.{option_map}
+use Rattle.std.specs.Prelude.{ℕ, option_map}
 use Rattle.rand_core.specs.Stream.{Stream}
 use Rattle.sctp_capabilities.specs.StateCookie.{Cookie}
 use Rattle.sctp_rx.specs.DataTracker.{DataTracker}
@@ -82,12 +82,16 @@ under n pack = record {
   word_of = pack.word_of;
 }
 
--- with this writer; nothing else in a context is drawn, and what was emitted stays
-abbrev pub plain : {P : Type 0} → Packing P → Context P → Context P
-plain pack c = record c { pack = pack }
+-- nothing else in a context is drawn
+abbrev pub named_context : {P : Type 0} → (tag : ℕ → ℕ) → Context P → Context P
+named_context tag c = record c { last_tag = tag c.last_tag }
+
+-- with this writer; what was emitted stays
+abbrev pub plain : {P : Type 0} → Names → Packing P → Context P → Context P
+plain n pack c = record (named_context n.tag c) { pack = pack }
 
 abbrev pub named_endpoint_state : {P : Type 0} → Names → Packing P → EndpointState P → EndpointState P
-named_endpoint_state n pack s = record { state = named_state n s.state; context = plain pack s.context }
+named_endpoint_state n pack s = record { state = named_state n s.state; context = plain n pack s.context }
 
 abbrev pub named_end : {P : Type 0} → Names → Packing P → Endpoint P → Endpoint P
 named_end n pack e = record e { endpoint_state = named_endpoint_state n pack e.endpoint_state }

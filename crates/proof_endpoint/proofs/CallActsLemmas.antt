@@ -25,7 +25,7 @@ use Rattle.spec_endpoint.specs.ResetRequests.{Request, Requests, performed, noth
 use Rattle.spec_endpoint.specs.Sending.{AfterSending, is_before_cookie_ack, open_with, send_unless, send_in}
 use Rattle.spec_endpoint.specs.Calls.{shown_state, send_refusal, send_refusal_of, offered, offer, sent_unless, send, offer_all, send_many, set_low_threshold, set_priority, set_max_message_size, take_message, message_taken_in, opens_window, told_if, without_first_message}
 use Rattle.spec_endpoint.specs.StreamReset.{Handling, handling, is_ahead, resets_unless, resets, outgoing_by, on_outgoing, incoming_if, is_outgoing, on_parameter, HandledParameters, handle_next, handle_all, send_responses, finish_reconfig_if, on_reconfig, unless_supported, reset_refusal, prepare_reset_stream, prepare_all, streams_reset_unless, reset_streams}
-use Rattle.spec_endpoint.specs.Handover.{readiness, left_in, left_if, hand_over, tcb_from, queue_restored, take_up, invalid_unless, restore_refusal_in, restored_as, restored_unless, restore, woken_if}
+use Rattle.spec_endpoint.specs.Handover.{readiness, left_in, left_if, hand_over, tcb_from, context_restored, take_up, invalid_unless, restore_refusal_in, restored_as, restored_unless, restore, woken_if}
 use Rattle.spec_endpoint.specs.Laws.{Call, SendMany, ResetStreams, TakeMessage, SetLowThreshold, SetPriority, SetMaxMessageSize, HandOver, Restore, Send}
 use Rattle.spec_endpoint.specs.Heartbeats.{restart_interval}
 use Rattle.sctp_tx.specs.RetransmissionQueue.{Sender, wake}
@@ -372,9 +372,9 @@ module _ {P : Type 0} {call : Call} {R : EndWithPacket P → EndWithPacket P →
 
   does_take_up : (h : HandoverState) (c : Context P) → call ≡ Restore h → is_valid_state h ≡ true → R (idle Closed c w) (placed (take_up h c) w)
   does_take_up h c is valid =
-      let x : AfterSending P = woken_if c.options.avoid_stalls (tcb_from c.now c.options h) (queue_restored h c) in
+      let x : AfterSending P = woken_if c.options.avoid_stalls (tcb_from c.now c.options h) (context_restored h c) in
       k.through (k.handover (takes_up h (idle Closed c w) is valid))
-      (k.through (does_woken c.options.avoid_stalls (tcb_from c.now c.options h) (queue_restored h c))
+      (k.through (does_woken c.options.avoid_stalls (tcb_from c.now c.options h) (context_restored h c))
       (does_send_buffered k Established w false x.tcb (emit_event_in OnConnected x.context)))
 
   does_taken_as : (how : HandoverSocketState) (h : HandoverState) (c : Context P) → call ≡ Restore h → is_valid_state h ≡ true

@@ -16,7 +16,7 @@ use Rattle.proof_endpoint.proofs.RestRunLemmas.{rested_end, rests}
 module _ {P : Type 0} (pack : Packing P) (a b : Stream) (m : Message) (o : SendOptions) (small : IsSmall m) where
   pub it_crosses : Crosses pack a b m o
   it_crosses = record {
-    accepted = ap (λ (s : Endpoint P). send_refusal_of m (drained s).endpoint_state) (opens pack a b) ∙ accepts_message pack m small;
+    accepted = ap (λ (s : Endpoint P). send_refusal_of m (drained s).endpoint_state) (opens pack a b) ∙ accepts_message pack a m small;
     sent = shows_by pack (sending pack a b m o) (sent_end pack a b m o) _ (Some (association a b)) [] (sends pack a b m o small) refl refl;
     came = shows_by pack (taking pack a b m o) (taken_end pack a b m o) _ (Some (association b a)) (m ∷ []) (takes_it pack a b m o small) refl refl;
   }

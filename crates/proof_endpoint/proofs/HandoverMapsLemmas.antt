@@ -8,7 +8,7 @@ use Rattle.sctp_state.specs.Handover.{HandoverState}
 use Rattle.spec_endpoint.specs.Association.{Tcb, Phase, CookieEchoed, Established, ShutdownPending, ShutdownSent, ShutdownReceived, ShutdownAckSent, State, Closed, CookieWait, Open, Context, EndpointState}
 use Rattle.spec_endpoint.specs.Packets.{emit_event_in}
 use Rattle.spec_endpoint.specs.Sending.{AfterSending, open_with, send_buffered}
-use Rattle.spec_endpoint.specs.Handover.{readiness_open, readiness, left_in, left_if, hand_over, tcb_from, queue_restored, take_up, restore_refusal_in, restored_as, restored_unless, restore, woken_if, goes_on}
+use Rattle.spec_endpoint.specs.Handover.{readiness_open, readiness, left_in, left_if, hand_over, tcb_from, context_restored, take_up, restore_refusal_in, restored_as, restored_unless, restore, woken_if, goes_on}
 use Rattle.proof_endpoint.specs.Mapped.{Mapping, map_context, map_endpoint_state}
 use Rattle.proof_endpoint.proofs.SendingMapsLemmas.{map_sent, maps_say, maps_send_buffered}
 use Rattle.proof_endpoint.proofs.RowMapsLemmas.{maps_in_state}
@@ -47,8 +47,8 @@ module _ {P Q : Type 0} (f : Mapping P Q) where
 
   maps_take_up : (h : HandoverState) (c : Context P) → take_up h (map_context f c) ≡ map_endpoint_state f (take_up h c)
   maps_take_up h c =
-      let x : AfterSending P = woken_if c.options.avoid_stalls (tcb_from c.now c.options h) (queue_restored h c) in
-      ap (λ (y : AfterSending Q). goes_on y) (maps_woken c.options.avoid_stalls (tcb_from c.now c.options h) (queue_restored h c))
+      let x : AfterSending P = woken_if c.options.avoid_stalls (tcb_from c.now c.options h) (context_restored h c) in
+      ap (λ (y : AfterSending Q). goes_on y) (maps_woken c.options.avoid_stalls (tcb_from c.now c.options h) (context_restored h c))
       ∙ (ap (λ (e : Context Q). open_with Established (send_buffered false x.tcb e)) (maps_say f OnConnected x.context)
       ∙ ap (λ (y : AfterSending Q). open_with Established y) (maps_send_buffered f false x.tcb (emit_event_in OnConnected x.context)))
 

@@ -7,7 +7,7 @@ use Rattle.sctp_state.specs.Events.{OnConnected, OnClosed}
 use Rattle.sctp_state.specs.Handover.{HandoverState}
 use Rattle.spec_endpoint.specs.Association.{Tcb, State, Closed, CookieWait, Open, Context, EndpointState}
 use Rattle.spec_endpoint.specs.Packets.{emit_event_in}
-use Rattle.spec_endpoint.specs.Handover.{readiness, left_in, left_if, hand_over, tcb_from, queue_restored, take_up, restore_refusal_in, restored_as, restored_unless, restore, woken_if}
+use Rattle.spec_endpoint.specs.Handover.{readiness, left_in, left_if, hand_over, tcb_from, context_restored, take_up, restore_refusal_in, restored_as, restored_unless, restore, woken_if}
 use Rattle.spec_endpoint.specs.Sending.{AfterSending}
 use Rattle.proof_endpoint.proofs.StepsLemmas.{Goes, Steps}
 use Rattle.proof_endpoint.proofs.GoesLemmas.{goes_silent, goes_same, goes_then, goes_said}
@@ -33,7 +33,7 @@ module _ {P : Type 0} where
 
   goes_take_up : (h : HandoverState) (c : Context P) → Goes 0 c (take_up h c).context
   goes_take_up h c =
-      let d : Context P = queue_restored h c in
+      let d : Context P = context_restored h c in
       let x : AfterSending P = woken_if c.options.avoid_stalls (tcb_from c.now c.options h) d in
       let e : Context P = emit_event_in OnConnected x.context in
       goes_then 0 c d (take_up h c).context (goes_silent c d refl refl refl)

@@ -108,7 +108,7 @@ module _ {P Q : Type 0} (f : Mapping P Q) where
       ap (λ (e : Endpoint Q). received_as false e)
       (maps_on_open (λ phase t c. abort_for_violation reason t c) (λ phase t c. abort_for_violation reason t c) s (λ phase t c. maps_abort_for_violation f reason t c))
   maps_received_unless None tag chunk s =
-      ap (λ (e : Endpoint Q). received_as (allows_next s.endpoint_state.context.options.avoid_stalls tag s.endpoint_state.state chunk) e) (maps_chunk tag chunk s)
+      ap (λ (e : Endpoint Q). received_as (allows_next s.endpoint_state.context.options.avoid_stalls s.endpoint_state.context.last_tag tag s.endpoint_state.state chunk) e) (maps_chunk tag chunk s)
 
   maps_receive : (tag : ℕ) (chunk : ChunkTree) (s : Endpoint P) → receive tag chunk (map_end f s) ≡ map_received f (receive tag chunk s)
   maps_receive tag chunk s = maps_received_unless (violation s.endpoint_state.state chunk) tag chunk s

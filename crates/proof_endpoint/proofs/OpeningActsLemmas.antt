@@ -13,10 +13,10 @@ use Rattle.sctp_state.specs.Events.{OnAborted}
 use Rattle.spec_endpoint.specs.Association.{Tcb, tcb, Phase, CookieEchoed, Established, ShutdownPending, ShutdownSent, ShutdownReceived, ShutdownAckSent, State, Closed, CookieWait, Open, Context, Endpoint}
 use Rattle.spec_endpoint.specs.Packets.{PacketDraft, fits, add, packet_to, new_packet, round_down_to_4, emit}
 use Rattle.spec_endpoint.specs.Sending.{is_before_cookie_ack}
-use Rattle.spec_endpoint.specs.Opening.{long_word, init_of, init_ack_of, next_first, send_init, t1_init, connect_in, connect, agreed_by, answers, answers_new, answers_again, on_init_open, on_init_in, on_init, cookie_in, without_cookie, t1_cookie, identity_of_init_ack, echo_or_abort, on_init_ack_in, on_init_ack, enter_connected, on_cookie_ack, CookieResolution, EstablishNew, RestartDetected, SimultaneousInit, MaintainExisting, Discard, InvalidTag, by_tags, new_if, new_unless, resolve_by_tags, resolve_cookie, cookie_ack, tcb_by, establishes as establishes_by, maintain_existing, too_late, restarts as restarts_by, restarts_in, on_resolution, on_read_cookie, on_cookie_echo, restarted, as_restart}
+use Rattle.spec_endpoint.specs.Opening.{long_word, init_of, init_ack_of, next_first, send_init, t1_init, connect_in, connect, agreed_by, answers, answers_new, answers_again, on_init_open, on_init_in, on_init, cookie_in, without_cookie, t1_cookie, identity_of_init_ack, echo_or_abort, on_init_ack_in, on_init_ack, enter_connected, on_cookie_ack, CookieResolution, EstablishNew, RestartDetected, SimultaneousInit, MaintainExisting, Discard, InvalidTag, by_tags, new_if, new_unless, resolve_by_tags, resolve_cookie, cookie_ack, tcb_by, establishes as establishes_by, maintain_existing, too_late, restarts as restarts_by, restarts_in, on_resolution, on_read_cookie, on_cookie_echo, restarted, as_restart, is_spent_at, spent_chunk, on_cookie_unless}
 use Rattle.spec_endpoint.specs.Laws.{Call, Connect}
 use Rattle.proof_endpoint.proofs.ReceivedLemmas.{FitsCookie, FitsRead, read_fits}
-use Rattle.proof_endpoint.proofs.OwnChunksLemmas.{fair_shutdown_ack, fair_too_late, fair_missing}
+use Rattle.proof_endpoint.proofs.OwnChunksLemmas.{fair_shutdown_ack, fair_too_late, fair_missing, fair_spent}
 use Rattle.proof_endpoint.specs.Acts.{EndWithPacket, at, no_packet, idle, calm, Fitting, IsAddressed, drawn_first, drawn_tag, drawn_tag_alone, drew_two, drew_one, echo_step, opened_by, BringsChunk, IsEchoed, IsBundled, an_init_alone, an_init_ack_alone, all_along, always, as_held, as_asked, adds_plain, connects, adds_init, answers_new as answers_new_act, answers_waiting, answers_echoed, answers_again as answers_again_act, echoes, establishes, opens, restarts, opens_again, maintains, adds_cookie_ack, Preserves}
 use Rattle.proof_endpoint.proofs.BundledLemmas.{added_more, one_bundled, first_more, plain_added}
 use Rattle.proof_endpoint.proofs.PacketActsLemmas.{new_addressed, whole_addressed, rounded_addressed, does_out, does_begin, does_plain, does_emit_error, does_send_with, does_send_buffered, does_send_cookie}
@@ -99,7 +99,7 @@ module _ {P : Type 0} {call : Call} {R : EndWithPacket P → EndWithPacket P →
   does_opened : (c : Context P) (w : Stream) (s : Endpoint P) → call ≡ Connect → R (calm (end_in Closed s)) (calm (connect_in Closed (end_in Closed s)))
   does_opened c w s is =
       let m : EndWithPacket P = calm (end_in Closed s) in
-      k.through (k.opening (connects m is)) (does_send_init (drawn_tag m) (drawn_first m) (t1_init m.context) m.context (drew_two m).draws)
+      k.through (k.opening (connects m is)) (does_send_init (drawn_tag m) (drawn_first m) (t1_init m.context) (record m.context { last_tag = drawn_tag m }) (drew_two m).draws)
 
   does_connect_in : (st : State) (s : Endpoint P) → call ≡ Connect → R (calm (end_in st s)) (calm (connect_in st (end_in st s)))
   does_connect_in Closed s is = does_opened s.endpoint_state.context s.draws s is
@@ -312,9 +312,17 @@ module _ {P : Type 0} {call : Call} {R : EndWithPacket P → EndWithPacket P →
         let is_late : Bool = s.endpoint_state.context.options.avoid_stalls && not (is_before_cookie_ack phase) in
         does_verdict_open is_late (as_restart is_late (resolve_by_tags tag t.identity a)) phase t s refl
 
+    does_cookie_unless : (b : Bool) (s : Endpoint P) → R (calm s) (calm (on_cookie_unless b tag a s))
+    does_cookie_unless true s =
+        let c : Context P = s.endpoint_state.context in
+        let p : PacketDraft = packet_to a.peer_tag c.options.mtu in
+        does_plain k spent_chunk p s.endpoint_state.state c s.draws refl refl (always refl)
+        (whole_addressed s.endpoint_state.state c s.draws p refl (λ f held. (echoed_fits tag a h f).peer_tag)) (λ f. fair_spent)
+    does_cookie_unless false s = does_judged s.endpoint_state.state s
+
   does_read_cookie : (tag : ℕ) (cookie : List ℕ) (r : Result Cookie StateCookieError) (s : Endpoint P) → BringsChunk call tag (cookie_echo_chunk cookie)
       → read_cookie cookie ≡ r → R (calm s) (calm (on_read_cookie tag r s))
-  does_read_cookie tag cookie (Ok a) s h is = does_judged tag a (record { cookie = cookie; received = h; reads = is }) s.endpoint_state.state s
+  does_read_cookie tag cookie (Ok a) s h is = does_cookie_unless tag a (record { cookie = cookie; received = h; reads = is }) (is_spent_at a s.endpoint_state) s
   does_read_cookie tag cookie (Err fault) s h is = does_emit_error k ParseFailed (refusal_text fault) s.endpoint_state.state s.endpoint_state.context s.draws
 
   pub does_cookie_echo : (tag : ℕ) (cookie : List ℕ) (s : Endpoint P) → BringsChunk call tag (cookie_echo_chunk cookie)

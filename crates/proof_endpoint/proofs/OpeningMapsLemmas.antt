@@ -12,7 +12,7 @@ use Rattle.spec_endpoint.specs.Heartbeats.{restart_interval}
 use Rattle.spec_endpoint.specs.Packets.{PacketDraft, add, packet_to, new_packet, round_down_to_4, emit_event_in, emit_error, emit}
 use Rattle.spec_endpoint.specs.Sending.{AfterSending, open_with, send_buffered, send_cookie}
 use Rattle.spec_endpoint.specs.Shutdown.{cleared_if, send_shutdown_ack, emptied_if}
-use Rattle.spec_endpoint.specs.Opening.{tsn_from, tag_from, word, drew_word, long_word, drew_long_word, with_endpoint_state, init_of, send_init, t1_init, waiting, connect_in, connect, agreed_by, init_ack_of, answer, answers, answers_new, next_first, answers_again, on_init_open, on_init_in, on_init, cookie_in, maker, without_cookie, queue_anew, t1_cookie, echo, identity_of_init_ack, echo_or_abort, on_init_ack_in, on_init_ack, enter_connected, establish, on_cookie_ack, CookieResolution, EstablishNew, RestartDetected, SimultaneousInit, MaintainExisting, Discard, InvalidTag, resolve_cookie, cookie_ack, queue_for, tcb_by, anew, establishes, maintain_existing, maintain_existing_in, too_late, restarts, restarts_in, restart, emit_parse_error, on_resolution, on_read_cookie, on_cookie_echo, restarted}
+use Rattle.spec_endpoint.specs.Opening.{tsn_from, tag_from, word, drew_word, long_word, drew_long_word, with_endpoint_state, init_of, send_init, t1_init, waiting, connect_in, connect, agreed_by, init_ack_of, answer, answers, answers_new, next_first, answers_again, on_init_open, on_init_in, on_init, cookie_in, maker, without_cookie, queue_anew, t1_cookie, echo, identity_of_init_ack, echo_or_abort, on_init_ack_in, on_init_ack, enter_connected, establish, on_cookie_ack, CookieResolution, EstablishNew, RestartDetected, SimultaneousInit, MaintainExisting, Discard, InvalidTag, resolve_cookie, cookie_ack, queue_for, tcb_by, anew, establishes, maintain_existing, maintain_existing_in, too_late, restarts, restarts_in, restart, emit_parse_error, on_resolution, on_read_cookie, on_cookie_echo, restarted, is_spent_at, spent_chunk, on_cookie_unless, refuse_spent}
 use Rattle.proof_endpoint.specs.Mapped.{Mapping, map_context, map_endpoint_state, map_end}
 use Rattle.proof_endpoint.proofs.SendingMapsLemmas.{map_sent, maps_say, maps_emit_error, maps_emit, maps_send_with, maps_send_buffered, maps_send_cookie}
 use Rattle.proof_endpoint.proofs.RowMapsLemmas.{endpoint_state_in, beating_as, OpenMaps, maps_in_state, maps_closed_by, maps_send_shutdown_ack, maps_emptied_in}
@@ -41,7 +41,9 @@ module _ {P Q : Type 0} (f : Mapping P Q) where
       maps_emit f (add (init_chunk (init_of c.options tag first (announced_parameters c.options c.options.zero_checksum_method))) (packet_to 0 c.options.mtu)) c
 
   maps_waiting : (tag first : ℕ) (c : Context P) → waiting tag first (map_context f c) ≡ map_endpoint_state f (waiting tag first c)
-  maps_waiting tag first c = maps_in_state f (CookieWait tag first (t1_init c)) (send_init tag first c) (send_init tag first (map_context f c)) (maps_send_init tag first c)
+  maps_waiting tag first c =
+      let d : Context P = record c { last_tag = tag } in
+      maps_in_state f (CookieWait tag first (t1_init c)) (send_init tag first d) (send_init tag first (map_context f d)) (maps_send_init tag first d)
 
   maps_connect_in : (st : State) (s : Endpoint P) → connect_in st (map_end f s) ≡ map_end f (connect_in st s)
   maps_connect_in Closed s =
@@ -155,7 +157,7 @@ module _ {P Q : Type 0} (f : Mapping P Q) where
 
   maps_anew : (resets : Bool) (k : Cookie) (tie : ℕ) (c : Context P) → anew resets k tie (map_context f c) ≡ map_endpoint_state f (anew resets k tie c)
   maps_anew resets k tie c =
-      let d : Context P = record c { queue = queue_for resets (negotiate c.options k.peer_capabilities).message_interleaving c.queue } in
+      let d : Context P = record c { queue = queue_for resets (negotiate c.options k.peer_capabilities).message_interleaving c.queue; last_tag = k.my_tag } in
       maps_acked_connected k.peer_tag (tcb_by c.options k tie) d
 
   maps_establishes : (resets : Bool) (k : Cookie) (c : Context P) (s : Endpoint P)
@@ -223,8 +225,14 @@ module _ {P Q : Type 0} (f : Mapping P Q) where
   maps_verdict Discard k s = refl
   maps_verdict InvalidTag k s = maps_emit_parse_error (codes "Received CookieEcho with invalid verification tag") s
 
+  maps_cookie_unless : (b : Bool) (tag : ℕ) (k : Cookie) (s : Endpoint P) → on_cookie_unless b tag k (map_end f s) ≡ map_end f (on_cookie_unless b tag k s)
+  maps_cookie_unless true tag k s =
+      let c : Context P = s.endpoint_state.context in
+      maps_stands_in s (refuse_spent k c) (refuse_spent k (map_context f c)) (maps_emit f (add spent_chunk (packet_to k.peer_tag c.options.mtu)) c)
+  maps_cookie_unless false tag k s = maps_verdict (resolve_cookie s.endpoint_state.context.options.avoid_stalls tag k s.endpoint_state.state) k s
+
   maps_read_cookie : (tag : ℕ) (r : Result Cookie StateCookieError) (s : Endpoint P) → on_read_cookie tag r (map_end f s) ≡ map_end f (on_read_cookie tag r s)
-  maps_read_cookie tag (Ok k) s = maps_verdict (resolve_cookie s.endpoint_state.context.options.avoid_stalls tag k s.endpoint_state.state) k s
+  maps_read_cookie tag (Ok k) s = maps_cookie_unless (is_spent_at k s.endpoint_state) tag k s
   maps_read_cookie tag (Err fault) s = maps_emit_parse_error (refusal_text fault) s
 
   pub maps_cookie_echo : (tag : ℕ) (cookie : List ℕ) (s : Endpoint P) → on_cookie_echo tag cookie (map_end f s) ≡ map_end f (on_cookie_echo tag cookie s)

@@ -64,7 +64,7 @@ own_taken chunk tag s no_abort no_end no_ack no_cookie some own = rw (one_counte
 module _ {P : Type 0} (pack : Packing P) where
   abbrev pub waiting : Stream → Endpoint P
   waiting a = record {
-    endpoint_state = record { state = CookieWait (tag_of a) (first_of a) (t1_init (context defaults pack)); context = counted pack 0 1 };
+    endpoint_state = record { state = CookieWait (tag_of a) (first_of a) (t1_init (context defaults pack)); context = record (counted pack 0 1) { last_tag = tag_of a } };
     draws = drawn a;
   }
 
@@ -96,17 +96,17 @@ module _ {P : Type 0} (pack : Packing P) where
   block mine peer a_rwnd = tcb defaults (identity_of mine peer) a_rwnd (agreed defaults defaults)
 
   -- with the association open
-  abbrev pub open_a : (rx tx : ℕ) → Context P
-  open_a rx tx = record (counted pack rx tx) { peer = DcsctpRs; heartbeats = restart_interval 0 (heartbeats defaults) }
+  abbrev pub open_a : (a : Stream) (rx tx : ℕ) → Context P
+  open_a a rx tx = record (counted pack rx tx) { peer = DcsctpRs; last_tag = tag_of a; heartbeats = restart_interval 0 (heartbeats defaults) }
 
-  abbrev pub open_b : (rx tx : ℕ) → Context P
-  open_b rx tx = record (counted pack rx tx) { heartbeats = restart_interval 0 (heartbeats defaults) }
+  abbrev pub open_b : (b : Stream) (rx tx : ℕ) → Context P
+  open_b b rx tx = record (counted pack rx tx) { last_tag = tag_of b; heartbeats = restart_interval 0 (heartbeats defaults) }
 
   abbrev pub echoed : (a b : Stream) → Endpoint P
   echoed a b = record {
     endpoint_state = record {
       state = Open (CookieEchoed (t1_cookie (context defaults pack)) (cookie_bytes (cookie_of a b))) (block a b 5242880);
-      context = record (counted pack 1 2) { peer = DcsctpRs };
+      context = record (counted pack 1 2) { peer = DcsctpRs; last_tag = tag_of a };
     };
     draws = (next_u64 (drawn a)).1;
   }
@@ -136,7 +136,7 @@ module _ {P : Type 0} (pack : Packing P) where
 
   abbrev pub opened_b : (a b : Stream) → Endpoint P
   opened_b a b = record {
-    endpoint_state = record { state = Open Established (block b a 2000000); context = open_b 2 2 };
+    endpoint_state = record { state = Open Established (block b a 2000000); context = open_b b 2 2 };
     draws = (next_u64 (drawn b)).1;
   }
 
@@ -151,7 +151,7 @@ module _ {P : Type 0} (pack : Packing P) where
 
   abbrev pub opened_a : (a b : Stream) → Endpoint P
   opened_a a b = record {
-    endpoint_state = record { state = Open Established (block a b 5242880); context = open_a 2 2 };
+    endpoint_state = record { state = Open Established (block a b 5242880); context = open_a a 2 2 };
     draws = (next_u64 (drawn a)).1;
   }
 

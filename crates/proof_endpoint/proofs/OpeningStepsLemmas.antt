@@ -10,7 +10,7 @@ use Rattle.sctp_state.specs.Events.{OnConnected, OnConnectionRestarted, OnAborte
 use Rattle.spec_endpoint.specs.Association.{Identity, Tcb, tcb, Phase, CookieEchoed, Established, ShutdownPending, ShutdownSent, ShutdownReceived, ShutdownAckSent, State, Closed, CookieWait, Open, Context, EndpointState, Endpoint}
 use Rattle.spec_endpoint.specs.Packets.{PacketDraft, add, packet_to, new_packet, round_down_to_4, emit_error, emit}
 use Rattle.spec_endpoint.specs.Shutdown.{send_shutdown_ack, emptied_if}
-use Rattle.spec_endpoint.specs.Opening.{tsn_from, tag_from, word, drew_word, long_word, init_of, send_init, connect_in, connect, agreed_by, init_ack_of, answer, answers, answers_new, next_first, answers_again, on_init_open, on_init_in, on_init, cookie_in, maker, without_cookie, queue_anew, echo, identity_of_init_ack, echo_or_abort, on_init_ack_in, on_init_ack, enter_connected, establish, on_cookie_ack, CookieResolution, EstablishNew, RestartDetected, SimultaneousInit, MaintainExisting, Discard, InvalidTag, resolve_cookie, cookie_ack, queue_for, tcb_by, anew, establishes, maintain_existing, maintain_existing_in, too_late, restarts, restarts_in, restart, emit_parse_error, on_resolution, on_read_cookie, on_cookie_echo, restarted}
+use Rattle.spec_endpoint.specs.Opening.{tsn_from, tag_from, word, drew_word, long_word, init_of, send_init, connect_in, connect, agreed_by, init_ack_of, answer, answers, answers_new, next_first, answers_again, on_init_open, on_init_in, on_init, cookie_in, maker, without_cookie, queue_anew, echo, identity_of_init_ack, echo_or_abort, on_init_ack_in, on_init_ack, enter_connected, establish, on_cookie_ack, CookieResolution, EstablishNew, RestartDetected, SimultaneousInit, MaintainExisting, Discard, InvalidTag, resolve_cookie, cookie_ack, queue_for, tcb_by, anew, establishes, maintain_existing, maintain_existing_in, too_late, restarts, restarts_in, restart, emit_parse_error, on_resolution, on_read_cookie, on_cookie_echo, restarted, is_spent_at, spent_chunk, on_cookie_unless, refuse_spent}
 use Rattle.spec_endpoint.specs.Laws.{ends}
 use Rattle.proof_endpoint.proofs.StepsLemmas.{most_bytes, Goes, Steps, EndSteps}
 use Rattle.proof_endpoint.proofs.GoesLemmas.{IsSmall, small_empty, small_add, small_new, small_whole, rounded_down_le, goes_silent, goes_same, goes_then, goes_said, goes_emit_error, goes_emit, goes_by}
@@ -32,7 +32,12 @@ module _ {P : Type 0} where
       goes_emit (add chunk p) c (small_add (most_bytes c) p chunk (small_whole c p refl refl))
 
   steps_connect_in : (st : State) (s : Endpoint P) → EndSteps (end_in st s) (connect_in st (end_in st s))
-  steps_connect_in Closed s = goes_send_init (tag_from (word (drew_word s))) (tsn_from (word s)) s.endpoint_state.context
+  steps_connect_in Closed s =
+      let tag : ℕ = tag_from (word (drew_word s)) in
+      let first : ℕ = tsn_from (word s) in
+      let c : Context P = s.endpoint_state.context in
+      let d : Context P = record c { last_tag = tag } in
+      goes_then 0 c d (send_init tag first d) (goes_silent c d refl refl refl) (goes_send_init tag first d)
   steps_connect_in (CookieWait tag first t1) s = goes_same s.endpoint_state.context
   steps_connect_in (Open phase t) s = goes_same s.endpoint_state.context
 
@@ -133,7 +138,7 @@ module _ {P : Type 0} where
 
   goes_anew : (resets : Bool) (k : Cookie) (tie : ℕ) (c : Context P) → Goes 0 c (anew resets k tie c).context
   goes_anew resets k tie c =
-      let d : Context P = record c { queue = queue_for resets (negotiate c.options k.peer_capabilities).message_interleaving c.queue } in
+      let d : Context P = record c { queue = queue_for resets (negotiate c.options k.peer_capabilities).message_interleaving c.queue; last_tag = k.my_tag } in
       let e : Context P = enter_connected d in
       goes_then 0 c d (anew resets k tie c).context (goes_silent c d refl refl refl)
       (goes_then 0 d e (anew resets k tie c).context (goes_connected d) (goes_cookie_ack k.peer_tag (tcb_by c.options k tie) e))
@@ -205,8 +210,15 @@ module _ {P : Type 0} where
   steps_verdict Discard k s = steps_same s.endpoint_state
   steps_verdict InvalidTag k s = steps_emit_parse_error (codes "Received CookieEcho with invalid verification tag") s
 
+  steps_cookie_unless : (b : Bool) (tag : ℕ) (k : Cookie) (s : Endpoint P) → EndSteps s (on_cookie_unless b tag k s)
+  steps_cookie_unless true tag k s =
+      let c : Context P = s.endpoint_state.context in
+      let p : PacketDraft = packet_to k.peer_tag c.options.mtu in
+      steps_context s.endpoint_state (refuse_spent k c) (goes_emit (add spent_chunk p) c (small_add (most_bytes c) p spent_chunk (small_whole c p refl refl)))
+  steps_cookie_unless false tag k s = steps_verdict (resolve_cookie s.endpoint_state.context.options.avoid_stalls tag k s.endpoint_state.state) k s
+
   steps_read_cookie : (tag : ℕ) (r : Result Cookie StateCookieError) (s : Endpoint P) → EndSteps s (on_read_cookie tag r s)
-  steps_read_cookie tag (Ok k) s = steps_verdict (resolve_cookie s.endpoint_state.context.options.avoid_stalls tag k s.endpoint_state.state) k s
+  steps_read_cookie tag (Ok k) s = steps_cookie_unless (is_spent_at k s.endpoint_state) tag k s
   steps_read_cookie tag (Err fault) s = steps_emit_parse_error (refusal_text fault) s
 
   pub steps_cookie_echo : (tag : ℕ) (cookie : List ℕ) (s : Endpoint P) → EndSteps s (on_cookie_echo tag cookie s)

@@ -1,5 +1,5 @@
 -- Chunks that an end makes of what it has are fair.
-use Rattle.std.proofs.Common.{◌≡◌, ℕ, zero, suc, ◌==◌, ◌^◌, ◌<◌, Bool, true, false, not, Option, Some, None, List, [], ◌∷◌, ◌++◌, refl, subst, arith}
+use Rattle.std.proofs.Common.{◌≡◌, ℕ, zero, suc, ◌==◌, ◌^◌, ◌<◌, Bool, true, false, not, Option, Some, None, List, [], ◌∷◌, ◌++◌, refl, subst, arith, codes}
 use Rattle.std.specs.Prelude.{nat_lt}
 use Rattle.std.specs.List.{list_all}
 use Rattle.std.specs.Str.{IsUtf8, IsAscii}
@@ -23,6 +23,7 @@ use Rattle.proof_endpoint.specs.Fair.{IsFairParameter, IsFairCause, IsFair}
 use Rattle.proof_endpoint.proofs.ReceivedLemmas.{each_append, each_push}
 use Rattle.proof_endpoint.proofs.SoundItemsLemmas.{word_small}
 use Rattle.sctp_serial.proofs.NumberLemmas.{fits_or_zero}
+use Rattle.spec_endpoint.specs.Opening.{spent_chunk}
 
 -- ---- texts
 
@@ -85,6 +86,9 @@ fair_user_abort text h = record { fits = tt; text = is_text text h; of_its_varia
 
 pub fair_abort : (cause : CauseTree) → IsFairCause cause → IsFair (abort_chunk false (cause ∷ []))
 fair_abort cause h = record { fits = tt; inside = (h, tt) }
+
+pub fair_spent : IsFair spent_chunk
+fair_spent = fair_abort (user_initiated_abort (codes "The association is over")) (fair_user_abort (codes "The association is over") refl)
 
 pub fair_error : (cause : CauseTree) → IsFairCause cause → IsFair (error_chunk (cause ∷ []))
 fair_error cause h = record { fits = tt; inside = (h, tt) }

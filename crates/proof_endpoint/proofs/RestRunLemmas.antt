@@ -43,7 +43,7 @@ module _ {P : Type 0} (pack : Packing P) (a b : rng.Stream) (m : Message) (lifet
     tcb = sent_tcb pack a b m o
 
     abbrev received_context : Context P
-    received_context = record (open_a pack 3 3) { queue = emptied m o; counts = record { rx_packets = 3; tx_packets = 3; tx_messages = 1 } }
+    received_context = record (open_a pack a 3 3) { queue = emptied m o; counts = record { rx_packets = 3; tx_packets = 3; tx_messages = 1 } }
 
     abbrev acked_sender : Sender
     acked_sender = handle_sack {P = P} 0 4294967296 window [] tcb.sender nothing_emitted

@@ -67,18 +67,18 @@ data_fits tsn is_summed tag f few =
     ∙ le-leb (length (chunk_bytes (data_chunk tsn false f))) (room p) (omega (arith, long, few, no_bytes))
 
 -- the queue takes it
-pub accepts_message : {P : Type 0} (pack : Packing P) (m : Message) → IsSmall m → send_refusal m Connected (open_a pack 2 2) ≡ None
-accepts_message pack m small = simp (not_zero (length m.payload) small.some, not_large (length m.payload) small.few) refl
+pub accepts_message : {P : Type 0} (pack : Packing P) (a : rng.Stream) (m : Message) → IsSmall m → send_refusal m Connected (open_a pack a 2 2) ≡ None
+accepts_message pack a m small = simp (not_zero (length m.payload) small.some, not_large (length m.payload) small.few) refl
 
 module _ {P : Type 0} (pack : Packing P) (a b : rng.Stream) (m : Message) (o : SendOptions) where
   -- ---- queued
 
   abbrev holding_context : Queue → Context P
-  holding_context q = record (open_a pack 2 2) { queue = q; counts = record { rx_packets = 2; tx_packets = 2; tx_messages = 1 } }
+  holding_context q = record (open_a pack a 2 2) { queue = q; counts = record { rx_packets = 2; tx_packets = 2; tx_messages = 1 } }
 
   offers : IsSmall m → send m o (opened_a pack a b).endpoint_state ≡ where_open send_in (with_context (opened_a pack a b).endpoint_state (holding_context (holding m o)))
   offers small =
-      ap (λ (r : Option SendError). sent_unless r (with_context (opened_a pack a b).endpoint_state (offered r m o (open_a pack 2 2)))) (accepts_message pack m small)
+      ap (λ (r : Option SendError). sent_unless r (with_context (opened_a pack a b).endpoint_state (offered r m o (open_a pack a 2 2)))) (accepts_message pack a m small)
       ∙ ap (λ (q : Queue). where_open send_in (with_context (opened_a pack a b).endpoint_state (holding_context q))) (queues m o small.some)
 
   -- ---- its fragment
@@ -153,7 +153,7 @@ module _ {P : Type 0} (pack : Packing P) (a b : rng.Stream) (m : Message) (o : S
   sent_end = record {
     endpoint_state = record {
       state = Open Established sent_tcb;
-      context = record (open_a pack 2 3) { queue = emptied m o; counts = record { rx_packets = 2; tx_packets = 3; tx_messages = 1 } };
+      context = record (open_a pack a 2 3) { queue = emptied m o; counts = record { rx_packets = 2; tx_packets = 3; tx_messages = 1 } };
     };
     draws = (next_u64 (drawn a)).1;
   }

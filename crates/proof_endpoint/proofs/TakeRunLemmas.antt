@@ -71,7 +71,7 @@ module _ {P : Type 0} (pack : Packing P) (a b : rng.Stream) (m : Message) (o : S
   first = first_of a
 
   abbrev received_context : Context P
-  received_context = open_b pack 3 2
+  received_context = open_b pack b 3 2
 
   abbrev tracker_with : Tracker → DataTracker
   tracker_with t = record { first = first; tracker = t }
@@ -117,7 +117,7 @@ module _ {P : Type 0} (pack : Packing P) (a b : rng.Stream) (m : Message) (o : S
   acked_with chunk = open_with Established (send_with false (add chunk (new_packet defaults filled_tcb)) acked_tcb received_context)
 
   abbrev pub taken_end : Endpoint P
-  taken_end = record { endpoint_state = record { state = Open Established acked_tcb; context = open_b pack 3 3 }; draws = (next_u64 (drawn b)).1 }
+  taken_end = record { endpoint_state = record { state = Open Established acked_tcb; context = open_b pack b 3 3 }; draws = (next_u64 (drawn b)).1 }
 
   acknowledges : on_packet_end Established filled_tcb received_context ≡ (emitting (packet_event pack (sack_packet a m) ∷ []) taken_end).endpoint_state
   unfolding be16 be32 padded_item chunk_bytes chunks_bytes chunk_value sack_value

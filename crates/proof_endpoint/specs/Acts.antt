@@ -46,7 +46,7 @@ use Rattle.spec_endpoint.specs.Sack.{clean_blocks, timed_by}
 use Rattle.spec_endpoint.specs.Calls.{shown_state, send_refusal, refuse, accept, set_low_threshold, set_priority, set_max_message_size}
 use Rattle.spec_endpoint.specs.Calls as calls
 use Rattle.spec_endpoint.specs.StreamReset.{is_ahead, on_outcome, prepare_reset_stream}
-use Rattle.spec_endpoint.specs.Handover.{tcb_from, queue_restored}
+use Rattle.spec_endpoint.specs.Handover.{tcb_from, context_restored}
 use Rattle.spec_endpoint.specs.Input.{misuse, at_end, count_packet}
 use Rattle.spec_endpoint.specs.Laws.{Call, Connect, Shutdown, Send, SendMany, ResetStreams, TakeMessage, SetLowThreshold, SetPriority, SetMaxMessageSize, Advance, HandOver, Restore, ReceivePacket as Given, ReceiveNoPacket, ending, endings, is_closed}
 use Rattle.proof_endpoint.specs.Sound.{FitsState}
@@ -241,7 +241,10 @@ echo_step i cookie tag first m = record (drew_long m) {
 abbrev pub opened_by : {P : Type 0} → (resets : Bool) → Cookie → EndWithPacket P → EndWithPacket P
 opened_by resets k m = record (drew_long m) {
   state = Open Established (tcb_by m.context.options k (long_word (end_of m)));
-  context = enter_connected (record m.context { queue = queue_for resets (negotiate m.context.options k.peer_capabilities).message_interleaving m.context.queue });
+  context = enter_connected (record m.context {
+    queue = queue_for resets (negotiate m.context.options k.peer_capabilities).message_interleaving m.context.queue;
+    last_tag = k.my_tag;
+  });
 }
 
 abbrev pub is_opened : State → Bool
@@ -299,7 +302,8 @@ before_opening (maintains tag k t1 cookie t m echoed resolution) = in_open (Cook
 before_opening (adds_cookie_ack tag back phase t m echoed late) = in_open phase t m
 
 abbrev pub after_opening : {P : Type 0} {call : Call} → OpeningAct P call → EndWithPacket P
-after_opening (connects m is) = in_state (CookieWait (drawn_tag m) (drawn_first m) (t1_init m.context)) (drew_two m)
+after_opening (connects m is) =
+    in_state (CookieWait (drawn_tag m) (drawn_first m) (t1_init m.context)) (with_context (record m.context { last_tag = drawn_tag m }) (drew_two m))
 after_opening (adds_init tag first t1 m to) = with_init tag first (in_state (CookieWait tag first t1) m)
 after_opening (answers_new tag i m received to) = with_init_ack i (drawn_tag m) (drawn_first m) 0 (in_state Closed (drew_two m))
 after_opening (answers_waiting tag i my_tag first t1 m received to) = with_init_ack i my_tag first 0 (in_state (CookieWait my_tag first t1) m)
@@ -615,7 +619,7 @@ before_handover (takes_up h m is valid) = in_state Closed m
 abbrev pub after_handover : {P : Type 0} {call : Call} → HandoverAct P call → EndWithPacket P
 after_handover (leaves phase t m is) = in_state Closed (with_context (emit_event_in OnClosed m.context) m)
 after_handover (takes_up h m is valid) =
-    in_open Established (tcb_from m.context.now m.context.options h) (with_context (emit_event_in OnConnected (queue_restored h m.context)) m)
+    in_open Established (tcb_from m.context.now m.context.options h) (with_context (emit_event_in OnConnected (context_restored h m.context)) m)
 
 -- ---- the end of a packet
 

@@ -32,7 +32,7 @@ use Rattle.sctp_tx_queue.specs.Again.{again, entries_again}
 use Rattle.spec_endpoint.specs.Association.{Identity, Tcb, tcb, Established, Closed, Open, Context, context, EndpointState, fresh, Packing}
 use Rattle.spec_endpoint.specs.Packets.{emit_event_in}
 use Rattle.spec_endpoint.specs.Sending.{AfterSending}
-use Rattle.spec_endpoint.specs.Handover.{readiness, handover_state, handed_over, hand_over, method_if, tcb_from, queue_restored, woken_if, goes_on, restore}
+use Rattle.spec_endpoint.specs.Handover.{readiness, handover_state, handed_over, hand_over, method_if, tcb_from, context_restored, woken_if, goes_on, restore}
 use Rattle.proof_endpoint.specs.Lifecycles.{one_if}
 
 -- ---- what each end with an association has
@@ -113,12 +113,12 @@ abbrev pub block_again : Tcb → Context (List ℕ) → Tcb
 block_again t c = tcb_from c.now c.options (handover_state t c)
 
 abbrev pub context_again : Tcb → Context (List ℕ) → Packing (List ℕ) → Words → Context (List ℕ)
-context_again t c pack draws = emit_event_in OnConnected (queue_restored (handover_state t c) (successor c pack draws).context)
+context_again t c pack draws = emit_event_in OnConnected (context_restored (handover_state t c) (successor c pack draws).context)
 
 -- and with stalls avoided, its timers started
 abbrev pub woken_again : Tcb → Context (List ℕ) → Packing (List ℕ) → Words → AfterSending (List ℕ)
 woken_again t c pack draws =
-    woken_if c.options.avoid_stalls (block_again t c) (queue_restored (handover_state t c) (successor c pack draws).context)
+    woken_if c.options.avoid_stalls (block_again t c) (context_restored (handover_state t c) (successor c pack draws).context)
 
 -- The items come back under their TSNs, with what the record doesn't hold read anew.
 pub record ItemsComeBack (now : ℕ) (d after : Outstanding) : Type 0 where

@@ -46,6 +46,7 @@ map_context f c = record {
   heartbeats = c.heartbeats;
   counts = c.counts;
   peer = c.peer;
+  last_tag = c.last_tag;
   emitted = map_emitted f c.emitted;
   pack = record { write = λ header is_summed chunks. f.of (c.pack.write header is_summed chunks); word_of = f.word_of };
 }

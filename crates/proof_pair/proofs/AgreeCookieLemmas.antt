@@ -10,16 +10,16 @@ use Rattle.sctp_state.specs.Events.{Event, OnConnected, OnConnectionRestarted}
 use Rattle.sctp_state.specs.Options.{Options}
 use Rattle.sctp_state.specs.declared.api.ErrorKind.TheVariants.{ParseFailed, WrongSequence}
 use Rattle.spec_endpoint.specs.Association.{Tcb, Phase, CookieEchoed, Established, ShutdownPending, ShutdownSent, ShutdownReceived, ShutdownAckSent, State, Closed, CookieWait, Open, Context, Endpoint}
-use Rattle.spec_endpoint.specs.Packets.{PacketDraft, new_packet, fits, add, emit}
-use Rattle.spec_endpoint.specs.Opening.{long_word, enter_connected, cookie_ack, tcb_by, establishes, CookieResolution, EstablishNew, RestartDetected, SimultaneousInit, MaintainExisting, Discard, InvalidTag, new_if, resolve_cookie, resolve_by_tags, by_tags, maintain_existing, too_late, restarts_in, on_resolution, new_unless, restarted as restarted_in, as_restart}
+use Rattle.spec_endpoint.specs.Packets.{PacketDraft, new_packet, fits, add, emit, packet_to}
+use Rattle.spec_endpoint.specs.Opening.{long_word, enter_connected, cookie_ack, tcb_by, establishes, CookieResolution, EstablishNew, RestartDetected, SimultaneousInit, MaintainExisting, Discard, InvalidTag, new_if, resolve_cookie, resolve_by_tags, by_tags, maintain_existing, too_late, restarts_in, on_resolution, new_unless, restarted as restarted_in, as_restart, spent_chunk, refuse_spent, on_cookie_unless}
 use Rattle.spec_endpoint.specs.Laws.{ReceiveNoPacket}
 use Rattle.proof_endpoint.specs.Mapped.{Carried}
 use Rattle.proof_endpoint.proofs.OpeningStepsLemmas.{end_in}
-use Rattle.proof_endpoint.specs.Acts.{at, no_packet, idle, calm, is_opened, all_along, as_held, adds_plain, Preserves}
+use Rattle.proof_endpoint.specs.Acts.{at, no_packet, idle, calm, is_opened, all_along, as_held, adds_plain, Preserves, always}
 use Rattle.proof_pair.specs.Trace.{AreValidOptions}
 use Rattle.proof_pair.specs.Agreement.{Draw, Association, mirrored, Has, History, association_of, held_in, AreDistinct}
 use Rattle.proof_endpoint.proofs.BundledLemmas.{added_more, first_more, plain_added}
-use Rattle.proof_endpoint.proofs.PacketActsLemmas.{new_addressed, whole_addressed, does_begin, does_out, does_emit_error, does_send_with}
+use Rattle.proof_endpoint.proofs.PacketActsLemmas.{new_addressed, whole_addressed, does_begin, does_out, does_emit_error, does_send_with, does_plain}
 use Rattle.proof_endpoint.proofs.OpeningActsLemmas.{accepting, maintained_alone}
 use Rattle.proof_pair.proofs.AgreeLemmas.{Past, View, holds, view_of, own_in, peer_in, SaysEcho, SaysAck, Holds, Tagged, Later, later_same, one_draw}
 use Rattle.proof_pair.proofs.AgreeActsLemmas.{Setting, Inv, InvAt, inv_view, inv_silent, inv_later, inv_grown, inv_bound, adds, inv_no_packet_or_status}
@@ -271,7 +271,7 @@ module _ (o : Options) (past : List (Event Carried)) (y : Past) (fine : AreValid
     judged_unless true b st s inv = goes_held g y n echoed (end_in st s) known inv
     judged_unless false b st s inv = judged_new b st s inv
 
-    pub does_judged : (st : State) (s : Endpoint Carried) → InvAt g x y (calm (end_in st s))
+    does_judged : (st : State) (s : Endpoint Carried) → InvAt g x y (calm (end_in st s))
         → Goes g y n echoed (noted [] (on_resolution (resolve_cookie s.endpoint_state.context.options.avoid_stalls tag k st) k (end_in st s)).endpoint_state.state n)
         (on_resolution (resolve_cookie s.endpoint_state.context.options.avoid_stalls tag k st) k (end_in st s))
     does_judged Closed s inv = judged_new (tag == k.my_tag) Closed s inv
@@ -280,3 +280,15 @@ module _ (o : Options) (past : List (Event Carried)) (y : Past) (fine : AreValid
     does_judged (Open phase t) s inv =
         let is_late : Bool = s.endpoint_state.context.options.avoid_stalls && not (is_before_cookie_ack phase) in
         judged_open is_late (as_restart is_late (resolve_by_tags tag t.identity k)) phase t s refl inv
+
+    -- a closed end refuses one of its last association
+    spent : (st : State) (s : Endpoint Carried) → InvAt g x y (calm (end_in st s)) → InvAt g x y (idle st (refuse_spent k s.endpoint_state.context) s.draws)
+    spent st s inv =
+        let c : Context Carried = s.endpoint_state.context in
+        let p : PacketDraft = packet_to k.peer_tag c.options.mtu in
+        does_plain quiet_here spent_chunk p st c s.draws refl refl (always refl) (whole_addressed st c s.draws p refl (λ f held. absurd (f.some refl))) (λ f. absurd (f.some refl)) inv
+
+    pub does_cookie : (b : Bool) (st : State) (s : Endpoint Carried) → InvAt g x y (calm (end_in st s))
+        → Goes g y n echoed (noted [] (on_cookie_unless b tag k (end_in st s)).endpoint_state.state n) (on_cookie_unless b tag k (end_in st s))
+    does_cookie true st s inv = goes_held g y n echoed (on_cookie_unless true tag k (end_in st s)) known (spent st s inv)
+    does_cookie false st s inv = does_judged st s inv

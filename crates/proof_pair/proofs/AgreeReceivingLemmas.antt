@@ -15,7 +15,7 @@ use Rattle.sctp_state.specs.Timer.{Timer}
 use Rattle.spec_endpoint.specs.Association.{Tcb, tcb, Phase, CookieEchoed, Established, ShutdownPending, ShutdownSent, ShutdownReceived, ShutdownAckSent, State, Closed, CookieWait, Open, Context, Endpoint}
 use Rattle.spec_endpoint.specs.Packets.{PacketDraft, packet_to, round_down_to_4, add, emit}
 use Rattle.spec_endpoint.specs.Sending.{send_cookie}
-use Rattle.spec_endpoint.specs.Opening.{word, drew_word, long_word, tag_from, tsn_from, next_first, answer, identity_of_init_ack, agreed_by, cookie_in, t1_cookie, enter_connected, echo_or_abort as echoed_by, on_read_cookie}
+use Rattle.spec_endpoint.specs.Opening.{word, drew_word, long_word, tag_from, tsn_from, next_first, answer, identity_of_init_ack, agreed_by, cookie_in, t1_cookie, enter_connected, echo_or_abort as echoed_by, on_read_cookie, is_spent_at}
 use Rattle.spec_endpoint.specs.Input.{receive}
 use Rattle.spec_endpoint.specs.Laws.{Call, ReceivePacket as Given, ReceiveNoPacket}
 use Rattle.proof_endpoint.specs.Mapped.{Carried}
@@ -32,7 +32,7 @@ use Rattle.proof_pair.proofs.AgreeActsLemmas.{Setting, Inv, InvAt, inv_grown, in
 use Rattle.proof_pair.proofs.AgreeQuietLemmas.{opens_nothing, Quiet, quiet}
 use Rattle.proof_pair.proofs.AgreeNotesLemmas.{noted}
 use Rattle.proof_pair.proofs.AgreeOpeningLemmas.{Known, kept_quiet, drawn_fits, again_fits, does_answer, does_echo, does_establish}
-use Rattle.proof_pair.proofs.AgreeCookieLemmas.{past_of, bounded, Goes, has_behind, goes_held, does_judged}
+use Rattle.proof_pair.proofs.AgreeCookieLemmas.{past_of, bounded, Goes, has_behind, goes_held, does_cookie}
 use Rattle.proof_pair.proofs.TraceLemmas.{packet_of}
 
 -- ---- a packet whose chunks don't open an association
@@ -286,7 +286,8 @@ module _ (o : Options) (past : List (Event Carried)) (y : Past) (fine : AreValid
       → InvAt (bounded o past None None) (past_of n e1) y (calm (end_in st s))
       → Goes (bounded o past None None) y n e1 (noted [] (on_read_cookie p.header.verification_tag r (end_in st s)).endpoint_state.state n)
       (on_read_cookie p.header.verification_tag r (end_in st s))
-  read_as (Ok a) st s reads inv = does_judged o past y fine n e1 known p.header.verification_tag cookie said a reads mine theirs st s inv
+  read_as (Ok a) st s reads inv =
+      does_cookie o past y fine n e1 known p.header.verification_tag cookie said a reads mine theirs (is_spent_at a (end_in st s).endpoint_state) st s inv
   read_as (Err fault) st s reads inv =
       goes_held (bounded o past None None) y n e1 (on_read_cookie p.header.verification_tag (Err fault) (end_in st s)) known
       (does_emit_error (kept_quiet (bounded o past None None) y fine (past_of n e1)) ParseFailed (refusal_text fault) st s.endpoint_state.context s.draws inv)

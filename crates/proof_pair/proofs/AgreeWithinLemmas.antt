@@ -17,7 +17,7 @@ use Rattle.spec_endpoint.specs.Packets.{PacketDraft, packet_to, round_down_to_4,
 use Rattle.spec_endpoint.specs.Data.{on_data_if}
 use Rattle.spec_endpoint.specs.Sack as acknowledging
 use Rattle.spec_endpoint.specs.StreamReset.{Handling, finish_reconfig_if}
-use Rattle.spec_endpoint.specs.Opening.{CookieResolution, EstablishNew, RestartDetected, SimultaneousInit, MaintainExisting, Discard, InvalidTag, new_if, resolve_by_tags, cookie_in, echo_or_abort, on_resolution, on_read_cookie, new_unless, as_restart}
+use Rattle.spec_endpoint.specs.Opening.{CookieResolution, EstablishNew, RestartDetected, SimultaneousInit, MaintainExisting, Discard, InvalidTag, new_if, resolve_by_tags, cookie_in, echo_or_abort, on_resolution, on_read_cookie, new_unless, as_restart, spent_chunk, on_cookie_unless, is_spent_at}
 use Rattle.sctp_rx.specs.DataTracker.{is_ack_due}
 use Rattle.spec_endpoint.specs.Sending.{take_due_ack, is_before_cookie_ack}
 use Rattle.spec_endpoint.specs.Input.{AfterChunk, receive, received_unless, receive_all, receive_rest, violation, on_chunk, in_endpoint_state, ack_if_due, at_end, packet_acked, shut_waiting, shut_if, on_packet_end}
@@ -27,7 +27,7 @@ use Rattle.proof_endpoint.proofs.OpeningStepsLemmas.{end_in}
 use Rattle.proof_endpoint.specs.Acts.{idle, calm, is_opened, BringsChunk, always, Preserves}
 use Rattle.proof_pair.specs.Trace.{has_connected}
 use Rattle.proof_pair.specs.Agreement.{Association, Has, History, association_of, held_in, drawn_for}
-use Rattle.proof_endpoint.proofs.PacketActsLemmas.{rounded_addressed, does_plain}
+use Rattle.proof_endpoint.proofs.PacketActsLemmas.{rounded_addressed, does_plain, whole_addressed}
 use Rattle.proof_endpoint.proofs.RowActsLemmas.{does_closed, does_where_open}
 use Rattle.proof_endpoint.proofs.ActsLemmas.{does_receive, does_ended}
 use Rattle.proof_pair.proofs.AddedLemmas.{all_at}
@@ -237,10 +237,20 @@ module _ (p : PacketTree) where
   judged_unless true b k st s none h = absurd (both_ways true (sym h ∙ none) refl)
   judged_unless false b k st s none h = judged_new b k st s none h
 
+  judged_spent : (b : Bool) (k : Cookie) (s : Endpoint Carried) → has_connected s.endpoint_state.context.emitted.events ≡ false
+      → Stands (on_cookie_unless b tag k (end_in Closed s))
+  judged_spent true k s none h =
+      let c : Context Carried = s.endpoint_state.context in
+      let q : PacketDraft = packet_to k.peer_tag c.options.mtu in
+      not_yet (end_in Closed s) (on_cookie_unless true tag k (end_in Closed s)) none
+      (does_plain (rests ReceiveNoPacket no_packet_brings_no_opening) spent_chunk q Closed c s.draws refl refl (always refl)
+      (whole_addressed Closed c s.draws q refl (λ f held. absurd (f.some refl))) (λ f. absurd (f.some refl))) h
+  judged_spent false k s none h = judged_new (tag == k.my_tag) k Closed s none h
+
   read_as : (r : Result Cookie StateCookieError) (st : State) (s : Endpoint Carried) → has_connected s.endpoint_state.context.emitted.events ≡ false
       → Stands (on_read_cookie tag r (end_in st s))
   read_as (Err fault) st s none h = emitted_error s.endpoint_state.context.emitted.events (OnError ParseFailed (refusal_text fault)) refl none h
-  read_as (Ok k) Closed s none h = judged_new (tag == k.my_tag) k Closed s none h
+  read_as (Ok k) Closed s none h = judged_spent (is_spent_at k (end_in Closed s).endpoint_state) k s none h
   read_as (Ok k) (CookieWait own first t1) s none h =
       judged_unless (s.endpoint_state.context.options.avoid_stalls && not (k.my_tag == own)) (tag == k.my_tag) k (CookieWait own first t1) s none h
   read_as (Ok k) (Open phase t) s none h =

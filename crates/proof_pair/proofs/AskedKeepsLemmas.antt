@@ -25,7 +25,7 @@ use Rattle.spec_endpoint.specs.Packets.{emit_event_in, room}
 use Rattle.spec_endpoint.specs.ResetRequests.{Requests, Outcome, Unsettled, Done, Denied, outcome}
 use Rattle.spec_endpoint.specs.Sending.{request_started, fast_most}
 use Rattle.spec_endpoint.specs.Sack.{timed_by}
-use Rattle.spec_endpoint.specs.Handover.{tcb_from, queue_restored}
+use Rattle.spec_endpoint.specs.Handover.{tcb_from, context_restored}
 use Rattle.spec_endpoint.specs.Opening as opening
 use Rattle.spec_endpoint.specs.Opening.{tsn_from, tag_from, identity_of, tcb_by, long_word, word, drew_word, enter_connected, queue_for, restarted}
 use Rattle.spec_endpoint.specs.Data.{added_unless, skipped_if, take_fragment, handle_forward_tsn}
@@ -135,7 +135,7 @@ outcome_method (Denied streams) c = refl
 -- what a record that is taken up makes
 abbrev pub TakesUp : HandoverState → Type 0
 TakesUp h = (c : Context (List ℕ)) → is_valid_state h ≡ true → IsOrdered c.queue
-    → HandoverInvariantOf (Open Established (tcb_from c.now c.options h)) (emit_event_in OnConnected (queue_restored h c))
+    → HandoverInvariantOf (Open Established (tcb_from c.now c.options h)) (emit_event_in OnConnected (context_restored h c))
 
 -- of the call no message is offered, and nothing is restored
 pub record IsQuiet (call : Call) : Type 0 where
@@ -178,19 +178,19 @@ module _ (once : CallsNumberOnce) (made : MadeConnected) (call : Call) (fits : H
 
   opened_asked : (resets : Bool) (k : Cookie) (tie : ℕ) (c : Context (List ℕ)) → IsNamed k → IsOrdered c.queue
       → HandoverInvariantOf (Open Established (tcb_by c.options k tie))
-      (enter_connected (record c { queue = queue_for resets (negotiate c.options k.peer_capabilities).message_interleaving c.queue }))
+      (enter_connected (record c { queue = queue_for resets (negotiate c.options k.peer_capabilities).message_interleaving c.queue; last_tag = k.my_tag }))
   opened_asked resets k tie c n h =
       let b = begins_for once resets (negotiate c.options k.peer_capabilities).message_interleaving c.queue in
       record {
         association = made (identity_of k tie) _ k.peer_capabilities
-            (enter_connected (record c { queue = queue_for resets (negotiate c.options k.peer_capabilities).message_interleaving c.queue }))
+            (enter_connected (record c { queue = queue_for resets (negotiate c.options k.peer_capabilities).message_interleaving c.queue; last_tag = k.my_tag }))
             n.my_tag n.peer_tag n.my_first n.peer_first b.mode_is;
         queued = b.ordered h;
       }
 
   opens_by : (resets : Bool) (k : Cookie) (tie : ℕ) (s : State) (b c : Context (List ℕ)) → IsNamed k → c.queue ≡ b.queue
       → Leads (IsQuiet call) s b (Open Established (tcb_by c.options k tie))
-      (enter_connected (record c { queue = queue_for resets (negotiate c.options k.peer_capabilities).message_interleaving c.queue }))
+      (enter_connected (record c { queue = queue_for resets (negotiate c.options k.peer_capabilities).message_interleaving c.queue; last_tag = k.my_tag }))
   opens_by resets k tie s b c n is =
       let x = begins_for once resets (negotiate c.options k.peer_capabilities).message_interleaving c.queue in
       record {

@@ -16,7 +16,7 @@ use Rattle.proof_pair.proofs.AddedLemmas.{all_get}
 use Rattle.proof_delivery.specs.Justified.{records_by, records_at}
 use Rattle.proof_delivery.specs.Justified as justified
 use Rattle.proof_draws.specs.NamedChunks.{Names}
-use Rattle.proof_draws.specs.Names.{named_state}
+use Rattle.proof_draws.specs.Names.{named_state, named_context}
 use Rattle.proof_draws.specs.Alike as alike
 use Rattle.proof_draws.specs.Alike.{AreEventsAlike, AreAlike, ArePairsAlike, ActsAlike, SameAction, PassesAt, ArePassed}
 use Rattle.spec_world.specs.Observations.{End, A, B, Entry, Called, Given, Timed, given_up}
@@ -67,17 +67,17 @@ clock_then B now w u e = sym (ap (λ (z : World). z.b.socket.endpoint_state.cont
 
 -- ---- the first entry
 
-first_alike : (action : Action) (w u v z : World) → is_foreign action ≡ false → (n : Names)
+first_alike : (action : Action) (w u v z : World) → is_foreign action ≡ false → (n m : Names)
     → (side_of (end_of action) v).socket.endpoint_state.state ≡ named_state n (side_of (end_of action) w).socket.endpoint_state.state
-    → (side_of (end_of action) v).socket.endpoint_state.context ≡ (side_of (end_of action) w).socket.endpoint_state.context
-    → (side_of (end_of action) z).socket.endpoint_state.context ≡ (side_of (end_of action) u).socket.endpoint_state.context
+    → (side_of (end_of action) v).socket.endpoint_state.context ≡ named_context n.tag (side_of (end_of action) w).socket.endpoint_state.context
+    → (side_of (end_of action) z).socket.endpoint_state.context ≡ named_context m.tag (side_of (end_of action) u).socket.endpoint_state.context
     → Happens action w u → Happens action v z → shown_by (first_of action v) ≡ shown_by (first_of action w)
-first_alike (CallOf x call) w u v z own n state context after e f =
+first_alike (CallOf x call) w u v z own n m state context after e f =
     ap (λ (c : Context (List ℕ)). Called x c.now call (without_record (answer_to call (side_of x v).socket)) ∷ []) context
     ∙ ap (λ a. Called x (clock (side_of x w).socket) call a ∷ []) (answers_alike n (side_of x w).socket (side_of x v).socket state context call)
-first_alike (Give k x) w u v z own n state context after e f = ap (λ (c : Context (List ℕ)). Given x c.now k ∷ []) context
-first_alike (GiveForeign x bytes) w u v z own n state context after e f = cc
-first_alike (AdvanceTime x now) w u v z own n state context after e f =
+first_alike (Give k x) w u v z own n m state context after e f = ap (λ (c : Context (List ℕ)). Given x c.now k ∷ []) context
+first_alike (GiveForeign x bytes) w u v z own n m state context after e f = cc
+first_alike (AdvanceTime x now) w u v z own n m state context after e f =
     ap (λ (k : ℕ). Timed x k now ∷ []) (clock_then x now v z f ∙ (ap (λ (c : Context (List ℕ)). c.now) after ∙ sym (clock_then x now w u e)))
 
 -- ---- of either end
@@ -177,9 +177,9 @@ module _ (f : List ℕ → ℕ) where
   context_in x log others side end g = ap (λ (z : Endpoint (List ℕ)). z.endpoint_state.context) g.image.socket
 
   contexts : (x : End) (log other_log : List Entry) (others others_too : List (List ℕ)) (side side_too : Side) (end end_too : traces.Side) → Good f x log others side end
-      → Good f x other_log others_too side_too end_too → AreAlike end end_too → side_too.socket.endpoint_state.context ≡ side.socket.endpoint_state.context
+      → Good f x other_log others_too side_too end_too → (a : AreAlike end end_too) → side_too.socket.endpoint_state.context ≡ named_context a.names.tag side.socket.endpoint_state.context
   contexts x log other_log others others_too side side_too end end_too g h a =
-      context_in x other_log others_too side_too end_too h ∙ (ap (map_context (as_bytes f)) a.context ∙ sym (context_in x log others side end g))
+      context_in x other_log others_too side_too end_too h ∙ (ap (map_context (as_bytes f)) a.context ∙ ap (named_context a.names.tag) (sym (context_in x log others side end g)))
 
   states : (x : End) (log other_log : List Entry) (others others_too : List (List ℕ)) (side side_too : Side) (end end_too : traces.Side) → Good f x log others side end
       → Good f x other_log others_too side_too end_too → (a : AreAlike end end_too) → side_too.socket.endpoint_state.state ≡ named_state a.names side.socket.endpoint_state.state
@@ -232,7 +232,7 @@ module _ (f : List ℕ → ℕ) where
         emitted_behind end.emitted end_too.emitted m.since n.since a.emitted
         (subst (λ (es : List (Event Carried)). AreEventsAlike es (end_too.emitted ++ n.since)) m.is (subst (λ (es : List (Event Carried)). AreEventsAlike (act s.turn end beside).emitted es) n.is b.emitted)) in
         let firsts : shown_by (first_of action v) ≡ shown_by (first_of action w) =
-        first_alike action w u v z own a.names (states x _ _ _ _ _ _ _ _ g1 g2 a) (contexts x _ _ _ _ _ _ _ _ g1 g2 a) (contexts x _ _ _ _ _ _ _ _ h1 h2 b) first_happens second_happens in
+        first_alike action w u v z own a.names b.names (states x _ _ _ _ _ _ _ _ g1 g2 a) (contexts x _ _ _ _ _ _ _ _ g1 g2 a) (contexts x _ _ _ _ _ _ _ _ h1 h2 b) first_happens second_happens in
         let records : records_by r.turn end_too beside_too ≡ records_by s.turn end beside =
         given_up_same r.turn end_too beside_too (own_action f action r.turn d own r.is) ∙ (acts.given_up ∙ sym (given_up_same s.turn end beside (own_action f action s.turn c own s.is))) in
         shown_is f x v.log z.log _ _ (side_of x v) (side_of x z) end_too beside_too r.turn g2 h2 (first_of action v) (first_is action v) q.after q.settles q.logged (records_of v z d r q) n.since n.is

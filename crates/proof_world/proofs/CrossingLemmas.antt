@@ -72,7 +72,7 @@ module _ (a b : Stream) (f : List ℕ → ℕ) (m : Message) (o : SendOptions) w
     to_sent v e =
         e ∙ ap (λ (s : Endpoint (List ℕ)). record_news A (Called A 0 (Send m o) (Sent (send_refusal_of m (opened_a (pack a b f) a b).endpoint_state))) s (opened a b f)) sends_on
         ∙ ap (λ (t : Bool). sent_world (send_refusal_of m (opened_a (pack a b f) a b).endpoint_state) t) (same_self (association a b))
-        ∙ ap (λ (r : Option SendError). sent_world r true) (accepts_message (pack a b f) m small)
+        ∙ ap (λ (r : Option SendError). sent_world r true) (accepts_message (pack a b f) a m small)
       where
         sends_on : in_endpoint_state (send m o) (opened_a (pack a b f) a b) ≡ emitting (OnBufferedAmountLow m.stream ∷ (fully_sent o.lifecycle_id ++ SendPacket packet ∷ [])) (sent_end (pack a b f) a b m o)
         sends_on = sym (ap (λ (s : Endpoint (List ℕ)). in_endpoint_state (send m o) (drained s)) (opens (pack a b f) a b)) ∙ sends (pack a b f) a b m o small

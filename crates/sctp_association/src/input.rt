@@ -223,11 +223,13 @@ fn dispatch<R: Rng, C: Checksum>(
 }
 
 /// Whether the chunk behind this one is looked at: an unknown chunk may end the packet, and with stalls avoided a COOKIE ECHO that isn't taken.
-fn allows_next(avoids_stalls: bool, tag: u32, state: &State, chunk: &Chunk) -> bool
-    ensures { result ≡ table.allows_next avoids_stalls tag (state_of state.now) (chunk_tree chunk.now) }
+fn allows_next(avoids_stalls: bool, last_tag: u32, tag: u32, state: &State, chunk: &Chunk) -> bool
+    ensures { result ≡ table.allows_next avoids_stalls last_tag tag (state_of state.now) (chunk_tree chunk.now) }
 {
     match chunk {
-        Chunk::CookieEcho(echo) => goes_on_behind(avoids_stalls, tag, &echo.cookie, state),
+        Chunk::CookieEcho(echo) => {
+            goes_on_behind(avoids_stalls, last_tag, tag, &echo.cookie, state)
+        }
         Chunk::Unknown(unknown) => is_passed_over(unknown.typ),
         _ => true,
     }
@@ -256,7 +258,8 @@ fn receive<R: Rng, C: Checksum>(
         handle_misuse(state, context, misuse)?;
         return Ok(false);
     }
-    let goes_on = allows_next(context.options.avoid_stalls, tag, state, &chunk);
+    let avoids_stalls = context.options.avoid_stalls;
+    let goes_on = allows_next(avoids_stalls, context.last_tag, tag, state, &chunk);
     dispatch(state, context, rng, tag, chunk)?;
     Ok(goes_on)
 }

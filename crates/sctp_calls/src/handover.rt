@@ -216,6 +216,7 @@ fn take_up<C: Checksum>(
     context
         .send_queue
         .restore_from_state(context.clock, handed_over)?;
+    context.last_tag = handed_over.my_verification_tag;
     let mut tcb = tcb_from(context, handed_over)?;
     wake(context, &mut tcb);
     go_on(state, context, tcb)

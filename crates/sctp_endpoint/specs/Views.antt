@@ -71,6 +71,7 @@ pub record ContextValue (C : Type 0) : Type 0 where
   pub heartbeats : Heartbeats
   pub counts : Counts
   pub peer : SctpImplementation
+  pub last_tag : ℕ
   pub emitted : Emitted (List ℕ)
   pub checksum : C
 
@@ -84,6 +85,7 @@ context_of word_of c = record {
   heartbeats = c.heartbeats;
   counts = c.counts;
   peer = c.peer;
+  last_tag = c.last_tag;
   emitted = c.emitted;
   pack = writing (word_of c.checksum);
 }

@@ -46,6 +46,8 @@ pub struct Context<C: Checksum> {
     pub tx_packets_count: usize,
     pub tx_messages_count: usize,
     pub peer_implementation: SctpImplementation,
+    /// The own verification tag of the last connect or association; 0 before the first.
+    pub last_tag: u32,
     pub events: Events,
     pub checksum: C,
     /// The memory of the last packet's chunks, for the next packet.
@@ -67,6 +69,7 @@ impl<C: Checksum> Model for Context<C> {
       heartbeats = record { interval = c.heartbeat_interval; timeout = c.heartbeat_timeout; counter = c.heartbeat_counter };
       counts = record { rx_packets = c.rx_packets_count; tx_packets = c.tx_packets_count; tx_messages = c.tx_messages_count };
       peer = c.peer_implementation;
+      last_tag = c.last_tag;
       emitted = c.events;
       checksum = c.checksum;
     } };
@@ -111,6 +114,7 @@ impl<C: Checksum> Context<C> {
             tx_packets_count: 0,
             tx_messages_count: 0,
             peer_implementation: SctpImplementation::Unknown,
+            last_tag: 0,
             events: Events::new(alloc),
             checksum,
             spare_chunks: WrittenChunks::new(alloc),

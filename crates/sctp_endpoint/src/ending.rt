@@ -42,7 +42,7 @@ impl<C: Checksum> Context<C> {
     }
 
     /// What the user gave as the cause of an ABORT.
-    fn user_abort(&self, reason: &str) -> Result<ErrorCause, AllocError>
+    pub fn user_abort(&self, reason: &str) -> Result<ErrorCause, AllocError>
         ensures { IfOk result (λ cause. cause_tree cause ≡ user_initiated_abort reason.now) }
     {
         let reason = String::from_str(self.alloc, reason)?;

@@ -8,7 +8,7 @@ use Rattle.spec_endpoint.specs.Opening.{CookieResolution, EstablishNew, RestartD
 use Rattle.spec_endpoint.specs.Shown.{Association}
 
 abbrev pub begun : {P : Type 0} → (resets : Bool) → Cookie → (tie : ℕ) → Context P → EndpointState P
-begun resets k tie c = open_as Established (tcb_by c.options k tie) (record c { queue = queue_for resets (negotiate c.options k.peer_capabilities).message_interleaving c.queue })
+begun resets k tie c = open_as Established (tcb_by c.options k tie) (record c { queue = queue_for resets (negotiate c.options k.peer_capabilities).message_interleaving c.queue; last_tag = k.my_tag })
 
 abbrev pub greets : {P : Type 0} → (peer_tag : ℕ) → Phase → Tcb → Context P → EndpointState P
 greets peer_tag phase t c = open_with phase (cookie_ack peer_tag t (enter_connected c))

@@ -100,6 +100,16 @@ pub fn resolve_cookie(
     }
 }
 
+/// Whether it is of the last association, or connect, of a closed end. With stalls avoided such a one is refused (RFC 9260 section 8.4).
+pub fn is_spent(avoids_stalls: bool, last_tag: u32, cookie: &StateCookie, state: &State) -> bool
+    ensures { result ≡ table.is_spent avoids_stalls last_tag (cookie_of cookie.now) (state_of state.now) }
+{
+    match state {
+        State::Closed => avoids_stalls && cookie.my_tag == last_tag,
+        State::CookieWait(_) | State::Open(_, _) => false,
+    }
+}
+
 /// Whether a restart isn't too late: no SHUTDOWN ACK went out (RFC 9260 section 5.2.4 A).
 fn may_restart(state: &State) -> bool
     ensures { result ≡ table.may_restart (state_of state.now) }
@@ -125,14 +135,23 @@ fn is_taken(resolution: CookieResolution, state: &State) -> bool
 
 /// Whether what lies behind a COOKIE ECHO in its packet is looked at: with stalls avoided not where the cookie isn't taken (RFC 9260
 /// section 5.1.5).
-pub fn goes_on_behind(avoids_stalls: bool, tag: u32, cookie: &[u8], state: &State) -> bool
-    ensures { result ≡ table.goes_on_behind avoids_stalls tag cookie.now (state_of state.now) }
+pub fn goes_on_behind(
+    avoids_stalls: bool,
+    last_tag: u32,
+    tag: u32,
+    cookie: &[u8],
+    state: &State,
+) -> bool
+    ensures { result ≡ table.goes_on_behind avoids_stalls last_tag tag cookie.now (state_of state.now) }
 {
     if !avoids_stalls {
         return true;
     }
     match StateCookie::from_bytes(cookie) {
-        Ok(cookie) => is_taken(resolve_cookie(true, tag, &cookie, state), state),
+        Ok(cookie) => {
+            !is_spent(true, last_tag, &cookie, state)
+                && is_taken(resolve_cookie(true, tag, &cookie, state), state)
+        }
         Err(_) => false,
     }
 }

@@ -90,6 +90,7 @@ fn wait<C: Checksum>(
     ensures err { OnErr result (state.new ≡ state.old) }
 {
     let t1_init = t1_init(context);
+    context.last_tag = tag;
     context.send_init(tag, initial_tsn)?;
     state.enter(State::CookieWait(CookieWaitState {
         verification_tag: tag,

@@ -519,9 +519,28 @@ impl SendQueue {
 
     /// A new association begins: messages that are partly sent are whole again, each stream sends, and its numbers begin
     /// again. Numbers of messages go on. It takes time by the streams that changed since the last one, or by all that
-    /// were named where memory lacked for the ids of those, or a record was taken up since. Without memory this is done for
-    /// the first streams alone, or for none.
+    /// were named where a quarter of them did, memory lacked for their ids, or a record was taken up since. Without memory
+    /// this is done for the first streams alone, or for none.
     pub fn reset(&mut self) -> Result<(), AllocError>
+        ensures ok { OnOk result (self.new ≡ reset self.old) }
+        ensures numbers { NumbersGoOn self.old self.new }
+        ensures err { OnErr result (SomeRestarted self.old self.new) }
+    {
+        self.forget_many();
+        self.reset_changed()
+    }
+
+    /// Where many streams changed, to go over all takes less time than to know which did.
+    fn forget_many(&mut self)
+        ensures { self.new ≡ self.old }
+    {
+        if !self.changed.are_fewer(self.streams.len() / 4) {
+            self.changed = ChangedStreams::any();
+        }
+    }
+
+    /// As `reset`, of the streams that may have changed.
+    fn reset_changed(&mut self) -> Result<(), AllocError>
         ensures ok { OnOk result (self.new ≡ reset self.old) }
         ensures numbers { NumbersGoOn self.old self.new }
         ensures err { OnErr result (SomeRestarted self.old self.new) }

@@ -111,6 +111,7 @@ pub record Context (P : Type 0) : Type 0 where
   pub heartbeats : Heartbeats
   pub counts : Counts
   pub peer : SctpImplementation
+  pub last_tag : ℕ  -- the own one of the last connect or association; 0 before the first
   pub emitted : Emitted P  -- and not taken yet
   pub pack : Packing P
 
@@ -134,6 +135,7 @@ context o pack = record {
   heartbeats = heartbeats o;
   counts = record { rx_packets = 0; tx_packets = 0; tx_messages = 0 };
   peer = implementations.Unknown;
+  last_tag = 0;
   emitted = nothing_emitted;
   pack = pack;
 }

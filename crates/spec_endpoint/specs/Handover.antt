@@ -174,8 +174,8 @@ block_restored now h t = record t {
 abbrev pub tcb_from : (now : ℕ) → Options → HandoverState → Tcb
 tcb_from now o h = block_restored now h (tcb o (identity_from h) h.tx.rwnd (capabilities_from o h.capabilities))
 
-abbrev pub queue_restored : {P : Type 0} → HandoverState → Context P → Context P
-queue_restored h c = record c { queue = taken_up.restore c.now h.capabilities.message_interleaving h.tx c.queue }
+abbrev pub context_restored : {P : Type 0} → HandoverState → Context P → Context P
+context_restored h c = record c { queue = taken_up.restore c.now h.capabilities.message_interleaving h.tx c.queue; last_tag = h.my_verification_tag }
 
 -- With stalls avoided the timers of items and of heartbeats start (RFC 9260 sections 6.3.2 and 8.3); else with the first data, of items with a SACK too.
 abbrev pub woken_if : {P : Type 0} → (avoids_stalls : Bool) → Tcb → Context P → AfterSending P
@@ -187,7 +187,7 @@ abbrev pub goes_on : {P : Type 0} → AfterSending P → EndpointState P
 goes_on x = open_with Established (send_buffered false x.tcb (emit_event_in OnConnected x.context))
 
 abbrev pub take_up : {P : Type 0} → HandoverState → Context P → EndpointState P
-take_up h c = goes_on (woken_if c.options.avoid_stalls (tcb_from c.now c.options h) (queue_restored h c))
+take_up h c = goes_on (woken_if c.options.avoid_stalls (tcb_from c.now c.options h) (context_restored h c))
 
 -- ---- whether it is taken up
 

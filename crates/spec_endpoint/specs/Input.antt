@@ -214,10 +214,10 @@ on_chunk tag (shutdown_complete_chunk reflected) s = in_endpoint_state (where_op
 on_chunk tag (re_config_chunk parameters) s = in_endpoint_state (where_open (on_reconfig parameters)) s
 
 -- an unknown chunk without the bit for it ends the packet; with stalls avoided a COOKIE ECHO that isn't taken as well
-abbrev pub allows_next : (avoids_stalls : Bool) → (tag : ℕ) → State → ChunkTree → Bool
-allows_next avoids_stalls tag s (unknown_chunk typ flags value) = is_passed_over typ
-allows_next avoids_stalls tag s (cookie_echo_chunk cookie) = goes_on_behind avoids_stalls tag cookie s
-allows_next avoids_stalls tag s chunk = true
+abbrev pub allows_next : (avoids_stalls : Bool) → (last_tag tag : ℕ) → State → ChunkTree → Bool
+allows_next avoids_stalls last_tag tag s (unknown_chunk typ flags value) = is_passed_over typ
+allows_next avoids_stalls last_tag tag s (cookie_echo_chunk cookie) = goes_on_behind avoids_stalls last_tag tag cookie s
+allows_next avoids_stalls last_tag tag s chunk = true
 
 abbrev pub violation : State → ChunkTree → Option (List ℕ)
 violation Closed chunk = None
@@ -231,7 +231,7 @@ abbrev pub received_unless : {P : Type 0} → (violation : Option (List ℕ)) �
 received_unless (Some reason) tag chunk s = record { end = in_endpoint_state (abort_for_violation_in reason) s; allows_next = false }
 received_unless None tag chunk s = record {
   end = on_chunk tag chunk s;
-  allows_next = allows_next s.endpoint_state.context.options.avoid_stalls tag s.endpoint_state.state chunk;
+  allows_next = allows_next s.endpoint_state.context.options.avoid_stalls s.endpoint_state.context.last_tag tag s.endpoint_state.state chunk;
 }
 
 -- one that what was negotiated forbids ends the association

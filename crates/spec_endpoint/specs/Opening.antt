@@ -3,8 +3,8 @@ use Rattle.std.specs.Prelude.{ℕ, ◌+◌, ◌-◌, ◌%◌, ◌^◌, ◌==◌,
 use Rattle.std.specs.List.{starts_with}
 use Rattle.rand_core.specs.Stream.{next_u32, next_u64}
 use Rattle.sctp_wire.specs.Parameter.{ParameterTree, state_cookie}
-use Rattle.sctp_wire.specs.Cause.{missing_mandatory_parameter, cookie_received_while_shutting_down}
-use Rattle.sctp_packet.specs.Chunk.{InitTree, init_chunk, init_ack_chunk, abort_chunk, error_chunk, cookie_ack_chunk, shutdown_ack_chunk}
+use Rattle.sctp_wire.specs.Cause.{missing_mandatory_parameter, user_initiated_abort, cookie_received_while_shutting_down}
+use Rattle.sctp_packet.specs.Chunk.{ChunkTree, InitTree, init_chunk, init_ack_chunk, abort_chunk, error_chunk, cookie_ack_chunk, shutdown_ack_chunk}
 use Rattle.sctp_state.specs.declared.api.SctpImplementation.{SctpImplementation}
 use Rattle.sctp_state.specs.declared.api.SctpImplementation.TheVariants as implementations
 use Rattle.sctp_state.specs.declared.api.ErrorKind.TheVariants.{ParseFailed, ProtocolViolation, WrongSequence}
@@ -72,7 +72,7 @@ abbrev pub t1_init : {P : Type 0} → Context P → Timer
 t1_init c = start c.now (timer c.options.t1_init_timeout Exponential c.options.max_init_retransmits None)
 
 abbrev pub waiting : {P : Type 0} → (tag first : ℕ) → Context P → EndpointState P
-waiting tag first c = record { state = CookieWait tag first (t1_init c); context = send_init tag first c }
+waiting tag first c = record { state = CookieWait tag first (t1_init c); context = send_init tag first (record c { last_tag = tag }) }
 
 -- `connect` on a closed end: the first TSN is drawn, then the tag
 abbrev pub start_connecting : {P : Type 0} → Endpoint P → Endpoint P
@@ -293,7 +293,7 @@ tcb_by o k tie = tcb o (identity_of k tie) (min k.a_rwnd o.max_send_buffer_size)
 abbrev pub anew : {P : Type 0} → (resets : Bool) → Cookie → (tie : ℕ) → Context P → EndpointState P
 anew resets k tie c =
     open_with Established (cookie_ack k.peer_tag (tcb_by c.options k tie)
-    (enter_connected (record c { queue = queue_for resets (negotiate c.options k.peer_capabilities).message_interleaving c.queue })))
+    (enter_connected (record c { queue = queue_for resets (negotiate c.options k.peer_capabilities).message_interleaving c.queue; last_tag = k.my_tag })))
 
 abbrev pub establishes : {P : Type 0} → (resets : Bool) → Cookie → Context P → Endpoint P → Endpoint P
 establishes resets k c s = with_endpoint_state (anew resets k (long_word s) c) (drew_long_word s)
@@ -344,8 +344,28 @@ on_resolution MaintainExisting k s = with_endpoint_state (maintain_existing_in k
 on_resolution Discard k s = s
 on_resolution InvalidTag k s = emit_parse_error (codes "Received CookieEcho with invalid verification tag") s
 
+-- With stalls avoided a closed end refuses a cookie of its last association, or connect: it opens no association twice, and has it end at the peer
+-- (RFC 9260 section 8.4).
+abbrev pub is_spent : (avoids_stalls : Bool) → (last_tag : ℕ) → Cookie → State → Bool
+is_spent avoids_stalls last_tag k Closed = avoids_stalls && (k.my_tag == last_tag)
+is_spent avoids_stalls last_tag k (CookieWait tag first t1) = false
+is_spent avoids_stalls last_tag k (Open phase t) = false
+
+abbrev pub spent_chunk : ChunkTree
+spent_chunk = abort_chunk false (user_initiated_abort (codes "The association is over") ∷ [])
+
+abbrev pub refuse_spent : {P : Type 0} → Cookie → Context P → Context P
+refuse_spent k c = emit (add spent_chunk (packet_to k.peer_tag c.options.mtu)) c
+
+abbrev pub on_cookie_unless : {P : Type 0} → (is_spent : Bool) → (tag : ℕ) → Cookie → Endpoint P → Endpoint P
+on_cookie_unless true tag k s = with_endpoint_state (with_context s.endpoint_state (refuse_spent k s.endpoint_state.context)) s
+on_cookie_unless false tag k s = on_resolution (resolve_cookie s.endpoint_state.context.options.avoid_stalls tag k s.endpoint_state.state) k s
+
+abbrev pub is_spent_at : {P : Type 0} → Cookie → EndpointState P → Bool
+is_spent_at k s = is_spent s.context.options.avoid_stalls s.context.last_tag k s.state
+
 abbrev pub on_read_cookie : {P : Type 0} → (tag : ℕ) → Result Cookie StateCookieError → Endpoint P → Endpoint P
-on_read_cookie tag (Ok k) s = on_resolution (resolve_cookie s.endpoint_state.context.options.avoid_stalls tag k s.endpoint_state.state) k s
+on_read_cookie tag (Ok k) s = on_cookie_unless (is_spent_at k s.endpoint_state) tag k s
 on_read_cookie tag (Err fault) s = emit_parse_error (refusal_text fault) s
 
 -- a restart comes too late once the own SHUTDOWN ACK went out (RFC 9260 section 5.2.4 A)
@@ -368,13 +388,13 @@ is_taken MaintainExisting s = true
 is_taken Discard s = false
 is_taken InvalidTag s = false
 
-abbrev pub is_taken_in : (tag : ℕ) → Result Cookie StateCookieError → State → Bool
-is_taken_in tag (Ok k) s = is_taken (resolve_cookie true tag k s) s
-is_taken_in tag (Err fault) s = false
+abbrev pub is_taken_in : (last_tag tag : ℕ) → Result Cookie StateCookieError → State → Bool
+is_taken_in last_tag tag (Ok k) s = not (is_spent true last_tag k s) && is_taken (resolve_cookie true tag k s) s
+is_taken_in last_tag tag (Err fault) s = false
 
-abbrev pub goes_on_behind : (avoids_stalls : Bool) → (tag : ℕ) → List ℕ → State → Bool
-goes_on_behind true tag cookie s = is_taken_in tag (read_cookie cookie) s
-goes_on_behind false tag cookie s = true
+abbrev pub goes_on_behind : (avoids_stalls : Bool) → (last_tag tag : ℕ) → List ℕ → State → Bool
+goes_on_behind true last_tag tag cookie s = is_taken_in last_tag tag (read_cookie cookie) s
+goes_on_behind false last_tag tag cookie s = true
 
 -- COOKIE ECHO, in a packet under this tag
 abbrev pub on_cookie_echo : {P : Type 0} → (tag : ℕ) → List ℕ → Endpoint P → Endpoint P

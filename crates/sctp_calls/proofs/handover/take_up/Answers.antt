@@ -30,16 +30,16 @@ returns-clause-goes_on g c =
     c.go_on.ensures.goes_on
 
 woken_as : {C : Type 0} (w : C → List ℕ → ℕ) (h : HandoverState) (c v : ContextValue C) (q : Queue) (t : Tcb) → v ≡ c
-    → q ≡ (table.queue_restored h (context_of w v)).queue → t ≡ table.tcb_from v.clock v.options h
-    → table.woken_if v.options.avoid_stalls t (record (context_of w v) { queue = q }) ≡ table.woken_if c.options.avoid_stalls (table.tcb_from c.clock c.options h) (table.queue_restored h (context_of w c))
+    → q ≡ (table.context_restored h (context_of w v)).queue → t ≡ table.tcb_from v.clock v.options h
+    → table.woken_if v.options.avoid_stalls t (record (context_of w v) { queue = q; last_tag = h.my_verification_tag }) ≡ table.woken_if c.options.avoid_stalls (table.tcb_from c.clock c.options h) (table.context_restored h (context_of w c))
 woken_as {C} w h c v q t is queue block =
-    ap (λ (u : Tcb). table.woken_if v.options.avoid_stalls u (record (context_of w v) { queue = q })) block
-    ∙ ap (λ (p : Queue). table.woken_if v.options.avoid_stalls (table.tcb_from v.clock v.options h) (record (context_of w v) { queue = p })) queue
-    ∙ ap (λ (u : ContextValue C). table.woken_if u.options.avoid_stalls (table.tcb_from u.clock u.options h) (table.queue_restored h (context_of w u))) is
+    ap (λ (u : Tcb). table.woken_if v.options.avoid_stalls u (record (context_of w v) { queue = q; last_tag = h.my_verification_tag })) block
+    ∙ ap (λ (p : Queue). table.woken_if v.options.avoid_stalls (table.tcb_from v.clock v.options h) (record (context_of w v) { queue = p; last_tag = h.my_verification_tag })) queue
+    ∙ ap (λ (u : ContextValue C). table.woken_if u.options.avoid_stalls (table.tcb_from u.clock u.options h) (table.context_restored h (context_of w u))) is
 
 taken_up : {C T F : Type 0} (r : Result T F) (w : C → List ℕ → ℕ) (h : HandoverState) (c v : ContextValue C) (q : Queue) (t : Tcb) (x : AfterSending (List ℕ)) (s : EndpointState (List ℕ)) → v ≡ c
-    → q ≡ (table.queue_restored h (context_of w v)).queue → t ≡ table.tcb_from v.clock v.options h
-    → x ≡ table.woken_if v.options.avoid_stalls t (record (context_of w v) { queue = q })
+    → q ≡ (table.context_restored h (context_of w v)).queue → t ≡ table.tcb_from v.clock v.options h
+    → x ≡ table.woken_if v.options.avoid_stalls t (record (context_of w v) { queue = q; last_tag = h.my_verification_tag })
     → OnOk r (s ≡ table.goes_on x) → OnOk r (s ≡ table.take_up h (context_of w c))
 taken_up (Ok y) w h c v q t x s is queue block woken ok = ok ∙ ap (λ (u : AfterSending (List ℕ)). table.goes_on u) (woken ∙ woken_as w h c v q t is queue block)
 taken_up (Err y) w h c v q t x s is queue block woken ok = record {}

@@ -5,7 +5,7 @@ use Rattle.sctp_tx_queue.specs.SendQueue.{Queue}
 use Rattle.sctp_tx_queue.specs.Restarted.{each_restarted, may_differ, after_reset, unbegun, ResetKeeps, NumbersGoOn, SomeRestarted}
 use Rattle.sctp_tx_queue.proofs.RestartLemmas.{restarted_numbers}
 use Rattle.sctp_tx_queue.proofs.SettledLemmas.{reset_is, reset_keeps, reset_some}
-use Rattle.sctp_tx_queue.proofs.send_queue.SendQueue.reset.Goals as goal
+use Rattle.sctp_tx_queue.proofs.send_queue.SendQueue.reset_changed.Goals as goal
 
 pub returns-in_err-are_settled-clause-numbers : goal.returns-in_err-are_settled-clause-numbers
 returns-in_err-are_settled-clause-numbers c =
