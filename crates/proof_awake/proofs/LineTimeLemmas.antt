@@ -184,7 +184,7 @@ module _ {P : Type 0} (avoids : Bool) where
   -- ---- opening
 
   pub connect_lined : (st : State) (s : Endpoint P) → EndLined avoids s.endpoint_state → EndLined avoids (connect_in st s).endpoint_state
-  connect_lined Closed s l = (big_emitted avoids _ (record s.endpoint_state.context { last_tag = tag_from (word (drew_word s)) }) l.0, tt)
+  connect_lined Closed s l = (big_emitted avoids _ s.endpoint_state.context l.0, tt)
   connect_lined (CookieWait tag first t1) s l = l
   connect_lined (Open phase t) s l = l
 
@@ -206,7 +206,7 @@ module _ {P : Type 0} (avoids : Bool) where
   echo_lined i (Some cookie) tag first s h =
       let c : Context P = s.endpoint_state.context in
       let k = agreed_by c.options i in
-      let d : Context P = record c { peer = maker cookie; queue = queue_anew k.message_interleaving c.queue } in
+      let d : Context P = record c { peer = maker cookie; last_tag = tag; queue = queue_anew k.message_interleaving c.queue } in
       (big_cookie avoids cookie (tcb c.options _ i.a_rwnd k) d h, tt)
 
   pub init_ack_lined : (st : State) (i : InitTree) (s : Endpoint P) → EndLined avoids s.endpoint_state → EndLined avoids (on_init_ack_in st i s).endpoint_state

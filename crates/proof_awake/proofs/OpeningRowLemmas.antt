@@ -27,7 +27,7 @@ module _ {P : Type 0} (avoids : Bool) where
 
   connects : (tag first : ℕ) (c : Context P) → Beside avoids false c → EndHolds avoids (waiting tag first c)
   connects tag first c h =
-      (goes_out avoids false _ (record c { last_tag = tag }) h, started c.now (timer c.options.t1_init_timeout Exponential c.options.max_init_retransmits None) h.options.t1_init)
+      (goes_out avoids false _ c h, started c.now (timer c.options.t1_init_timeout Exponential c.options.max_init_retransmits None) h.options.t1_init)
 
   pub connect_holds : (st : State) (s : Endpoint P) → StateHolds avoids st s.endpoint_state.context.options s.endpoint_state.context.heartbeats → Whole s → Whole (connect_in st s)
   connect_holds Closed s h k = connects _ _ s.endpoint_state.context h
@@ -61,7 +61,7 @@ module _ {P : Type 0} (avoids : Bool) where
   echoes : (i : InitTree) (cookie : List ℕ) (me : Identity) (c : Context P) → Beside avoids false c → EndHolds avoids (echo i cookie me c)
   echoes i cookie me c h =
       let k = agreed_by c.options i in
-      let d : Context P = record c { peer = maker cookie; queue = queue_anew k.message_interleaving c.queue } in
+      let d : Context P = record c { peer = maker cookie; last_tag = me.my_tag; queue = queue_anew k.message_interleaving c.queue } in
       let x = cookie_goes avoids false false cookie (tcb c.options me i.a_rwnd k) d (h, new_block avoids c.options me i.a_rwnd k h.options) in
       (x.0, (started c.now (timer c.options.t1_cookie_timeout Exponential c.options.max_init_retransmits None) h.options.t1_cookie, x.1))
 

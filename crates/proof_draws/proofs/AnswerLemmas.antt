@@ -121,7 +121,7 @@ answered_by to tag first k cookie c =
 -- a cookie is echoed, by what was agreed
 abbrev echoed_by : {P : Type 0} → Phase → (cookie : List ℕ) → SctpImplementation → Capabilities → Identity → (a_rwnd : ℕ) → Context P → EndpointState P
 echoed_by phase cookie peer k me a_rwnd c =
-    open_with phase (send_cookie cookie (tcb c.options me a_rwnd k) (record c { peer = peer; queue = queue_anew k.message_interleaving c.queue }))
+    open_with phase (send_cookie cookie (tcb c.options me a_rwnd k) (record c { peer = peer; last_tag = me.my_tag; queue = queue_anew k.message_interleaving c.queue }))
 
 module _ {P : Type 0} (n : Names) (are : AreNames n) (pack : Packing P) where
   written_named : (to tag first : ℕ) (k : Capabilities) (cookie : List ℕ) (c : Context P) → Knows n pack c
@@ -188,7 +188,7 @@ module _ {P : Type 0} (n : Names) (are : AreNames n) (pack : Packing P) where
       → echo (named_init (flip n) i) (n.cookie cookie) (named_identity n me) (plain n pack c) ≡ named_endpoint_state n pack (echo i cookie me c)
   echo_named i cookie me c same knows =
       let k : Capabilities = agreed_by c.options i in
-      let d : Context P = record c { peer = maker cookie; queue = queue_anew k.message_interleaving c.queue } in
+      let d : Context P = record c { peer = maker cookie; last_tag = me.my_tag; queue = queue_anew k.message_interleaving c.queue } in
       let p : Phase = CookieEchoed (t1_cookie c) (n.cookie cookie) in
       ap (λ (x : Capabilities). echoed_by p (n.cookie cookie) (maker (n.cookie cookie)) x (named_identity n me) i.a_rwnd (plain n pack c)) (agreed_named (flip n) c.options i)
       ∙ (ap (λ (x : SctpImplementation). echoed_by p (n.cookie cookie) x k (named_identity n me) i.a_rwnd (plain n pack c)) same

@@ -44,7 +44,7 @@ module _ {P : Type 0} (n : Names) (are : AreNames n) (pack : Packing P) where
 
   named_waiting : (tag first : ℕ) (c : Context P) → Knows n pack c → waiting (n.tag tag) (move_by n.own first) (plain n pack c) ≡ named_endpoint_state n pack (waiting tag first c)
   named_waiting tag first c k =
-      ap (λ (d : Context P). endpoint_state_in (CookieWait (n.tag tag) (move_by n.own first) (t1_init c)) d) (named_send_init tag first (record c { last_tag = tag }) k)
+      ap (λ (d : Context P). endpoint_state_in (CookieWait (n.tag tag) (move_by n.own first) (t1_init c)) d) (named_send_init tag first c k)
 
   connect_in_named : (st : State) (c : Context P) (w v : Stream) → Knows n pack c → (st ≡ Closed → DrawsTwo n w v)
       → (connect_in (named_state n st) (with_random v (endpoint_state_in (named_state n st) (plain n pack c)))).endpoint_state ≡ named_endpoint_state n pack (connect_in st (with_random w (endpoint_state_in st c))).endpoint_state

@@ -99,7 +99,7 @@ module _ {P : Type 0} {call : Call} {R : EndWithPacket P → EndWithPacket P →
   does_opened : (c : Context P) (w : Stream) (s : Endpoint P) → call ≡ Connect → R (calm (end_in Closed s)) (calm (connect_in Closed (end_in Closed s)))
   does_opened c w s is =
       let m : EndWithPacket P = calm (end_in Closed s) in
-      k.through (k.opening (connects m is)) (does_send_init (drawn_tag m) (drawn_first m) (t1_init m.context) (record m.context { last_tag = drawn_tag m }) (drew_two m).draws)
+      k.through (k.opening (connects m is)) (does_send_init (drawn_tag m) (drawn_first m) (t1_init m.context) m.context (drew_two m).draws)
 
   does_connect_in : (st : State) (s : Endpoint P) → call ≡ Connect → R (calm (end_in st s)) (calm (connect_in st (end_in st s)))
   does_connect_in Closed s is = does_opened s.endpoint_state.context s.draws s is

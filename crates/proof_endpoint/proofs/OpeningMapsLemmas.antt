@@ -41,9 +41,7 @@ module _ {P Q : Type 0} (f : Mapping P Q) where
       maps_emit f (add (init_chunk (init_of c.options tag first (announced_parameters c.options c.options.zero_checksum_method))) (packet_to 0 c.options.mtu)) c
 
   maps_waiting : (tag first : ℕ) (c : Context P) → waiting tag first (map_context f c) ≡ map_endpoint_state f (waiting tag first c)
-  maps_waiting tag first c =
-      let d : Context P = record c { last_tag = tag } in
-      maps_in_state f (CookieWait tag first (t1_init c)) (send_init tag first d) (send_init tag first (map_context f d)) (maps_send_init tag first d)
+  maps_waiting tag first c = maps_in_state f (CookieWait tag first (t1_init c)) (send_init tag first c) (send_init tag first (map_context f c)) (maps_send_init tag first c)
 
   maps_connect_in : (st : State) (s : Endpoint P) → connect_in st (map_end f s) ≡ map_end f (connect_in st s)
   maps_connect_in Closed s =
@@ -99,7 +97,7 @@ module _ {P Q : Type 0} (f : Mapping P Q) where
 
   maps_echo : (i : InitTree) (cookie : List ℕ) (me : Identity) (c : Context P) → echo i cookie me (map_context f c) ≡ map_endpoint_state f (echo i cookie me c)
   maps_echo i cookie me c =
-      let d : Context P = record c { peer = maker cookie; queue = queue_anew (agreed_by c.options i).message_interleaving c.queue } in
+      let d : Context P = record c { peer = maker cookie; last_tag = me.my_tag; queue = queue_anew (agreed_by c.options i).message_interleaving c.queue } in
       maps_open_with (CookieEchoed (t1_cookie c) cookie) (send_cookie cookie (tcb c.options me i.a_rwnd (agreed_by c.options i)) d) _
       (maps_send_cookie f cookie (tcb c.options me i.a_rwnd (agreed_by c.options i)) d)
 

@@ -64,7 +64,7 @@ own_taken chunk tag s no_abort no_end no_ack no_cookie some own = rw (one_counte
 module _ {P : Type 0} (pack : Packing P) where
   abbrev pub waiting : Stream → Endpoint P
   waiting a = record {
-    endpoint_state = record { state = CookieWait (tag_of a) (first_of a) (t1_init (context defaults pack)); context = record (counted pack 0 1) { last_tag = tag_of a } };
+    endpoint_state = record { state = CookieWait (tag_of a) (first_of a) (t1_init (context defaults pack)); context = counted pack 0 1 };
     draws = drawn a;
   }
 

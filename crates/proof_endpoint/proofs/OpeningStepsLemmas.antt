@@ -32,12 +32,7 @@ module _ {P : Type 0} where
       goes_emit (add chunk p) c (small_add (most_bytes c) p chunk (small_whole c p refl refl))
 
   steps_connect_in : (st : State) (s : Endpoint P) → EndSteps (end_in st s) (connect_in st (end_in st s))
-  steps_connect_in Closed s =
-      let tag : ℕ = tag_from (word (drew_word s)) in
-      let first : ℕ = tsn_from (word s) in
-      let c : Context P = s.endpoint_state.context in
-      let d : Context P = record c { last_tag = tag } in
-      goes_then 0 c d (send_init tag first d) (goes_silent c d refl refl refl) (goes_send_init tag first d)
+  steps_connect_in Closed s = goes_send_init (tag_from (word (drew_word s))) (tsn_from (word s)) s.endpoint_state.context
   steps_connect_in (CookieWait tag first t1) s = goes_same s.endpoint_state.context
   steps_connect_in (Open phase t) s = goes_same s.endpoint_state.context
 
@@ -89,7 +84,7 @@ module _ {P : Type 0} where
 
   goes_echo : (i : InitTree) (cookie : List ℕ) (me : Identity) (c : Context P) → Goes 0 c (echo i cookie me c).context
   goes_echo i cookie me c =
-      let d : Context P = record c { peer = maker cookie; queue = queue_anew (agreed_by c.options i).message_interleaving c.queue } in
+      let d : Context P = record c { peer = maker cookie; last_tag = me.my_tag; queue = queue_anew (agreed_by c.options i).message_interleaving c.queue } in
       goes_then 0 c d (echo i cookie me c).context (goes_silent c d refl refl refl)
       (goes_send_cookie d cookie (tcb c.options me i.a_rwnd (agreed_by c.options i)))
 

@@ -234,7 +234,7 @@ abbrev pub echo_step : {P : Type 0} → InitTree → (cookie : List ℕ) → (ta
 echo_step i cookie tag first m = record (drew_long m) {
   state = Open (CookieEchoed (t1_cookie m.context) cookie)
       (tcb m.context.options (identity_of_init_ack i tag first (long_word (end_of m))) i.a_rwnd (agreed_by m.context.options i));
-  context = record m.context { peer = maker cookie; queue = queue_anew (agreed_by m.context.options i).message_interleaving m.context.queue };
+  context = record m.context { peer = maker cookie; last_tag = tag; queue = queue_anew (agreed_by m.context.options i).message_interleaving m.context.queue };
 }
 
 -- a control block is made by a cookie that came back
@@ -302,8 +302,7 @@ before_opening (maintains tag k t1 cookie t m echoed resolution) = in_open (Cook
 before_opening (adds_cookie_ack tag back phase t m echoed late) = in_open phase t m
 
 abbrev pub after_opening : {P : Type 0} {call : Call} → OpeningAct P call → EndWithPacket P
-after_opening (connects m is) =
-    in_state (CookieWait (drawn_tag m) (drawn_first m) (t1_init m.context)) (with_context (record m.context { last_tag = drawn_tag m }) (drew_two m))
+after_opening (connects m is) = in_state (CookieWait (drawn_tag m) (drawn_first m) (t1_init m.context)) (drew_two m)
 after_opening (adds_init tag first t1 m to) = with_init tag first (in_state (CookieWait tag first t1) m)
 after_opening (answers_new tag i m received to) = with_init_ack i (drawn_tag m) (drawn_first m) 0 (in_state Closed (drew_two m))
 after_opening (answers_waiting tag i my_tag first t1 m received to) = with_init_ack i my_tag first 0 (in_state (CookieWait my_tag first t1) m)

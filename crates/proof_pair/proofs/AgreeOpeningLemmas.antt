@@ -122,13 +122,12 @@ module _ (g : Setting) (y : Past) (own : AreValidOptions g.own) where
       let z : Past = record x { drawn = d ∷ x.drawn } in
       let l : Later x z = record { drawn = λ f h. inr h; held = λ a h. h; echoed = λ a h. h } in
       let c : Context Carried = e.endpoint_state.context in
-      let n : Context Carried = record c { last_tag = d.tag } in
-      let m : EndWithPacket Carried = idle (CookieWait d.tag d.first (t1_init c)) n (drew_word (drew_word e)).draws in
+      let m : EndWithPacket Carried = idle (CookieWait d.tag d.first (t1_init c)) c (drew_word (drew_word e)).draws in
       let drew : InvAt g z y m =
       inv_later g x y rests c.options c.pack c.emitted.events no_packet.tag [] inv z y l (later_same y) (waits d)
       (record { own = inl refl; fits = drawn_fits (word e) (word (drew_word e)); new = λ b h t. distinct.0 b.mine (known b h) t })
       (λ h. no_both h silent) free in
-      does_send_init (kept_quiet z) d.tag d.first (t1_init c) n m.draws drew
+      does_send_init (kept_quiet z) d.tag d.first (t1_init c) c m.draws drew
     where
       no_both : {A : Type 0} {b : Bool} → b ≡ true → b ≡ false → A
       no_both e f = cc

@@ -217,7 +217,7 @@ module _ (once : CallsNumberOnce) (made : MadeConnected) (call : Call) (fits : H
       record {
         asked = λ h. record {
           association = made (opening.identity_of_init_ack i own first (long_word (end_of m))) i.a_rwnd (announced_by i.nbr_outbound_streams i.nbr_inbound_streams i.parameters)
-              (record m.context { peer = opening.maker cookie; queue = opening.queue_anew mode m.context.queue })
+              (record m.context { peer = opening.maker cookie; last_tag = own; queue = opening.queue_anew mode m.context.queue })
               h.association.0 peer.0 h.association.1 peer.1 b.mode_is;
           queued = b.ordered h.queued;
         };

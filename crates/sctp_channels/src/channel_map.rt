@@ -121,30 +121,24 @@ impl ChannelMap {
         self.kept
     }
 
-    fn kept_at(&self, id: &u16) -> u128
-        ensures { result ≡ kept_at (channel_at id.now self.now) }
-    {
-        match self.entries.get(id) {
-            None => 0,
-            Some(channel) => channel.kept_bytes(),
-        }
-    }
-
     /// A channel that is new, or in place of another one. The peer has not reset its stream.
     pub(crate) fn insert(&mut self, id: u16, channel: Channel) -> Result<(), AllocError>
         requires { channel.lifecycle.is_incoming_reset ≡ false }
         ensures ok { OnOk result (self.new ≡ put id channel self.old) }
         ensures err { OnErr result (self.new ≡ self.old) }
     {
-        let before = self.kept_at(&id);
         let after = channel.kept_bytes();
         self.incoming.insert(id)?;
-        if let Err(refused) = self.entries.insert(id, channel) {
-            self.incoming.remove(&id);
-            return Err(refused.into());
+        match self.entries.insert(id, channel) {
+            Ok(before) => {
+                self.kept = recounted(self.kept, kept_of(before), after);
+                Ok(())
+            }
+            Err(refused) => {
+                self.incoming.remove(&id);
+                Err(refused.into())
+            }
         }
-        self.kept = recounted(self.kept, before, after);
-        Ok(())
     }
 
     pub(crate) fn remove(&mut self, id: &u16)

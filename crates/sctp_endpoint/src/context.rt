@@ -46,7 +46,7 @@ pub struct Context<C: Checksum> {
     pub tx_packets_count: usize,
     pub tx_messages_count: usize,
     pub peer_implementation: SctpImplementation,
-    /// The own verification tag of the last connect or association; 0 before the first.
+    /// The own verification tag of the last association; 0 before the first.
     pub last_tag: u32,
     pub events: Events,
     pub checksum: C,

@@ -100,7 +100,7 @@ pub fn resolve_cookie(
     }
 }
 
-/// Whether it is of the last association, or connect, of a closed end. With stalls avoided such a one is refused (RFC 9260 section 8.4).
+/// Whether it is of the last association of a closed end. With stalls avoided such a one is refused (RFC 9260 section 8.4).
 pub fn is_spent(avoids_stalls: bool, last_tag: u32, cookie: &StateCookie, state: &State) -> bool
     ensures { result ≡ table.is_spent avoids_stalls last_tag (cookie_of cookie.now) (state_of state.now) }
 {

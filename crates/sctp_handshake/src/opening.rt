@@ -90,7 +90,6 @@ fn wait<C: Checksum>(
     ensures err { OnErr result (state.new ≡ state.old) }
 {
     let t1_init = t1_init(context);
-    context.last_tag = tag;
     context.send_init(tag, initial_tsn)?;
     state.enter(State::CookieWait(CookieWaitState {
         verification_tag: tag,
@@ -276,6 +275,7 @@ fn echo<C: Checksum>(
         &init_ack.parameters,
     );
     context.peer_implementation = determine_sctp_implementation(cookie);
+    context.last_tag = identity.my_verification_tag;
     prepare_queue(context, true, capabilities.message_interleaving)?;
     let echoed = CookieEchoedState {
         t1_cookie: t1_cookie(context),

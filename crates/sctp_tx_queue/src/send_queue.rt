@@ -526,15 +526,17 @@ impl SendQueue {
         ensures numbers { NumbersGoOn self.old self.new }
         ensures err { OnErr result (SomeRestarted self.old self.new) }
     {
-        self.forget_many();
+        let many = self.streams.len() / 4;
+        let are_many = !self.changed.are_fewer(many);
+        self.forget_if(are_many);
         self.reset_changed()
     }
 
-    /// Where many streams changed, to go over all takes less time than to know which did.
-    fn forget_many(&mut self)
+    /// Where a quarter of the streams change, to go over all takes less time than to know which did.
+    fn forget_if(&mut self, are_many: bool)
         ensures { self.new ≡ self.old }
     {
-        if !self.changed.are_fewer(self.streams.len() / 4) {
+        if are_many {
             self.changed = ChangedStreams::any();
         }
     }
@@ -636,6 +638,8 @@ impl SendQueue {
             events.roll_back(mark);
             return Err(AllocError);
         };
+        let many = self.streams.len() / 4;
+        self.forget_if(ids.len() > many);
         self.empty_each(&ids);
         self.begun = None;
         Ok(())

@@ -111,7 +111,7 @@ pub record Context (P : Type 0) : Type 0 where
   pub heartbeats : Heartbeats
   pub counts : Counts
   pub peer : SctpImplementation
-  pub last_tag : ℕ  -- the own one of the last connect or association; 0 before the first
+  pub last_tag : ℕ  -- the own one of the last association; 0 before the first
   pub emitted : Emitted P  -- and not taken yet
   pub pack : Packing P
 

@@ -72,7 +72,7 @@ abbrev pub t1_init : {P : Type 0} → Context P → Timer
 t1_init c = start c.now (timer c.options.t1_init_timeout Exponential c.options.max_init_retransmits None)
 
 abbrev pub waiting : {P : Type 0} → (tag first : ℕ) → Context P → EndpointState P
-waiting tag first c = record { state = CookieWait tag first (t1_init c); context = send_init tag first (record c { last_tag = tag }) }
+waiting tag first c = record { state = CookieWait tag first (t1_init c); context = send_init tag first c }
 
 -- `connect` on a closed end: the first TSN is drawn, then the tag
 abbrev pub start_connecting : {P : Type 0} → Endpoint P → Endpoint P
@@ -177,7 +177,7 @@ t1_cookie c = start c.now (timer c.options.t1_cookie_timeout Exponential c.optio
 abbrev pub echo : {P : Type 0} → InitTree → List ℕ → Identity → Context P → EndpointState P
 echo i cookie me c =
     open_with (CookieEchoed (t1_cookie c) cookie) (send_cookie cookie (tcb c.options me i.a_rwnd (agreed_by c.options i))
-    (record c { peer = maker cookie; queue = queue_anew (agreed_by c.options i).message_interleaving c.queue }))
+    (record c { peer = maker cookie; last_tag = me.my_tag; queue = queue_anew (agreed_by c.options i).message_interleaving c.queue }))
 
 abbrev pub identity_of_init_ack : InitTree → (tag first tie : ℕ) → Identity
 identity_of_init_ack i tag first tie = record { my_tag = tag; my_first = first; peer_tag = i.initiate_tag; peer_first = i.initial_tsn; tie = tie }
@@ -344,8 +344,7 @@ on_resolution MaintainExisting k s = with_endpoint_state (maintain_existing_in k
 on_resolution Discard k s = s
 on_resolution InvalidTag k s = emit_parse_error (codes "Received CookieEcho with invalid verification tag") s
 
--- With stalls avoided a closed end refuses a cookie of its last association, or connect: it opens no association twice, and has it end at the peer
--- (RFC 9260 section 8.4).
+-- With stalls avoided a closed end refuses a cookie of its last association: it opens none twice, and has it end at the peer (RFC 9260 section 8.4).
 abbrev pub is_spent : (avoids_stalls : Bool) → (last_tag : ℕ) → Cookie → State → Bool
 is_spent avoids_stalls last_tag k Closed = avoids_stalls && (k.my_tag == last_tag)
 is_spent avoids_stalls last_tag k (CookieWait tag first t1) = false
