@@ -11,9 +11,9 @@ use Rattle.sctp_state.specs.Events.{OnAborted}
 use Rattle.sctp_rx.specs.DataTracker.{is_ack_due, take_ack, packet_end}
 use Rattle.sctp_rx.specs.Sack.{clear_duplicates}
 use Rattle.spec_endpoint.specs.Association.{Tcb, Phase, CookieEchoed, Established, ShutdownPending, ShutdownSent, ShutdownReceived, ShutdownAckSent, State, Closed, CookieWait, Open, Heartbeats, Context, EndpointState, Endpoint, where_open}
-use Rattle.spec_endpoint.specs.Packets.{add, new_packet}
+use Rattle.spec_endpoint.specs.Packets.{add}
 use Rattle.spec_endpoint.specs.Heartbeats.{on_heartbeat_info, ack_by_length, clear_if_last, is_last_info, info_in}
-use Rattle.spec_endpoint.specs.Sending.{take_due_ack, without_duplicates, selective_ack, is_before_cookie_ack}
+use Rattle.spec_endpoint.specs.Sending.{take_due_ack, without_duplicates, selective_ack, is_before_cookie_ack, answer_packet}
 use Rattle.spec_endpoint.specs.Shutdown.{on_shutdown, on_shutdown_complete, abort_for_violation, refused_if, aborted_in, on_error, causes_text}
 use Rattle.spec_endpoint.specs.StreamReset.{on_reconfig}
 use Rattle.spec_endpoint.specs.Opening.{on_cookie_ack}
@@ -131,7 +131,7 @@ module _ {P : Type 0} (avoids : Bool) where
   acks_if_due : (b : Bool) (phase : Phase) (t : Tcb) (c : Context P) → Going avoids phase t c → EndHolds avoids (ack_if_due b phase t c)
   acks_if_due true phase t c h =
       let k : BlockHolds (waits avoids phase) (without_duplicates t) = with_tracker (waits avoids phase) t (clear_duplicates t.tracker.tracker) h.1.1.tracker h.1.1 in
-      let x = sends_with avoids (is_established phase) (waits avoids phase) (is_before_cookie_ack phase) (add (selective_ack t) (new_packet c.options t)) (without_duplicates t) c (h.0, k) in
+      let x = sends_with avoids (is_established phase) (waits avoids phase) (is_before_cookie_ack phase) (add (selective_ack t) (answer_packet phase c.options t)) (without_duplicates t) c (h.0, k) in
       (x.0, (h.1.0, x.1))
   acks_if_due false phase t c h = h
 

@@ -1,5 +1,5 @@
 -- Packets and calls leave no stream in line where no item is kept.
-use Rattle.std.proofs.Common.{◌≡◌, ℕ, ◌≤◌, ◌&&◌, Bool, true, false, Option, Some, None, List, [], ◌∷◌, length, refl, sym, ap, subst, ◌∙◌, arith}
+use Rattle.std.proofs.Common.{◌≡◌, ℕ, ◌≤◌, ◌&&◌, Bool, true, false, Option, Some, None, List, [], ◌∷◌, length, refl, sym, ap, subst, ◌∙◌}
 use Rattle.std.specs.Prelude.{◌==◌, nat_lt}
 use Rattle.std.proofs.lemmas.Bool.{and_parts}
 use Rattle.sctp_serial.specs.Messages.{Message}
@@ -13,9 +13,9 @@ use Rattle.sctp_state.specs.Options.{Options, SendOptions}
 use Rattle.sctp_state.specs.Events.{OnAborted}
 use Rattle.sctp_rx.specs.DataTracker.{is_ack_due}
 use Rattle.spec_endpoint.specs.Association.{Tcb, Phase, CookieEchoed, Established, ShutdownPending, ShutdownSent, ShutdownReceived, ShutdownAckSent, State, Closed, CookieWait, Open, Context, EndpointState, Endpoint, where_open}
-use Rattle.spec_endpoint.specs.Packets.{PacketDraft, add, new_packet, round_down_to_4}
+use Rattle.spec_endpoint.specs.Packets.{PacketDraft, add, new_packet}
 use Rattle.spec_endpoint.specs.Heartbeats.{on_heartbeat_info, ack_by_length, clear_if_last, is_last_info, info_in}
-use Rattle.spec_endpoint.specs.Sending.{is_before_cookie_ack, selective_ack, take_due_ack, without_duplicates, send_unless, send_in}
+use Rattle.spec_endpoint.specs.Sending.{is_before_cookie_ack, selective_ack, take_due_ack, without_duplicates, send_unless, send_in, answer_packet}
 use Rattle.spec_endpoint.specs.Shutdown.{on_shutdown, on_shutdown_complete, abort_for_violation, refused_if, aborted_in, causes_text, on_error}
 use Rattle.spec_endpoint.specs.StreamReset.{on_reconfig, prepare_all, streams_reset_unless, reset_refusal}
 use Rattle.proof_endpoint.specs.Lifecycles.{is_restore}
@@ -39,7 +39,7 @@ use Rattle.proof_awake.proofs.LineCallLemmas.{Same, offered_same, sends_then, of
 use Rattle.proof_awake.proofs.LineEachLemmas.{reconfig_lined}
 use Rattle.proof_awake.proofs.LineTimeLemmas.{advance_lined, connect_lined, init_is_lined, init_ack_lined, cookie_ack_lined, cookie_echo_lined}
 use Rattle.proof_awake.proofs.RowLemmas.{Going, EndHolds}
-use Rattle.proof_awake.proofs.LineRowLemmas.{Big, Lined, EndLined, big_chunk, big_sent, chunk_lined, sent_lined, open_lined, closes_lined, abort_lined, shutdown_lined, on_shutdown_lined, on_shutdown_ack_lined, on_complete_lined, close_lined, on_data_lined, on_forward_lined, on_sack_lined, goes_on_lined}
+use Rattle.proof_awake.proofs.LineRowLemmas.{Big, Lined, EndLined, big_chunk, big_sent, chunk_lined, sent_lined, open_lined, closes_lined, abort_lined, shutdown_lined, on_shutdown_lined, on_shutdown_ack_lined, on_complete_lined, close_lined, on_data_lined, on_forward_lined, on_sack_lined, goes_on_lined, answer_limit}
 use Rattle.proof_awake.proofs.LineLemmas.{limit_added}
 
 -- the line alone counts
@@ -145,9 +145,9 @@ module _ {P : Type 0} (avoids : Bool) where
 
   due_lined : (b : Bool) (phase : Phase) (t : Tcb) (c : Context P) → Going avoids phase t c → Lined avoids (Open phase t) c → EndLined avoids (ack_if_due b phase t c)
   due_lined true phase t c h l =
-      let m = h.0.options.mtu_least in
-      let p : PacketDraft = add (selective_ack t) (new_packet c.options t) in
-      let k : 44 ≤ p.limit = subst (λ (n : ℕ). 44 ≤ n) (sym (limit_added (selective_ack t) (new_packet c.options t))) (let z : 44 ≤ round_down_to_4 c.options.mtu = omega (arith, m) in z) in
+      let q : PacketDraft = answer_packet phase c.options t in
+      let p : PacketDraft = add (selective_ack t) q in
+      let k : 44 ≤ p.limit = subst (λ (n : ℕ). 44 ≤ n) (sym (limit_added (selective_ack t) q)) (answer_limit avoids phase c.options t h.0.options.mtu_least) in
       sent_lined avoids phase p (without_duplicates t) c l.0 k h.1.1.sender.windows
   due_lined false phase t c h l = l
 

@@ -1,5 +1,5 @@
 -- Rows leave no stream in line where no item is kept: those that send, and those that change neither line nor items.
-use Rattle.std.proofs.Common.{ℕ, zero, suc, ◌≤◌, Bool, true, false, Option, List, [], ◌∷◌, length, arith, None}
+use Rattle.std.proofs.Common.{ℕ, zero, suc, ◌≤◌, Bool, true, false, Option, List, [], ◌∷◌, length, arith, None, subst, sym}
 use Rattle.std.specs.Prelude.{◌==◌, nat_lt, nat_le, is_some}
 use Rattle.sctp_packet.specs.Chunk.{ChunkTree, FragmentTree, SackTree, abort_chunk, shutdown_complete_chunk, cookie_echo_chunk}
 use Rattle.sctp_chunk.specs.declared.forward_tsn.SkippedStream.{SkippedStream}
@@ -15,7 +15,7 @@ use Rattle.sctp_tx.specs.RetransmissionQueue.{Sender, sender_if, emitted_if, ans
 use Rattle.sctp_tx.specs.ForwardPoints.{forward_chunk}
 use Rattle.spec_endpoint.specs.Association.{Tcb, Phase, CookieEchoed, Established, ShutdownPending, ShutdownSent, ShutdownReceived, ShutdownAckSent, State, Closed, CookieWait, Open, Context, EndpointState, where_open}
 use Rattle.spec_endpoint.specs.Packets.{PacketDraft, round_down_to_4, fits, add, packet_to, new_packet, has_chunks, emit_if, emit, emit_chunk}
-use Rattle.spec_endpoint.specs.Sending.{Filling, take_due_ack, ack_if, has_data_to_send, with_ack, forward_added_if, forward_if, with_expired_abandoned, forward_if_time, with_forward, most_streams, request_of, request_unless, filled_as, BurstStep, burst_step_if, next_packet, continue_burst, burst, AfterSending, is_before_cookie_ack, open_with, send_with, send_buffered, cookie_if, send_cookie, fast_packet, fast_if, send_lost}
+use Rattle.spec_endpoint.specs.Sending.{Filling, take_due_ack, ack_if, has_data_to_send, with_ack, forward_added_if, forward_if, with_expired_abandoned, forward_if_time, with_forward, most_streams, request_of, request_unless, filled_as, BurstStep, burst_step_if, next_packet, continue_burst, burst, AfterSending, is_before_cookie_ack, open_with, send_with, send_buffered, cookie_if, send_cookie, fast_packet, fast_if, send_lost, cookie_packet_if, answer_packet}
 use Rattle.spec_endpoint.specs.Shutdown.{close_with, PhaseStep, pending_next, received_next, maybe_send_shutdown_or_ack, shutdown_in_phase, shutdown_in, shut_by_peer, on_shutdown, on_shutdown_ack_open, on_shutdown_ack_in, on_shutdown_complete, abort, close_in, is_quiet}
 use Rattle.spec_endpoint.specs.Data.{fragment_if, accepts_fragment, handle_forward_tsn_if, accepts_point, on_no_data, on_data_in, on_data_if, on_data, on_forward, has_room, told_of_drop}
 use Rattle.spec_endpoint.specs.Sack.{clean_blocks, sample_rtt, clear_errors_if, send_after_sack, after_sack, on_sack_in, is_late, sampled_unless}
@@ -25,7 +25,8 @@ use Rattle.proof_awake.proofs.SenderLemmas.{sack_holds}
 use Rattle.proof_awake.proofs.BlockLemmas.{with_sender, sampled_holds}
 use Rattle.proof_awake.proofs.SendingRowLemmas.{lost_goes}
 use Rattle.proof_awake.proofs.RowLemmas.{Going, EndHolds, Steps, shutdown_goes_on}
-use Rattle.proof_awake.proofs.LineLemmas.{none_in_line}
+use Rattle.proof_awake.proofs.LineLemmas.{none_in_line, limit_added}
+use Rattle.sctp_state.specs.Options.{Options}
 
 module _ {P : Type 0} (avoids : Bool) where
   -- bursts are of two packets or more
@@ -139,6 +140,18 @@ module _ {P : Type 0} (avoids : Bool) where
   pub sent_lined : (phase : Phase) (p : PacketDraft) (t : Tcb) (c : Context P) → Big c → 44 ≤ p.limit → WindowsHaveRoom t.sender.windows
       → EndLined (open_with phase (send_with (is_before_cookie_ack phase) p t c))
   sent_lined phase p t c b l w = (big_sent (is_before_cookie_ack phase) p t c b, no_line_by phase p t c b l w)
+
+  cookie_limit : (b : Bool) (cookie : List ℕ) (o : Options) (t : Tcb) → 44 ≤ round_down_to_4 o.mtu → 44 ≤ o.mtu → 44 ≤ (cookie_packet_if b cookie o t).limit
+  cookie_limit true cookie o t l m = subst (λ (n : ℕ). 44 ≤ n) (sym (limit_added (cookie_echo_chunk cookie) (packet_to t.identity.peer_tag o.mtu))) m
+  cookie_limit false cookie o t l m = l
+
+  pub answer_limit : (phase : Phase) (o : Options) (t : Tcb) → 256 ≤ o.mtu → 44 ≤ (answer_packet phase o t).limit
+  answer_limit (CookieEchoed t1 cookie) o t m = let k : 44 ≤ o.mtu = omega (arith, m) in cookie_limit o.avoid_stalls cookie o t (omega (arith, m)) k
+  answer_limit Established o t m = omega (arith, m)
+  answer_limit ShutdownPending o t m = omega (arith, m)
+  answer_limit (ShutdownSent t2) o t m = omega (arith, m)
+  answer_limit ShutdownReceived o t m = omega (arith, m)
+  answer_limit (ShutdownAckSent t2) o t m = omega (arith, m)
 
   pub buffered_lined : (phase : Phase) (t : Tcb) (c : Context P) → Big c → Going avoids phase t c → EndLined (open_with phase (send_buffered (is_before_cookie_ack phase) t c))
   buffered_lined phase t c b h =
@@ -293,7 +306,8 @@ module _ {P : Type 0} (avoids : Bool) where
   after_lined t o h b =
       let x : AfterSending P = send_lost t o.context in
       let k = lost_goes avoids (is_established o.phase) (waits avoids o.phase) t o.context (h.0, h.1.1) in
-      buffered_lined o.phase x.tcb x.context (big_fast (nat_lt 0 (fast_items t.sender.outstanding.items)) t o.context b) (k.0, (h.1.0, k.1))
+      sent_lined o.phase (answer_packet o.phase x.context.options x.tcb) x.tcb x.context (big_fast (nat_lt 0 (fast_items t.sender.outstanding.items)) t o.context b)
+      (answer_limit o.phase x.context.options x.tcb k.0.options.mtu_least) k.1.sender.windows
 
   answered_lined : (rtt : Option ℕ) (n a_rwnd : ℕ) (blocks : List GapAckBlock) (phase : Phase) (t : Tcb) (c : Context P) → Going avoids phase t c → Lined (Open phase t) c → EndLined (after_sack
       (Valid rtt (nat_lt 0 (sack.acked_bytes n blocks t.sender.outstanding.items))) phase (record t { sender = sender_if true c.now n a_rwnd blocks t.sender c.emitted })

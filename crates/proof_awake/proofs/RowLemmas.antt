@@ -15,7 +15,7 @@ use Rattle.sctp_tx_outstanding.specs.Sack as sack
 use Rattle.sctp_tx.specs.RetransmissionQueue.{Sender, nothing_in_flight, answer_if, sender_if, emitted_if, Valid}
 use Rattle.spec_endpoint.specs.Association.{Tcb, Phase, CookieEchoed, Established, ShutdownPending, ShutdownSent, ShutdownReceived, ShutdownAckSent, State, Closed, CookieWait, Open, Context, EndpointState, where_open}
 use Rattle.spec_endpoint.specs.Packets.{add, packet_to, emit_chunk}
-use Rattle.spec_endpoint.specs.Sending.{AfterSending, is_before_cookie_ack, open_with, send_lost, send_unless, send_in, force_ack}
+use Rattle.spec_endpoint.specs.Sending.{AfterSending, is_before_cookie_ack, open_with, send_lost, send_unless, send_in, force_ack, answer_packet}
 use Rattle.spec_endpoint.specs.Shutdown.{close_with, PhaseStep, pending_next, received_next, maybe_send_shutdown_or_ack, shutdown_in_phase, shutdown_in, shut_by_peer, on_shutdown, on_shutdown_ack_open, on_shutdown_ack_in, on_shutdown_complete, abort, close_in, is_quiet_if, is_quiet}
 use Rattle.spec_endpoint.specs.Data.{fragment_if, accepts_fragment, handle_forward_tsn_if, accepts_point, on_no_data, on_data_in, on_data_if, on_data, on_forward, has_room, told_of_drop}
 use Rattle.spec_endpoint.specs.Sack.{clean_blocks, sample_rtt, clear_errors_if, send_after_sack, after_sack, on_sack_in, is_late, sampled_unless}
@@ -29,7 +29,7 @@ use Rattle.proof_awake.proofs.TimerLemmas.{started}
 use Rattle.proof_awake.proofs.ItemsLemmas.{some_flight}
 use Rattle.proof_awake.proofs.SenderLemmas.{sack_holds}
 use Rattle.proof_awake.proofs.BlockLemmas.{rto_least, observed_holds, forward_holds, with_sender, sampled_holds, with_tracker}
-use Rattle.proof_awake.proofs.SendingRowLemmas.{quieter, Beside, goes_out, chunk_goes_out, sends_buffered, lost_goes}
+use Rattle.proof_awake.proofs.SendingRowLemmas.{quieter, Beside, goes_out, chunk_goes_out, sends_buffered, lost_goes, sends_with}
 
 -- ---- states
 
@@ -238,7 +238,7 @@ module _ {P : Type 0} (avoids : Bool) where
   sends_after t o h =
       let x : AfterSending P = send_lost t o.context in
       let k = lost_goes avoids (is_established o.phase) (waits avoids o.phase) t o.context (h.0, h.1.1) in
-      let l = sends_buffered avoids (is_established o.phase) (waits avoids o.phase) (is_before_cookie_ack o.phase) x.tcb x.context k in
+      let l = sends_with avoids (is_established o.phase) (waits avoids o.phase) (is_before_cookie_ack o.phase) (answer_packet o.phase x.context.options x.tcb) x.tcb x.context k in
       (l.0, (h.1.0, l.1))
 
   -- a round trip may have been sampled

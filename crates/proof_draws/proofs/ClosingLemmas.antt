@@ -6,8 +6,8 @@ use Rattle.sctp_state.specs.declared.api.ErrorKind.TheVariants.{TooManyRetries, 
 use Rattle.sctp_state.specs.Events.{Event, OnClosed, OnAborted}
 use Rattle.sctp_rx.specs.DataTracker.{is_ack_due}
 use Rattle.spec_endpoint.specs.Association.{Tcb, Phase, CookieEchoed, Established, ShutdownPending, ShutdownSent, ShutdownReceived, ShutdownAckSent, State, Closed, CookieWait, Open, Context, EndpointState, where_open, Packing}
-use Rattle.spec_endpoint.specs.Packets.{PacketDraft, add, packet_to, new_packet, emit}
-use Rattle.spec_endpoint.specs.Sending.{AfterSending, take_due_ack, without_duplicates, selective_ack, is_before_cookie_ack, open_with, send_with}
+use Rattle.spec_endpoint.specs.Packets.{PacketDraft, add, packet_to, emit}
+use Rattle.spec_endpoint.specs.Sending.{AfterSending, take_due_ack, without_duplicates, selective_ack, is_before_cookie_ack, open_with, send_with, answer_packet}
 use Rattle.spec_endpoint.specs.Shutdown.{close_with, send_shutdown_ack, PhaseStep, shutdown_in_phase, open_phase_step, shutdown_in, shutdown, shut_by_peer, on_shutdown, complete_shutdown, out_of_the_blue, on_shutdown_ack_open, on_shutdown_ack_in, on_shutdown_ack, on_shutdown_complete, abort, close_in, close, too_many, abort_for_violation, on_error, refused_if, aborted_in, aborted}
 use Rattle.spec_endpoint.specs.Input.{ack_if_due, at_end, on_packet_end, repeats, packet_acked, shut_waiting, shut_if}
 use Rattle.spec_endpoint.specs.Opening.{on_cookie_ack}
@@ -16,7 +16,7 @@ use Rattle.proof_draws.specs.Names.{named_packet, named_phase, named_tcb, named_
 use Rattle.proof_draws.proofs.WritingLemmas.{Knows, named_add, named_emit, named_emit_chunk}
 use Rattle.proof_draws.proofs.TagLemmas.{alone_named}
 use Rattle.proof_draws.proofs.FillingLemmas.{ack_named, send_with_named, send_with_stays}
-use Rattle.proof_draws.proofs.SackLemmas.{named_onward, send_shutdown_named, go_on_named, pending_named}
+use Rattle.proof_draws.proofs.SackLemmas.{named_onward, send_shutdown_named, go_on_named, pending_named, answer_packet_named}
 use Rattle.proof_draws.proofs.AnswerLemmas.{established_named}
 use Rattle.proof_endpoint.proofs.RowMapsLemmas.{endpoint_state_in}
 use Rattle.sctp_tx.specs.RetransmissionQueue.{nothing_in_flight}
@@ -167,12 +167,14 @@ module _ {P : Type 0} (n : Names) (are : AreNames n) (pack : Packing P) where
 
   ended_if_named : (b : Bool) → OpenIsNamed n pack (ack_if_due b)
   ended_if_named true phase t c k =
-      let p : PacketDraft = new_packet c.options t in
+      let p : PacketDraft = answer_packet phase c.options t in
       let u : Tcb = named_tcb n (without_duplicates t) in
-      ap (λ (b : Bool). open_with (named_phase n phase) (send_with b (add (selective_ack (named_tcb n t)) (named_packet n p)) u (plain n pack c))) (alone_named n phase)
+      ap (λ (q : PacketDraft). open_with (named_phase n phase) (send_with (is_before_cookie_ack (named_phase n phase)) (add (selective_ack (named_tcb n t)) q) u (plain n pack c)))
+      (answer_packet_named n are phase c.options t)
+      ∙ (ap (λ (b : Bool). open_with (named_phase n phase) (send_with b (add (selective_ack (named_tcb n t)) (named_packet n p)) u (plain n pack c))) (alone_named n phase)
       ∙ (ap (λ (chunk : ChunkTree). open_with (named_phase n phase) (send_with (is_before_cookie_ack phase) (add chunk (named_packet n p)) u (plain n pack c))) (ack_named n t)
       ∙ (ap (λ (q : PacketDraft). open_with (named_phase n phase) (send_with (is_before_cookie_ack phase) q u (plain n pack c))) (named_add n are (selective_ack t) p)
-      ∙ ap (λ (x : AfterSending P). open_with (named_phase n phase) x) (send_with_named n are pack (is_before_cookie_ack phase) (add (selective_ack t) p) (without_duplicates t) c k)))
+      ∙ ap (λ (x : AfterSending P). open_with (named_phase n phase) x) (send_with_named n are pack (is_before_cookie_ack phase) (add (selective_ack t) p) (without_duplicates t) c k))))
   ended_if_named false phase t c k = refl
 
   packet_acked_named : OpenIsNamed n pack packet_acked
@@ -181,7 +183,7 @@ module _ {P : Type 0} (n : Names) (are : AreNames n) (pack : Packing P) where
       ended_if_named (is_ack_due false u.tracker.tracker.ack) phase (take_due_ack false u) c k
 
   acked_if_stays : (b : Bool) (phase : Phase) (t : Tcb) (c : Context P) → (ack_if_due b phase t c).context.pack ≡ c.pack
-  acked_if_stays true phase t c = send_with_stays (is_before_cookie_ack phase) (add (selective_ack t) (new_packet c.options t)) (without_duplicates t) c
+  acked_if_stays true phase t c = send_with_stays (is_before_cookie_ack phase) (add (selective_ack t) (answer_packet phase c.options t)) (without_duplicates t) c
   acked_if_stays false phase t c = refl
 
   acked_stays : (phase : Phase) (t : Tcb) (c : Context P) → (packet_acked phase t c).context.pack ≡ c.pack

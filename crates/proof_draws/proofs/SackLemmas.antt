@@ -1,26 +1,27 @@
 -- A SACK under other names: the same items are acknowledged, and what goes out behind it is written under the names.
 use Rattle.std.proofs.Common.{◌≡◌, ℕ, Bool, true, false, Option, Some, None, List, refl, ap, ◌∙◌}
 use Rattle.sctp_chunk.specs.declared.sack.GapAckBlock.{GapAckBlock}
-use Rattle.sctp_packet.specs.Chunk.{SackTree, shutdown_chunk, shutdown_ack_chunk}
+use Rattle.sctp_packet.specs.Chunk.{SackTree, shutdown_chunk, shutdown_ack_chunk, cookie_echo_chunk}
 use Rattle.sctp_state.specs.Events.{Emitted}
 use Rattle.sctp_tx_outstanding.specs.OutstandingData.{number_of}
 use Rattle.sctp_tx_outstanding.specs.Sack.{is_valid}
 use Rattle.sctp_rx.specs.DataTracker as tracker
 use Rattle.sctp_tx.specs.RetransmissionQueue.{Sender, SackAnswer, Invalid, Valid, sender_if, emitted_if, answer_if}
 use Rattle.spec_endpoint.specs.Association.{Tcb, Phase, CookieEchoed, Established, ShutdownPending, ShutdownSent, ShutdownReceived, ShutdownAckSent, State, Closed, CookieWait, Open, Context, EndpointState, Packing}
-use Rattle.spec_endpoint.specs.Packets.{add, new_packet, emit_chunk}
-use Rattle.spec_endpoint.specs.Sending.{AfterSending, is_before_cookie_ack, open_with, send_buffered, send_lost}
+use Rattle.spec_endpoint.specs.Packets.{add, new_packet, emit_chunk, PacketDraft, packet_to}
+use Rattle.spec_endpoint.specs.Sending.{AfterSending, is_before_cookie_ack, open_with, send_lost, send_with, cookie_packet_if, answer_packet}
 use Rattle.spec_endpoint.specs.Shutdown.{t2_shutdown, send_shutdown, PhaseStep, phase_step, pending_next, received_next, maybe_send_shutdown_or_ack, is_quiet}
 use Rattle.spec_endpoint.specs.Sack.{clean_blocks, sample_rtt, clear_errors_if, send_after, after_sack, on_clean_sack, on_sack_in, on_sack, is_late, sampled_unless}
 use Rattle.spec_endpoint.specs.Sack as acks
 use Rattle.proof_draws.specs.NamedChunks.{Names, AreNames, flip, named_sack}
-use Rattle.proof_draws.specs.Names.{named_sender, named_phase, named_tcb, named_state, named_endpoint_state, plain}
+use Rattle.proof_draws.specs.Names.{named_sender, named_phase, named_tcb, named_state, named_endpoint_state, plain, named_packet}
 use Rattle.proof_draws.proofs.MovedLemmas.{moved_wire}
-use Rattle.proof_draws.proofs.WritingLemmas.{Knows, named_emit_chunk, emit_stays}
+use Rattle.proof_draws.proofs.WritingLemmas.{Knows, named_emit_chunk, emit_stays, named_add}
 use Rattle.proof_draws.proofs.ReadingLemmas.{acked_number}
 use Rattle.proof_draws.proofs.TagLemmas.{alone_named}
-use Rattle.proof_draws.proofs.FillingLemmas.{named_sent, send_lost_named, send_buffered_named, send_lost_stays}
+use Rattle.proof_draws.proofs.FillingLemmas.{named_sent, send_lost_named, send_lost_stays, send_with_named}
 use Rattle.proof_endpoint.proofs.RowMapsLemmas.{received_with}
+use Rattle.sctp_state.specs.Options.{Options}
 
 abbrev pub named_onward : {P : Type 0} → Names → Packing P → PhaseStep P → PhaseStep P
 named_onward n pack o = record { phase = named_phase n o.phase; context = plain n pack o.context }
@@ -88,16 +89,34 @@ module _ {P : Type 0} (n : Names) (are : AreNames n) (pack : Packing P) where
   go_on_named ShutdownReceived t c k = received_named (is_quiet t c) t c k
   go_on_named (ShutdownAckSent t2) t c k = refl
 
-  send_after_named : (is_alone : Bool) (t : Tcb) (c : Context P) → Knows n pack c → send_after is_alone (named_tcb n t) (plain n pack c) ≡ named_sent n pack (send_after is_alone t c)
-  send_after_named is_alone t c k =
+  cookie_packet_named : (b : Bool) (cookie : List ℕ) (o : Options) (t : Tcb) → cookie_packet_if b (n.cookie cookie) o (named_tcb n t) ≡ named_packet n (cookie_packet_if b cookie o t)
+  cookie_packet_named true cookie o t = named_add n are (cookie_echo_chunk cookie) (packet_to t.identity.peer_tag o.mtu)
+  cookie_packet_named false cookie o t = refl
+
+  pub answer_packet_named : (phase : Phase) (o : Options) (t : Tcb) → answer_packet (named_phase n phase) o (named_tcb n t) ≡ named_packet n (answer_packet phase o t)
+  answer_packet_named (CookieEchoed t1 cookie) o t = cookie_packet_named o.avoid_stalls cookie o t
+  answer_packet_named Established o t = refl
+  answer_packet_named ShutdownPending o t = refl
+  answer_packet_named (ShutdownSent t2) o t = refl
+  answer_packet_named ShutdownReceived o t = refl
+  answer_packet_named (ShutdownAckSent t2) o t = refl
+
+  send_after_named : (phase : Phase) (t : Tcb) (c : Context P) → Knows n pack c
+      → send_after (named_phase n phase) (named_tcb n t) (plain n pack c) ≡ named_sent n pack (send_after phase t c)
+  send_after_named phase t c k =
       let x : AfterSending P = send_lost t c in
-      ap (λ (y : AfterSending P). send_buffered is_alone y.tcb y.context) (send_lost_named n are pack t c k)
-      ∙ send_buffered_named n are pack is_alone x.tcb x.context (send_lost_stays t c ∙ k)
+      let u : Tcb = named_tcb n x.tcb in
+      let d : Context P = plain n pack x.context in
+      let p : PacketDraft = answer_packet phase x.context.options x.tcb in
+      let q : PacketDraft = answer_packet (named_phase n phase) x.context.options u in
+      ap (λ (y : AfterSending P). send_with (is_before_cookie_ack (named_phase n phase)) (answer_packet (named_phase n phase) y.context.options y.tcb) y.tcb y.context)
+      (send_lost_named n are pack t c k)
+      ∙ (ap (λ (b : Bool). send_with b q u d) (alone_named n phase)
+      ∙ (ap (λ (r : PacketDraft). send_with (is_before_cookie_ack phase) r u d) (answer_packet_named phase x.context.options x.tcb)
+      ∙ send_with_named n are pack (is_before_cookie_ack phase) p x.tcb x.context (send_lost_stays t c ∙ k)))
 
   goes_on_named : (t : Tcb) (o : PhaseStep P) → Knows n pack o.context → acks.send_after_sack (named_tcb n t) (named_onward n pack o) ≡ named_endpoint_state n pack (acks.send_after_sack t o)
-  goes_on_named t o k =
-      ap (λ (b : Bool). open_with (named_phase n o.phase) (send_after b (named_tcb n t) (plain n pack o.context))) (alone_named n o.phase)
-      ∙ ap (λ (x : AfterSending P). open_with (named_phase n o.phase) x) (send_after_named (is_before_cookie_ack o.phase) t o.context k)
+  goes_on_named t o k = ap (λ (x : AfterSending P). open_with (named_phase n o.phase) x) (send_after_named o.phase t o.context k)
 
   receives_named : (a : SackAnswer) (phase : Phase) (t : Tcb) (c : Context P) → Knows n pack c → after_sack a (named_phase n phase) (named_tcb n t) (plain n pack c) ≡ named_endpoint_state n pack (after_sack a phase t c)
   receives_named Invalid phase t c k = refl

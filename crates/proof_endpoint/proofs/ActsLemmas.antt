@@ -10,17 +10,17 @@ use Rattle.sctp_state.specs.declared.api.ErrorKind.TheVariants.{ParseFailed}
 use Rattle.sctp_rx.specs.DataTracker.{is_ack_due}
 use Rattle.spec_endpoint.specs.Association.{Tcb, Phase, CookieEchoed, Established, ShutdownPending, ShutdownSent, ShutdownReceived, ShutdownAckSent, State, Closed, CookieWait, Open, Context, EndpointState, Endpoint, in_context}
 use Rattle.spec_endpoint.specs.Heartbeats.{info_in, clear_if_last, is_last_info, no_info, ack_by_length, on_heartbeat_info, on_heartbeat_ack}
-use Rattle.spec_endpoint.specs.Packets.{PacketDraft, add, new_packet}
-use Rattle.spec_endpoint.specs.Sending.{take_due_ack, without_duplicates, selective_ack, is_before_cookie_ack}
+use Rattle.spec_endpoint.specs.Packets.{PacketDraft, add}
+use Rattle.spec_endpoint.specs.Sending.{take_due_ack, without_duplicates, selective_ack, is_before_cookie_ack, answer_packet}
 use Rattle.spec_endpoint.specs.Shutdown.{abort_for_violation, on_error, on_shutdown, on_shutdown_complete}
 use Rattle.spec_endpoint.specs.Opening.{on_cookie_ack}
 use Rattle.spec_endpoint.specs.StreamReset.{on_reconfig}
 use Rattle.spec_endpoint.specs.Input.{packet_refusal, is_reported, unrecognized_chunk_error, report_unrecognized_in, emit_unknown_chunk_error, on_unknown_if, on_heartbeat, AfterChunk, in_endpoint_state, on_chunk, violation, received_unless, receive, receive_rest, receive_all, has_data_chunk, repeats, repeats_if, ack_if_due, at_end, on_packet_end, on_accepted_packet, count_packet_at as counts_row, packet_unless, on_packet, on_no_packet, packet_acked, shut_waiting, shut_if}
 use Rattle.spec_endpoint.specs.Laws.{Call, Connect, Close, Shutdown, Send, SendMany, ResetStreams, TakeMessage, SetLowThreshold, SetPriority, SetMaxMessageSize, Advance, HandOver, Restore, ReceivePacket as Given, ReceiveNoPacket, called}
 use Rattle.proof_endpoint.specs.Acts.{EndWithPacket, at, idle, calm, BringsChunk, counts, asks, adds_ack, beats, counts_errors, shuts_on, ends_packet, Preserves}
-use Rattle.proof_endpoint.proofs.BundledLemmas.{first_more}
+use Rattle.proof_endpoint.proofs.BundledLemmas.{added_more, answer_more}
 use Rattle.proof_endpoint.proofs.OwnChunksLemmas.{fair_error, reason_is_text}
-use Rattle.proof_endpoint.proofs.PacketActsLemmas.{does_begin_new, does_chunk, does_emit_error, does_send_with}
+use Rattle.proof_endpoint.proofs.PacketActsLemmas.{does_chunk, does_emit_error, does_send_with, does_begin_answer}
 use Rattle.proof_endpoint.proofs.RowActsLemmas.{placed, OpenActs, does_where_open, does_send_shutdown, does_close, does_shutdown, does_shut_by_peer, does_shutdown_ack, does_shutdown_complete, does_abort_for_violation, does_abort, does_error, does_data_chunk, does_idata_chunk, does_forward_chunk, does_iforward_chunk, does_sack, does_on}
 use Rattle.proof_endpoint.proofs.OpeningActsLemmas.{does_connect, does_init, does_init_ack, does_cookie_ack, does_cookie_echo}
 use Rattle.proof_endpoint.proofs.TimeActsLemmas.{does_advance}
@@ -135,10 +135,10 @@ module _ {P : Type 0} {call : Call} {R : EndWithPacket P → EndWithPacket P →
 
   does_ended_if : (b : Bool) (phase : Phase) (t : Tcb) (c : Context P) (w : Stream) → R (idle (Open phase t) c w) (placed (ack_if_due b phase t c) w)
   does_ended_if true phase t c w =
-      let p : PacketDraft = new_packet c.options t in
-      k.through (does_begin_new k phase t c w)
+      let p : PacketDraft = answer_packet phase c.options t in
+      k.through (does_begin_answer k w phase t c)
       (k.through (k.sending (adds_ack phase t (at (Open phase t) c w p)))
-      (does_send_with k phase w (is_before_cookie_ack phase) (add (selective_ack t) p) (without_duplicates t) c (first_more (selective_ack t) p refl refl)))
+      (does_send_with k phase w (is_before_cookie_ack phase) (add (selective_ack t) p) (without_duplicates t) c (added_more (selective_ack t) p (answer_more phase c.options t) refl)))
   does_ended_if false phase t c w = k.same (idle (Open phase t) c w)
 
   does_acked : (w : Stream) → OpenActs R w packet_acked

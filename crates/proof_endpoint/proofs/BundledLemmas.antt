@@ -11,12 +11,13 @@ use Rattle.sctp_tx.specs.Sending.{send}
 use Rattle.sctp_tx_queue.specs.Resets.{streams_to_request, request_resets}
 use Rattle.sctp_rx.specs.DataTracker.{is_ack_due}
 use Rattle.sctp_tx_outstanding.specs.Forward.{is_forward_due}
-use Rattle.spec_endpoint.specs.Association.{Tcb}
-use Rattle.spec_endpoint.specs.Packets.{PacketDraft, room, fits, added_if, add, add_all, has_chunks}
+use Rattle.spec_endpoint.specs.Association.{Tcb, Phase, CookieEchoed, Established, ShutdownPending, ShutdownSent, ShutdownReceived, ShutdownAckSent}
+use Rattle.spec_endpoint.specs.Packets.{PacketDraft, room, fits, added_if, add, add_all, has_chunks, packet_to}
 use Rattle.spec_endpoint.specs.ResetRequests.{Request, request_chunk}
 use Rattle.spec_endpoint.specs.Sending as sending
 use Rattle.spec_endpoint.specs.Sending.{Filling, selective_ack, with_expired_abandoned, most_streams, request_started, asks_at_once, ack_if, with_ack, forward_added_if, forward_if, forward_if_time, with_forward, add_request, request_of, request_unless, with_request, data_chunks, with_data, filled_as, burst_step_if, next_packet}
 use Rattle.proof_endpoint.specs.Acts.{is_plain, goes_along, goes_first, takes_more, IsBundled, all_along}
+use Rattle.sctp_state.specs.Options.{Options}
 
 -- ---- chunks
 
@@ -74,6 +75,19 @@ first_if false c p new e = new_more p.chunks new
 
 pub first_more : (c : ChunkTree) (p : PacketDraft) → p.chunks ≡ [] → goes_first c ≡ true → takes_more (add c p).chunks ≡ true
 first_more c p new e = first_if (fits p c) c p new e
+
+-- one that answers has nothing in it, or the COOKIE ECHO
+cookie_packet_more : (avoids : Bool) (cookie : List ℕ) (o : Options) (t : Tcb) → takes_more (sending.cookie_packet_if avoids cookie o t).chunks ≡ true
+cookie_packet_more true cookie o t = first_more (cookie_echo_chunk cookie) (packet_to t.identity.peer_tag o.mtu) refl refl
+cookie_packet_more false cookie o t = refl
+
+pub answer_more : (phase : Phase) (o : Options) (t : Tcb) → takes_more (sending.answer_packet phase o t).chunks ≡ true
+answer_more (CookieEchoed t1 cookie) o t = cookie_packet_more o.avoid_stalls cookie o t
+answer_more Established o t = refl
+answer_more ShutdownPending o t = refl
+answer_more (ShutdownSent t2) o t = refl
+answer_more ShutdownReceived o t = refl
+answer_more (ShutdownAckSent t2) o t = refl
 
 -- ---- a burst
 

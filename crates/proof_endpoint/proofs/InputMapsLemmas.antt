@@ -8,8 +8,8 @@ use Rattle.sctp_state.specs.declared.api.ErrorKind.TheVariants.{ParseFailed}
 use Rattle.sctp_rx.specs.DataTracker.{is_ack_due}
 use Rattle.spec_endpoint.specs.Association.{Tcb, Phase, CookieEchoed, Established, ShutdownPending, ShutdownSent, ShutdownReceived, ShutdownAckSent, State, Closed, CookieWait, Open, Context, EndpointState, Endpoint, in_context, where_open}
 use Rattle.spec_endpoint.specs.Heartbeats.{info_in, clear_if_last, is_last_info, no_info, ack_by_length, on_heartbeat_info, on_heartbeat_ack}
-use Rattle.spec_endpoint.specs.Packets.{add, new_packet, emit_chunk}
-use Rattle.spec_endpoint.specs.Sending.{AfterSending, take_due_ack, without_duplicates, selective_ack, is_before_cookie_ack, open_with}
+use Rattle.spec_endpoint.specs.Packets.{add, emit_chunk}
+use Rattle.spec_endpoint.specs.Sending.{AfterSending, take_due_ack, without_duplicates, selective_ack, is_before_cookie_ack, open_with, answer_packet}
 use Rattle.spec_endpoint.specs.Shutdown.{send_shutdown, abort_for_violation, aborted, on_error, on_shutdown, on_shutdown_ack, on_shutdown_complete, PhaseStep, open_phase_step}
 use Rattle.spec_endpoint.specs.Data.{on_data, on_forward}
 use Rattle.spec_endpoint.specs.Sack.{on_sack}
@@ -143,7 +143,7 @@ module _ {P Q : Type 0} (f : Mapping P Q) where
 
   maps_ended_if : (b : Bool) → OpenMaps f (ack_if_due b) (ack_if_due b)
   maps_ended_if true phase t c =
-      ap (λ (x : AfterSending Q). open_with phase x) (maps_send_with f (is_before_cookie_ack phase) (add (selective_ack t) (new_packet c.options t)) (without_duplicates t) c)
+      ap (λ (x : AfterSending Q). open_with phase x) (maps_send_with f (is_before_cookie_ack phase) (add (selective_ack t) (answer_packet phase c.options t)) (without_duplicates t) c)
   maps_ended_if false phase t c = refl
 
   maps_acked : OpenMaps f packet_acked packet_acked

@@ -8,16 +8,16 @@ use Rattle.sctp_state.specs.declared.api.ErrorKind.TheVariants.{ParseFailed}
 use Rattle.sctp_rx.specs.DataTracker.{is_ack_due}
 use Rattle.spec_endpoint.specs.Association.{Tcb, Phase, CookieEchoed, Established, ShutdownPending, ShutdownSent, ShutdownReceived, ShutdownAckSent, State, Closed, CookieWait, Open, Context, EndpointState, Endpoint, in_context, where_open}
 use Rattle.spec_endpoint.specs.Heartbeats.{info_in, clear_if_last, is_last_info, no_info, ack_by_length, on_heartbeat_info, on_heartbeat_ack}
-use Rattle.spec_endpoint.specs.Packets.{PacketDraft, add, new_packet}
-use Rattle.spec_endpoint.specs.Sending.{take_due_ack, without_duplicates, selective_ack, is_before_cookie_ack}
+use Rattle.spec_endpoint.specs.Packets.{PacketDraft, add}
+use Rattle.spec_endpoint.specs.Sending.{take_due_ack, without_duplicates, selective_ack, is_before_cookie_ack, answer_packet}
 use Rattle.spec_endpoint.specs.Shutdown.{abort_for_violation, on_error, on_shutdown, on_shutdown_complete}
 use Rattle.spec_endpoint.specs.Opening.{on_cookie_ack}
 use Rattle.spec_endpoint.specs.StreamReset.{on_reconfig}
 use Rattle.spec_endpoint.specs.Input.{packet_refusal, is_reported, unrecognized_chunk_error, report_unrecognized_in, emit_unknown_chunk_error, on_unknown_if, on_unknown, on_heartbeat, AfterChunk, in_endpoint_state, on_chunk, violation, received_unless, receive, receive_rest, receive_all, has_data_chunk, repeats, repeats_if, ack_if_due, at_end, on_packet_end, on_accepted_packet, count_packet, count_packet_at, packet_unless, on_packet, on_no_packet, packet_acked, shut_waiting, shut_if}
 use Rattle.spec_endpoint.specs.Laws.{ends, endings_after, endings_by, endings_unless, endings_in}
 use Rattle.proof_endpoint.proofs.StepsLemmas.{most_bytes, Goes, Steps, EndSteps}
-use Rattle.proof_endpoint.proofs.GoesLemmas.{small_add, small_new, goes_silent, goes_same, goes_through, goes_then, goes_last, goes_emit_error, goes_emit_chunk}
-use Rattle.proof_endpoint.proofs.SendingStepsLemmas.{goes_send_with}
+use Rattle.proof_endpoint.proofs.GoesLemmas.{small_add, goes_silent, goes_same, goes_through, goes_then, goes_last, goes_emit_error, goes_emit_chunk}
+use Rattle.proof_endpoint.proofs.SendingStepsLemmas.{goes_send_with, small_answer}
 use Rattle.proof_endpoint.proofs.RowStepsLemmas.{OpenSteps, steps_context, steps_same, steps_where_open, goes_send_shutdown, steps_abort_for_violation, steps_aborted, steps_error, steps_data, steps_forward, steps_sack, steps_shut_by_peer, steps_shutdown_ack, steps_shutdown_complete, goes_on}
 use Rattle.proof_endpoint.proofs.ResetStepsLemmas.{steps_reconfig}
 use Rattle.proof_endpoint.proofs.OpeningStepsLemmas.{steps_init, steps_init_ack, steps_cookie_ack, steps_emit_parse_error, steps_cookie_echo}
@@ -131,8 +131,8 @@ module _ {P : Type 0} where
 
   goes_ended_if : (b : Bool) (phase : Phase) (t : Tcb) (c : Context P) → Goes 0 c (ack_if_due b phase t c).context
   goes_ended_if true phase t c =
-      let p : PacketDraft = new_packet c.options t in
-      goes_send_with c (is_before_cookie_ack phase) (add (selective_ack t) p) (without_duplicates t) (small_add (most_bytes c) p (selective_ack t) (small_new t c))
+      let p : PacketDraft = answer_packet phase c.options t in
+      goes_send_with c (is_before_cookie_ack phase) (add (selective_ack t) p) (without_duplicates t) (small_add (most_bytes c) p (selective_ack t) (small_answer c phase t))
   goes_ended_if false phase t c = goes_same c
 
   goes_acked : (phase : Phase) (t : Tcb) (c : Context P) → Goes 0 c (packet_acked phase t c).context

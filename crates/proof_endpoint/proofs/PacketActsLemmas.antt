@@ -11,10 +11,10 @@ use Rattle.sctp_rx.specs.DataTracker.{is_ack_due}
 use Rattle.sctp_tx.specs.ForwardPoints.{forward_chunk}
 use Rattle.sctp_tx.specs.Resent.{resent_fast}
 use Rattle.sctp_tx_queue.specs.Resets.{streams_to_request, request_resets}
-use Rattle.spec_endpoint.specs.Association.{Tcb, Phase, CookieEchoed, State, Open, Context}
+use Rattle.spec_endpoint.specs.Association.{Tcb, Phase, CookieEchoed, State, Open, Context, Established, ShutdownPending, ShutdownSent, ShutdownReceived, ShutdownAckSent}
 use Rattle.spec_endpoint.specs.ResetRequests.{Request}
 use Rattle.spec_endpoint.specs.Packets.{PacketDraft, clear_chunks, fits, add, has_chunks, round_down_to_4, packet_to, new_packet, emit_error, emit_if, emit, emit_chunk}
-use Rattle.spec_endpoint.specs.Sending.{Filling, take_due_ack, ack_if, has_data_to_send, with_ack, forward_later, forward_added_if, forward_if, with_expired_abandoned, forward_if_time, with_forward, most_streams, add_request, request_started, request_of, request_unless, with_request, with_data, filled_as, BurstStep, burst_step_if, next_packet, continue_burst, burst, send_with, send_buffered, cookie_if, send_cookie, fast_most, fast_packet, fast_if, send_lost}
+use Rattle.spec_endpoint.specs.Sending.{Filling, take_due_ack, ack_if, has_data_to_send, with_ack, forward_later, forward_added_if, forward_if, with_expired_abandoned, forward_if_time, with_forward, most_streams, add_request, request_started, request_of, request_unless, with_request, with_data, filled_as, BurstStep, burst_step_if, next_packet, continue_burst, burst, send_with, send_buffered, cookie_if, send_cookie, fast_most, fast_packet, fast_if, send_lost, cookie_packet_if, answer_packet}
 use Rattle.spec_endpoint.specs.Laws.{Call}
 use Rattle.proof_endpoint.specs.Sound.{FitsState}
 use Rattle.proof_endpoint.specs.Fair.{IsFair}
@@ -197,16 +197,36 @@ module _ {P : Type 0} {call : Call} {R : EndWithPacket P → EndWithPacket P →
 
 -- the cookie goes out, from the phase that keeps it
 module _ {P : Type 0} {call : Call} {R : EndWithPacket P → EndWithPacket P → Type 0} (k : Preserves call R) (t1 : Timer) (cookie : List ℕ) (w : Stream) where
+  does_begin_cookie : (t : Tcb) (c : Context P)
+      → R (idle (Open (CookieEchoed t1 cookie) t) c w) (at (Open (CookieEchoed t1 cookie) t) c w (add (cookie_echo_chunk cookie) (packet_to t.identity.peer_tag c.options.mtu)))
+  does_begin_cookie t c =
+      let p : PacketDraft = packet_to t.identity.peer_tag c.options.mtu in
+      let s : State = Open (CookieEchoed t1 cookie) t in
+      k.through (does_begin k s c w p refl (always refl) (whole_addressed s c w p refl (λ f held. held.1.identity.peer_tag)))
+      (k.opening (adds_cookie t1 cookie t (at s c w p) refl))
+
   does_cookie_if : (b : Bool) (t : Tcb) (c : Context P)
       → R (idle (Open (CookieEchoed t1 cookie) t) c w) (idle (Open (CookieEchoed t1 cookie) (cookie_if b cookie t c).tcb) (cookie_if b cookie t c).context w)
   does_cookie_if true t c =
       let p : PacketDraft = packet_to t.identity.peer_tag c.options.mtu in
-      let s : State = Open (CookieEchoed t1 cookie) t in
-      k.through (does_begin k s c w p refl (always refl) (whole_addressed s c w p refl (λ f held. held.1.identity.peer_tag)))
-      (k.through (k.opening (adds_cookie t1 cookie t (at s c w p) refl))
-      (does_send_with k (CookieEchoed t1 cookie) w true (add (cookie_echo_chunk cookie) p) t c (first_more (cookie_echo_chunk cookie) p refl refl)))
+      k.through (does_begin_cookie t c)
+      (does_send_with k (CookieEchoed t1 cookie) w true (add (cookie_echo_chunk cookie) p) t c (first_more (cookie_echo_chunk cookie) p refl refl))
   does_cookie_if false t c = k.same (idle (Open (CookieEchoed t1 cookie) t) c w)
+
+  does_cookie_packet : (b : Bool) (t : Tcb) (c : Context P) → R (idle (Open (CookieEchoed t1 cookie) t) c w) (at (Open (CookieEchoed t1 cookie) t) c w (cookie_packet_if b cookie c.options t))
+  does_cookie_packet true t c = does_begin_cookie t c
+  does_cookie_packet false t c = does_begin_new k (CookieEchoed t1 cookie) t c w
 
   pub does_send_cookie : (t : Tcb) (c : Context P)
       → R (idle (Open (CookieEchoed t1 cookie) t) c w) (idle (Open (CookieEchoed t1 cookie) (send_cookie cookie t c).tcb) (send_cookie cookie t c).context w)
   does_send_cookie t c = does_cookie_if (fits (packet_to t.identity.peer_tag c.options.mtu) (cookie_echo_chunk cookie)) t c
+
+-- a packet in which something is answered is begun
+module _ {P : Type 0} {call : Call} {R : EndWithPacket P → EndWithPacket P → Type 0} (k : Preserves call R) (w : Stream) where
+  pub does_begin_answer : (phase : Phase) (t : Tcb) (c : Context P) → R (idle (Open phase t) c w) (at (Open phase t) c w (answer_packet phase c.options t))
+  does_begin_answer (CookieEchoed t1 cookie) t c = does_cookie_packet k t1 cookie w c.options.avoid_stalls t c
+  does_begin_answer Established t c = does_begin_new k Established t c w
+  does_begin_answer ShutdownPending t c = does_begin_new k ShutdownPending t c w
+  does_begin_answer (ShutdownSent t2) t c = does_begin_new k (ShutdownSent t2) t c w
+  does_begin_answer ShutdownReceived t c = does_begin_new k ShutdownReceived t c w
+  does_begin_answer (ShutdownAckSent t2) t c = does_begin_new k (ShutdownAckSent t2) t c w

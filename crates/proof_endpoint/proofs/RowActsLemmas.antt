@@ -17,7 +17,7 @@ use Rattle.sctp_tx.specs.RetransmissionQueue.{SackAnswer, Invalid, Valid, sender
 use Rattle.sctp_state.specs.Timer.{Timer}
 use Rattle.spec_endpoint.specs.Association.{Tcb, Phase, CookieEchoed, Established, ShutdownPending, ShutdownSent, ShutdownReceived, ShutdownAckSent, State, Closed, CookieWait, Open, Context, EndpointState, where_open}
 use Rattle.spec_endpoint.specs.Packets.{PacketDraft, packet_to, emit_chunk}
-use Rattle.spec_endpoint.specs.Sending.{AfterSending, is_before_cookie_ack, send_lost}
+use Rattle.spec_endpoint.specs.Sending.{AfterSending, is_before_cookie_ack, send_lost, answer_packet}
 use Rattle.spec_endpoint.specs.Shutdown.{t2_shutdown, close_with, send_shutdown, send_shutdown_ack, PhaseStep, is_quiet, pending_next, received_next, maybe_send_shutdown_or_ack, shutdown_in_phase, shutdown_in, shutdown, shut_by_peer, on_shutdown, complete_shutdown, out_of_the_blue, on_shutdown_ack_open, on_shutdown_ack_in, on_shutdown_ack, on_shutdown_complete, abort, close_in, close, too_many, abort_for_violation, causes_text, refused_if, aborted_in, aborted, on_error}
 use Rattle.spec_endpoint.specs.Data.{no_data, on_no_data, not_connected, has_room, accepts_tsn, accepts_fragment, told_of_drop, take_fragment, fragment_if, on_data_in, on_data_if, on_data, accepts_point, handle_forward_tsn, handle_forward_tsn_if, handle_forward_tsn_in, on_forward}
 use Rattle.spec_endpoint.specs.Sack.{clean_blocks, is_late, sampled_unless, sample_rtt, clear_errors_if, send_after, after_sack, no_block, on_sack_in, on_sack}
@@ -26,7 +26,8 @@ use Rattle.spec_endpoint.specs.Laws.{Call, Shutdown, ending, is_closed}
 use Rattle.proof_endpoint.specs.Fair.{IsFairCause}
 use Rattle.proof_endpoint.specs.Acts.{always, EndWithPacket, idle, in_open, BringsChunk, Fitting, point_of, closes, shuts, shuts_on, takes_data, takes_idata, takes_forward, takes_iforward, takes_sack, samples, counts_errors, forces_ack, Preserves}
 use Rattle.proof_endpoint.proofs.OwnChunksLemmas.{fair_user_abort, fair_abort, fair_error, fair_shutdown, fair_shutdown_ack, fair_complete}
-use Rattle.proof_endpoint.proofs.PacketActsLemmas.{whole_addressed, does_plain, does_chunk, does_emit_error, does_send_buffered, does_send_lost}
+use Rattle.proof_endpoint.proofs.PacketActsLemmas.{whole_addressed, does_plain, does_chunk, does_emit_error, does_send_lost, does_begin_answer, does_send_with}
+use Rattle.proof_endpoint.proofs.BundledLemmas.{answer_more}
 
 -- an end with this endpoint state and this random stream, and nothing begun
 abbrev pub placed : {P : Type 0} → EndpointState P → Stream → EndWithPacket P
@@ -307,10 +308,13 @@ module _ {P : Type 0} {call : Call} {R : EndWithPacket P → EndWithPacket P →
   -- ---- acknowledgements
 
   does_send_after : (phase : Phase) (t : Tcb) (c : Context P)
-      → R (idle (Open phase t) c w) (idle (Open phase (send_after (is_before_cookie_ack phase) t c).tcb) (send_after (is_before_cookie_ack phase) t c).context w)
+      → R (idle (Open phase t) c w) (idle (Open phase (send_after phase t c).tcb) (send_after phase t c).context w)
   does_send_after phase t c =
       let x : AfterSending P = send_lost t c in
-      k.through (does_send_lost k phase w t c) (does_send_buffered k phase w (is_before_cookie_ack phase) x.tcb x.context)
+      let p : PacketDraft = answer_packet phase x.context.options x.tcb in
+      k.through (does_send_lost k phase w t c)
+      (k.through (does_begin_answer k w phase x.tcb x.context)
+      (does_send_with k phase w (is_before_cookie_ack phase) p x.tcb x.context (answer_more phase x.context.options x.tcb)))
 
   does_sampled : (o : Option ℕ) (phase : Phase) (t : Tcb) (c : Context P) → R (idle (Open phase t) c w) (idle (Open phase (sample_rtt o t)) c w)
   does_sampled None phase t c = k.same (idle (Open phase t) c w)

@@ -14,7 +14,7 @@ use Rattle.sctp_tx.specs.RetransmissionQueue.{Sender, SackAnswer, Invalid, Valid
 use Rattle.spec_endpoint.specs.Association.{Tcb, Phase, CookieEchoed, Established, ShutdownPending, ShutdownSent, ShutdownReceived, ShutdownAckSent, State, Closed, CookieWait, Open, Heartbeats, Context, EndpointState, where_open}
 use Rattle.spec_endpoint.specs.Heartbeats.{stop_heartbeats}
 use Rattle.spec_endpoint.specs.Packets.{add, packet_to, emit_error, emit_chunk}
-use Rattle.spec_endpoint.specs.Sending.{AfterSending, is_before_cookie_ack, open_with, send_buffered, send_lost}
+use Rattle.spec_endpoint.specs.Sending.{AfterSending, is_before_cookie_ack, open_with, send_lost, answer_packet, send_with}
 use Rattle.spec_endpoint.specs.Shutdown.{ended, cleared_if, emptied_if, over, close_with, t2_shutdown, send_shutdown, send_shutdown_ack, PhaseStep, phase_step, pending_next, received_next, maybe_send_shutdown_or_ack, shutdown_in_phase, open_phase_step, shutdown_in, shutdown, shut_by_peer, on_shutdown, complete_shutdown, out_of_the_blue, on_shutdown_ack_open, on_shutdown_ack_in, on_shutdown_ack, on_shutdown_complete, abort, close_in, close, too_many, abort_for_violation, causes_text, on_abort, refused_if, aborted_in, aborted, on_error, is_quiet}
 use Rattle.spec_endpoint.specs.Data.{no_data, on_no_data, not_connected, on_data_in, on_data_if, on_data, on_forward}
 use Rattle.spec_endpoint.specs.Sack.{clean_blocks, sample_rtt, clear_errors_if, send_after, after_sack, on_clean_sack, no_block, on_sack_in, on_sack, is_late, sampled_unless}
@@ -22,7 +22,7 @@ use Rattle.spec_endpoint.specs.Sack as acks
 use Rattle.proof_endpoint.specs.Mapped.{Mapping, map_event, map_emitted, map_context, map_endpoint_state}
 use Rattle.proof_endpoint.proofs.EmittedMapsLemmas.{same_sender, maps_sack}
 use Rattle.proof_endpoint.proofs.EmptiedLemmas.{maps_emptied}
-use Rattle.proof_endpoint.proofs.SendingMapsLemmas.{map_sent, maps_say, maps_emit_error, maps_emit, maps_emit_chunk, maps_send_buffered, maps_send_lost}
+use Rattle.proof_endpoint.proofs.SendingMapsLemmas.{map_sent, maps_say, maps_emit_error, maps_emit, maps_emit_chunk, maps_send_lost, maps_send_with}
 
 abbrev pub endpoint_state_in : {P : Type 0} → State → Context P → EndpointState P
 endpoint_state_in st c = record { state = st; context = c }
@@ -243,13 +243,14 @@ module _ {P Q : Type 0} (f : Mapping P Q) where
 
   -- ---- acknowledgements
 
-  maps_send_after : (is_alone : Bool) (t : Tcb) (c : Context P) → send_after is_alone t (map_context f c) ≡ map_sent f (send_after is_alone t c)
-  maps_send_after is_alone t c =
+  maps_send_after : (phase : Phase) (t : Tcb) (c : Context P) → send_after phase t (map_context f c) ≡ map_sent f (send_after phase t c)
+  maps_send_after phase t c =
       let x : AfterSending P = send_lost t c in
-      ap (λ (y : AfterSending Q). send_buffered is_alone y.tcb y.context) (maps_send_lost f t c) ∙ maps_send_buffered f is_alone x.tcb x.context
+      ap (λ (y : AfterSending Q). send_with (is_before_cookie_ack phase) (answer_packet phase y.context.options y.tcb) y.tcb y.context) (maps_send_lost f t c)
+      ∙ maps_send_with f (is_before_cookie_ack phase) (answer_packet phase x.context.options x.tcb) x.tcb x.context
 
   maps_goes_on : (t : Tcb) (o : PhaseStep P) → acks.send_after_sack t (map_onward f o) ≡ map_endpoint_state f (acks.send_after_sack t o)
-  maps_goes_on t o = ap (λ (x : AfterSending Q). open_with o.phase x) (maps_send_after (is_before_cookie_ack o.phase) t o.context)
+  maps_goes_on t o = ap (λ (x : AfterSending Q). open_with o.phase x) (maps_send_after o.phase t o.context)
 
   maps_receive : (a : SackAnswer) (phase : Phase) (t : Tcb) (c : Context P) → after_sack a phase t (map_context f c) ≡ map_endpoint_state f (after_sack a phase t c)
   maps_receive Invalid phase t c = refl

@@ -13,7 +13,7 @@ use Rattle.sctp_tx.specs.RetransmissionQueue.{SackAnswer, Invalid, Valid, sender
 use Rattle.sctp_state.specs.Timer.{Timer}
 use Rattle.spec_endpoint.specs.Association.{Tcb, Phase, CookieEchoed, Established, ShutdownPending, ShutdownSent, ShutdownReceived, ShutdownAckSent, State, Closed, CookieWait, Open, Context, EndpointState, open_as, with_context, where_open}
 use Rattle.spec_endpoint.specs.Packets.{PacketDraft, add, packet_to, emit_chunk}
-use Rattle.spec_endpoint.specs.Sending.{is_before_cookie_ack, send_lost}
+use Rattle.spec_endpoint.specs.Sending.{is_before_cookie_ack, send_lost, answer_packet}
 use Rattle.spec_endpoint.specs.Shutdown.{ended, close_with, send_shutdown, send_shutdown_ack, PhaseStep, pending_next, received_next, maybe_send_shutdown_or_ack, shutdown_in_phase, shutdown_in, shutdown, on_shutdown, complete_shutdown, out_of_the_blue, on_shutdown_ack_open, on_shutdown_ack_in, on_shutdown_ack, on_shutdown_complete, abort, close_in, close, too_many, abort_for_violation, causes_text, refused_if, aborted_in, aborted, on_error, is_quiet}
 use Rattle.spec_endpoint.specs.Data.{no_data, on_no_data, not_connected, on_data_in, on_data_if, on_data, handle_forward_tsn_in, on_forward}
 use Rattle.spec_endpoint.specs.Sack.{clean_blocks, sample_rtt, clear_errors_if, send_after, after_sack, on_clean_sack, no_block, on_sack_in, on_sack, is_late, sampled_unless}
@@ -22,7 +22,7 @@ use Rattle.spec_endpoint.specs.Laws.{IsShort, ending, ends}
 use Rattle.proof_endpoint.proofs.StepsLemmas.{most_bytes, Goes, Steps}
 use Rattle.proof_endpoint.proofs.EmitsLemmas.{emits_sack}
 use Rattle.proof_endpoint.proofs.GoesLemmas.{small_add, small_whole, goes_emit, goes_by, goes_silent, goes_same, goes_then, goes_last, goes_said, goes_emit_error, goes_emit_chunk}
-use Rattle.proof_endpoint.proofs.SendingStepsLemmas.{goes_send_buffered, goes_send_lost}
+use Rattle.proof_endpoint.proofs.SendingStepsLemmas.{goes_send_lost, goes_send_with, small_answer}
 use Rattle.proof_endpoint.proofs.EmptiedLemmas.{emits_emptied}
 
 -- from a state and a context
@@ -229,13 +229,14 @@ module _ {P : Type 0} where
 
   -- ---- acknowledgements
 
-  goes_send_after : (is_alone : Bool) (t : Tcb) (c : Context P) → Goes 0 c (send_after is_alone t c).context
-  goes_send_after is_alone t c =
+  goes_send_after : (phase : Phase) (t : Tcb) (c : Context P) → Goes 0 c (send_after phase t c).context
+  goes_send_after phase t c =
       let x = send_lost t c in
-      goes_then 0 c x.context (send_after is_alone t c).context (goes_send_lost c t) (goes_send_buffered x.context is_alone x.tcb)
+      goes_then 0 c x.context (send_after phase t c).context (goes_send_lost c t)
+      (goes_send_with x.context (is_before_cookie_ack phase) (answer_packet phase x.context.options x.tcb) x.tcb (small_answer x.context phase x.tcb))
 
   goes_received_on : (t : Tcb) (o : PhaseStep P) → Goes 0 o.context (acks.send_after_sack t o).context
-  goes_received_on t o = goes_send_after (is_before_cookie_ack o.phase) t o.context
+  goes_received_on t o = goes_send_after o.phase t o.context
 
   steps_received : (a : SackAnswer) (phase : Phase) (t : Tcb) (c : Context P) (old : Phase) (u : Tcb) → StepsFrom (Open old u) c (after_sack a phase t c)
   steps_received Invalid phase t c old u = goes_same c

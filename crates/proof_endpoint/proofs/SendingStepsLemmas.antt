@@ -9,10 +9,10 @@ use Rattle.sctp_tx.specs.Sending as fragments
 use Rattle.sctp_tx.specs.Sending.{send}
 use Rattle.sctp_tx.specs.Resent.{resent_fast}
 use Rattle.sctp_tx_queue.specs.Resets.{streams_to_request, request_resets}
-use Rattle.spec_endpoint.specs.Association.{Tcb, Context}
+use Rattle.spec_endpoint.specs.Association.{Tcb, Context, Phase, CookieEchoed, Established, ShutdownPending, ShutdownSent, ShutdownReceived, ShutdownAckSent}
 use Rattle.spec_endpoint.specs.ResetRequests.{Request, request_chunk}
 use Rattle.spec_endpoint.specs.Packets.{PacketDraft, room, fits, add, has_chunks, packet_to, new_packet, emit}
-use Rattle.spec_endpoint.specs.Sending.{Filling, selective_ack, take_due_ack, ack_if, has_data_to_send, with_ack, forward_added_if, forward_if, with_expired_abandoned, forward_if_time, with_forward, most_streams, add_request, request_of, request_at_most, request_unless, with_request, data_chunks, asks_at_once, with_fragments, with_data, filled_as, emit_packet, BurstStep, burst_step_if, next_packet, continue_burst, burst, send_with, send_buffered, cookie_if, send_cookie, fast_most, fast_packet, fast_if, send_lost}
+use Rattle.spec_endpoint.specs.Sending.{Filling, selective_ack, take_due_ack, ack_if, has_data_to_send, with_ack, forward_added_if, forward_if, with_expired_abandoned, forward_if_time, with_forward, most_streams, add_request, request_of, request_at_most, request_unless, with_request, data_chunks, asks_at_once, with_fragments, with_data, filled_as, emit_packet, BurstStep, burst_step_if, next_packet, continue_burst, burst, send_with, send_buffered, cookie_if, send_cookie, fast_most, fast_packet, fast_if, send_lost, cookie_packet_if, answer_packet}
 use Rattle.proof_endpoint.proofs.StepsLemmas.{most_bytes, Goes}
 use Rattle.proof_endpoint.proofs.EmitsLemmas.{emits_expired, emits_sent}
 use Rattle.proof_endpoint.proofs.GoesLemmas.{IsSmall, small_empty, small_add, small_add_all, small_new, small_whole, goes_by, goes_silent, goes_same, goes_then, goes_emit, small_after}
@@ -137,10 +137,24 @@ module _ {P : Type 0} (c : Context P) where
   pub goes_send_buffered : (is_alone : Bool) (t : Tcb) → Goes 0 c (send_buffered is_alone t c).context
   goes_send_buffered is_alone t = goes_send_with is_alone (new_packet c.options t) t (small_new t c)
 
+  small_cookie : (cookie : List ℕ) (t : Tcb) → IsSmall (most_bytes c) (add (cookie_echo_chunk cookie) (packet_to t.identity.peer_tag c.options.mtu))
+  small_cookie cookie t =
+      let p : PacketDraft = packet_to t.identity.peer_tag c.options.mtu in small_add (most_bytes c) p (cookie_echo_chunk cookie) (small_whole c p refl refl)
+
+  small_cookie_if : (b : Bool) (cookie : List ℕ) (t : Tcb) → IsSmall (most_bytes c) (cookie_packet_if b cookie c.options t)
+  small_cookie_if true cookie t = small_cookie cookie t
+  small_cookie_if false cookie t = small_new t c
+
+  pub small_answer : (phase : Phase) (t : Tcb) → IsSmall (most_bytes c) (answer_packet phase c.options t)
+  small_answer (CookieEchoed t1 cookie) t = small_cookie_if c.options.avoid_stalls cookie t
+  small_answer Established t = small_new t c
+  small_answer ShutdownPending t = small_new t c
+  small_answer (ShutdownSent t2) t = small_new t c
+  small_answer ShutdownReceived t = small_new t c
+  small_answer (ShutdownAckSent t2) t = small_new t c
+
   goes_cookie_if : (b : Bool) (cookie : List ℕ) (t : Tcb) → Goes 0 c (cookie_if b cookie t c).context
-  goes_cookie_if true cookie t =
-      let p : PacketDraft = packet_to t.identity.peer_tag c.options.mtu in
-      goes_send_with true (add (cookie_echo_chunk cookie) p) t (small_add (most_bytes c) p (cookie_echo_chunk cookie) (small_whole c p refl refl))
+  goes_cookie_if true cookie t = goes_send_with true (add (cookie_echo_chunk cookie) (packet_to t.identity.peer_tag c.options.mtu)) t (small_cookie cookie t)
   goes_cookie_if false cookie t = goes_same c
 
   pub goes_send_cookie : (cookie : List ℕ) (t : Tcb) → Goes 0 c (send_cookie cookie t c).context

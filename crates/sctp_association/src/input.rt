@@ -70,7 +70,7 @@ fn maybe_send_sack<C: Checksum>(
     if !tcb.data_tracker.should_send_ack(context.clock, false) {
         return Ok(());
     }
-    let mut packet = context.new_packet(tcb);
+    let mut packet = context.answer_packet(phase, tcb)?;
     let window = tcb.reassembly_queue.remaining_bytes() as u32;
     let sack = tcb.data_tracker.create_selective_ack(window)?;
     packet.add_sack(&sack)?;

@@ -3,24 +3,25 @@
 ghost use Rattle.std.specs.Prelude.{◌≡◌, ◌*◌, true, map, OnOk, IfOk, ◌<◌, false};
 ghost use Rattle.sctp_tx_outstanding.specs.Views.{chunk_of};
 ghost use Rattle.sctp_state.specs.Events.{numbers_of};
-ghost use Rattle.spec_endpoint.specs.Packets.{add_all};
+ghost use Rattle.sctp_packet.specs.Chunk.{cookie_echo_chunk};
+ghost use Rattle.spec_endpoint.specs.Packets.{add_all, added_if, fits};
 ghost use Rattle.std.specs.Duration.{as_nanos};
-ghost use Rattle.spec_endpoint.specs.Sending.{asks_at_once, burst_with, carrying, data_chunks, filled_as, forward_if, forward_pause, most_streams, request_of, request_started, send_buffered, send_cookie, send_lost, send_with, small_window, next_packet, with_ack, with_data, with_forward, with_request, send_in};
+ghost use Rattle.spec_endpoint.specs.Sending.{answer_packet, asks_at_once, burst_with, carrying, data_chunks, filled_as, forward_if, forward_pause, most_streams, request_of, request_started, send_buffered, send_cookie, send_lost, send_with, small_window, next_packet, with_ack, with_data, with_forward, with_request, send_in};
 ghost use Rattle.spec_endpoint.specs.Calls.{ready_in};
 ghost use Rattle.sctp_endpoint.specs.GoesOn.{GoesOn};
-ghost use Rattle.sctp_endpoint.specs.Views.{context_of, filling_of, after_sending_of, tcb_of, endpoint_state_of, state_of};
+ghost use Rattle.sctp_endpoint.specs.Views.{context_of, filling_of, after_sending_of, phase_of, tcb_of, endpoint_state_of, state_of};
 ghost use Rattle.spec_endpoint.specs.Association.{where_open};
 ghost use Rattle.spec_endpoint.specs.Shown.{association_in};
 
 use crate::context::Context;
 use crate::outgoing_packet::OutgoingPacket;
-use crate::state::State;
+use crate::state::{Phase, State};
 use crate::transmission_control_block::TransmissionControlBlock;
 use sctp_packet::{COMMON_HEADER_SIZE, Chunk, CookieEchoChunk, Data};
 use sctp_serial::{StreamId, Tsn};
 use sctp_tx::{ChunkForm, RetransmissionQueue, SendOpportunity};
 use sctp_wire::Checksum;
-use std::alloc::AllocError;
+use std::alloc::{AllocError, Global};
 use std::time::Duration;
 
 impl<C: Checksum> Context<C> {
@@ -358,12 +359,34 @@ impl<C: Checksum> Context<C> {
             tcb.identity.peer_verification_tag,
             self.options.mtu,
         );
-        let cookie = Vec::from_slice(self.alloc, cookie)?;
-        let chunk = Chunk::CookieEcho(CookieEchoChunk { cookie });
-        if !packet.add_if_it_fits(chunk)? {
+        if !add_cookie(self.alloc, &mut packet, cookie)? {
             return Ok(());
         }
         self.send_buffered_packets_with(tcb, true, packet)
+    }
+
+    /// A packet in which something is answered. With stalls avoided the COOKIE ECHO goes again in front, before the COOKIE ACK: what came shows
+    /// that the peer has taken it, so that its COOKIE ACK is lost or late (RFC 9260 section 5.1 C).
+    pub fn answer_packet(
+        &mut self,
+        phase: &Phase,
+        tcb: &TransmissionControlBlock,
+    ) -> Result<OutgoingPacket, AllocError>
+        ensures packet { IfOk result (λ packet. packet ≡ answer_packet (phase_of phase.now) self.old.options (tcb_of tcb.now)) }
+        ensures context { self.new ≡ self.old }
+    {
+        match phase {
+            Phase::CookieEchoed(echoed) if self.options.avoid_stalls => {
+                let mut packet = OutgoingPacket::new(
+                    self.alloc,
+                    tcb.identity.peer_verification_tag,
+                    self.options.mtu,
+                );
+                add_cookie(self.alloc, &mut packet, &echoed.cookie)?;
+                Ok(packet)
+            }
+            _ => Ok(self.new_packet(tcb)),
+        }
     }
 
     /// What a third missing report showed to be lost goes out, whatever the window says (RFC 9260 section 7.2.4).
@@ -388,6 +411,19 @@ impl<C: Checksum> Context<C> {
         add_fragments(&mut packet, tcb, false, fragments)?;
         self.emit(&mut packet)
     }
+}
+
+/// The COOKIE ECHO of this cookie, where it fits. The answer is whether it did.
+fn add_cookie(
+    alloc: Global,
+    packet: &mut OutgoingPacket,
+    cookie: &[u8],
+) -> Result<bool, AllocError>
+    ensures test { IfOk result (λ has_fit. has_fit ≡ fits packet.old (cookie_echo_chunk cookie.now)) }
+    ensures added { IfOk result (λ has_fit. packet.new ≡ added_if has_fit (cookie_echo_chunk cookie.now) packet.old) }
+{
+    let cookie = Vec::from_slice(alloc, cookie)?;
+    packet.add_if_it_fits(Chunk::CookieEcho(CookieEchoChunk { cookie }))
 }
 
 /// How many streams a request in this packet has room for.

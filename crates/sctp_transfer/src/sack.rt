@@ -141,5 +141,6 @@ fn after_sack<C: Checksum>(
     }
     context.maybe_send_shutdown_or_ack(phase, tcb)?;
     context.send_fast_retransmit(tcb)?;
-    context.send_buffered_packets(tcb, phase.is_before_cookie_ack())
+    let packet = context.answer_packet(phase, tcb)?;
+    context.send_buffered_packets_with(tcb, phase.is_before_cookie_ack(), packet)
 }

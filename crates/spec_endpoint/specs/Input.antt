@@ -17,8 +17,8 @@ use Rattle.sctp_capabilities.specs.Capabilities.{Capabilities}
 use Rattle.sctp_rx.specs.DataTracker.{packet_end, is_ack_due}
 use Rattle.spec_endpoint.specs.Association.{Tcb, Phase, CookieEchoed, Established, ShutdownPending, ShutdownSent, ShutdownReceived, ShutdownAckSent, State, Closed, CookieWait, Open, Context, EndpointState, Endpoint, open_as, with_context, in_context, where_open}
 use Rattle.spec_endpoint.specs.Heartbeats.{on_heartbeat_ack}
-use Rattle.spec_endpoint.specs.Packets.{add, round_down_to_4, new_packet, emit_error, emit_chunk}
-use Rattle.spec_endpoint.specs.Sending.{take_due_ack, without_duplicates, selective_ack, is_before_cookie_ack, open_with, send_with}
+use Rattle.spec_endpoint.specs.Packets.{add, round_down_to_4, emit_error, emit_chunk}
+use Rattle.spec_endpoint.specs.Sending.{take_due_ack, without_duplicates, selective_ack, is_before_cookie_ack, open_with, send_with, answer_packet}
 use Rattle.spec_endpoint.specs.Shutdown.{open_phase_step, maybe_send_shutdown_or_ack, send_shutdown, on_shutdown, on_shutdown_ack, on_shutdown_complete, abort_for_violation, aborted, on_error}
 use Rattle.spec_endpoint.specs.Data.{on_data, on_forward}
 use Rattle.spec_endpoint.specs.Sack.{on_sack}
@@ -268,7 +268,7 @@ repeats_if false s = s
 
 -- at the end of a packet an acknowledgement, where one is due, and what else may be sent
 abbrev pub ack_now : {P : Type 0} → Phase → Tcb → Context P → EndpointState P
-ack_now phase t c = open_with phase (send_with (is_before_cookie_ack phase) (add (selective_ack t) (new_packet c.options t)) (without_duplicates t) c)
+ack_now phase t c = open_with phase (send_with (is_before_cookie_ack phase) (add (selective_ack t) (answer_packet phase c.options t)) (without_duplicates t) c)
 
 abbrev pub ack_if_due : {P : Type 0} → (is_due : Bool) → Phase → Tcb → Context P → EndpointState P
 ack_if_due true phase t c = ack_now phase t c

@@ -12,7 +12,7 @@ use Rattle.sctp_rx.specs.DataTracker.{update_rto}
 use Rattle.sctp_tx.specs.RetransmissionQueue.{SackAnswer, Invalid, Valid, sender_if, emitted_if, answer_if}
 use Rattle.spec_endpoint.specs.Association.{Tcb, Phase, State, Closed, CookieWait, Open, Context, EndpointState, open_as}
 use Rattle.spec_endpoint.specs.Packets.{emit_error}
-use Rattle.spec_endpoint.specs.Sending.{AfterSending, is_before_cookie_ack, open_with, send_buffered, send_lost}
+use Rattle.spec_endpoint.specs.Sending.{AfterSending, is_before_cookie_ack, open_with, send_lost, answer_packet, send_with}
 use Rattle.spec_endpoint.specs.Shutdown.{PhaseStep, cleared_if, maybe_send_shutdown_or_ack}
 
 -- ---- blocks, as the maximal runs of the offsets that they cover
@@ -42,11 +42,11 @@ sample_rtt None t = t
 sample_rtt (Some sample) t = timed_by (observe_rto sample t.rtt) t
 
 -- the packet of what was lost, and what else may be sent
-abbrev pub send_after : {P : Type 0} → (is_alone : Bool) → Tcb → Context P → AfterSending P
-send_after is_alone t c = let x = send_lost t c in send_buffered is_alone x.tcb x.context
+abbrev pub send_after : {P : Type 0} → Phase → Tcb → Context P → AfterSending P
+send_after phase t c = let x = send_lost t c in send_with (is_before_cookie_ack phase) (answer_packet phase x.context.options x.tcb) x.tcb x.context
 
 abbrev pub send_after_sack : {P : Type 0} → Tcb → PhaseStep P → EndpointState P
-send_after_sack t o = open_with o.phase (send_after (is_before_cookie_ack o.phase) t o.context)
+send_after_sack t o = open_with o.phase (send_after o.phase t o.context)
 
 abbrev pub clear_errors_if : {P : Type 0} → (is_progress : Bool) → Context P → Context P
 clear_errors_if is_progress c = record c { errors = cleared_if is_progress c.errors }

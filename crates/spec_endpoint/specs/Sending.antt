@@ -263,6 +263,20 @@ cookie_if false cookie t c = after_sending t c
 abbrev pub send_cookie : {P : Type 0} → List ℕ → Tcb → Context P → AfterSending P
 send_cookie cookie t c = cookie_if (fits (packet_to t.identity.peer_tag c.options.mtu) (cookie_echo_chunk cookie)) cookie t c
 
+-- A packet in which something is answered. With stalls avoided the COOKIE ECHO goes again in front, before the COOKIE ACK: what came shows that the
+-- peer has taken it, so that its COOKIE ACK is lost or late (RFC 9260 section 5.1 C).
+abbrev pub cookie_packet_if : (avoids_stalls : Bool) → List ℕ → Options → Tcb → PacketDraft
+cookie_packet_if true cookie o t = add (cookie_echo_chunk cookie) (packet_to t.identity.peer_tag o.mtu)
+cookie_packet_if false cookie o t = new_packet o t
+
+abbrev pub answer_packet : Phase → Options → Tcb → PacketDraft
+answer_packet (CookieEchoed t1 cookie) o t = cookie_packet_if o.avoid_stalls cookie o t
+answer_packet Established o t = new_packet o t
+answer_packet ShutdownPending o t = new_packet o t
+answer_packet (ShutdownSent t2) o t = new_packet o t
+answer_packet ShutdownReceived o t = new_packet o t
+answer_packet (ShutdownAckSent t2) o t = new_packet o t
+
 -- ---- the packet that a third missing report sends at once, whatever the window says (RFC 9260 section 7.2.4)
 
 abbrev pub fast_most : Options → ℕ
