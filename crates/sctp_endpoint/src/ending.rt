@@ -4,6 +4,7 @@ ghost use Rattle.std.specs.Prelude.{◌≡◌, false, [], ◌∷◌, codes, IfOk
 ghost use Rattle.sctp_wire.specs.Cause.{user_initiated_abort};
 ghost use Rattle.sctp_error_cause.specs.CauseViews.{cause_tree};
 ghost use Rattle.sctp_packet.specs.Chunk.{abort_chunk};
+ghost use Rattle.sctp_packet.specs.ChunkView.{chunk_tree};
 ghost use Rattle.spec_endpoint.specs.Packets.{emit_chunk};
 ghost use Rattle.sctp_state.specs.Events.{OnAborted, OnClosed};
 ghost use Rattle.sctp_endpoint.specs.GoesOn.{GoesOn};
@@ -30,15 +31,20 @@ impl<C: Checksum> Context<C> {
         ensures ok { OnOk result (context_of C.word_of self.new ≡ emit_chunk (abort_chunk false (cause_tree cause ∷ [])) (tcb_of tcb.now) (context_of C.word_of self.old)) }
         ensures goes_on { GoesOn self.old self.new }
     {
+        let chunk = self.abort_chunk(cause)?;
+        self.emit_chunk(tcb, chunk)
+    }
+
+    /// An ABORT with this cause alone (RFC 9260 section 3.3.7).
+    pub fn abort_chunk(&self, cause: ErrorCause) -> Result<Chunk, AllocError>
+        ensures { IfOk result (λ chunk. chunk_tree chunk ≡ abort_chunk false (cause_tree cause ∷ [])) }
+    {
         let mut error_causes = Vec::new(self.alloc);
         error_causes.push(cause)?;
-        self.emit_chunk(
-            tcb,
-            Chunk::Abort(AbortChunk {
-                tag_reflected: false,
-                error_causes,
-            }),
-        )
+        Ok(Chunk::Abort(AbortChunk {
+            tag_reflected: false,
+            error_causes,
+        }))
     }
 
     /// What the user gave as the cause of an ABORT.

@@ -22,7 +22,7 @@ use sctp_endpoint::{
     TransmissionControlBlock,
 };
 use sctp_error_cause::{ErrorCause, MissingMandatoryParameterErrorCause};
-use sctp_packet::{AbortChunk, Chunk, InitAckChunk, InitChunk};
+use sctp_packet::{Chunk, InitAckChunk, InitChunk};
 use sctp_parameter::StateCookieParameter;
 use sctp_serial::Tsn;
 use sctp_state::{BackoffAlgorithm, ErrorKind, Timer};
@@ -308,18 +308,11 @@ fn send_missing_cookie<C: Checksum>(
 {
     let mut missing_parameter_types = Vec::new(context.alloc);
     missing_parameter_types.push(StateCookieParameter::TYPE)?;
-    let mut error_causes = Vec::new(context.alloc);
-    error_causes.push(ErrorCause::MissingMandatoryParameter(
+    let chunk = context.abort_chunk(ErrorCause::MissingMandatoryParameter(
         MissingMandatoryParameterErrorCause {
             missing_parameter_types,
         },
     ))?;
     let packet = OutgoingPacket::new(context.alloc, peer_tag, context.options.mtu / 4 * 4);
-    context.emit_in(
-        packet,
-        Chunk::Abort(AbortChunk {
-            tag_reflected: false,
-            error_causes,
-        }),
-    )
+    context.emit_in(packet, chunk)
 }
