@@ -24,7 +24,7 @@ use Rattle.spec_endpoint.specs.ResetRequests.{Requests, Outcome, Unsettled, Done
 use Rattle.spec_endpoint.specs.Sending.{AfterSending, is_before_cookie_ack, add_request, send_cookie, send_in}
 use Rattle.spec_endpoint.specs.Shutdown.{send_shutdown, send_shutdown_ack, too_many}
 use Rattle.spec_endpoint.specs.StreamReset.{Handling, handling, process, is_ahead, resets_unless, outgoing_by, incoming_if, on_outcome, is_outgoing, on_parameter, HandledParameters, handle_next, handle_all, send_responses, finish_reconfig_if, on_reconfig, prepare_reset_stream, prepare_all, streams_reset_unless, reset_refusal}
-use Rattle.spec_endpoint.specs.Timers.{Ticking, tick_ack, t3_if, tick_t3, tick_interval, tick_timeout, request_again, errs_if, requests_if, ticking, tick_timers, TimerOutcome, after_timers, abort_if, abort_or_send_if, after_ticks_if, after_ticks, t2_expired, t2_if, waits_unless, t1_expired, t1_if, after_init_timer, init_expired, init_if, tick_open, tick_in, advance_unless, advance, is_owed}
+use Rattle.spec_endpoint.specs.Timers.{Ticking, tick_ack, t3_if, tick_t3, tick_interval, tick_timeout, request_again, errs_if, requests_if, ticking, tick_timers, TimerOutcome, after_timers, abort_if, abort_or_send_if, after_ticks_if, after_ticks, t2_expired, t2_if, waits_unless, t1_expired, t1_if, after_init_timer, init_expired, init_if, tick_open, tick_in, advance_unless, advance, is_owed, t3_with_cookie}
 use Rattle.spec_endpoint.specs.Calls.{shown_state, send_refusal, send_refusal_of, offered, offer, offer_all, sent_unless, send, send_many, take_message, told_if, opens_window, without_first_message}
 use Rattle.proof_awake.specs.Awake.{Runs}
 use Rattle.proof_awake.specs.Invariant.{BlockHolds, Beats, ContextHolds, is_established, waits, PhaseRuns, StateHolds}
@@ -277,9 +277,16 @@ module _ {P : Type 0} (avoids : Bool) where
         ended_if (CookieEchoed new cookie) r (is_exhausted x.context.errors) x.tcb x.context k
     t1_expires false r t c h = closes avoids false (OnAborted TooManyRetries (codes "No COOKIE_ACK received")) c h.0
 
+    with_cookie : (b : Bool) (x : Ticking P) → Holds avoids false false x.tcb x.context
+        → let y : Ticking P = t3_with_cookie b x in Holds avoids false false y.tcb y.context
+    with_cookie true x h = ticks_t3 (CookieEchoed new cookie) (is_due x.context.now x.tcb.sender.t3) x h
+    with_cookie false x h = h
+
     t1_goes : (b : Bool) (t1 : Timer) (x : Ticking P) → is_due x.context.now t1 ≡ b → new ≡ expire x.context.now t1 → Runs t1 → Holds avoids false false x.tcb x.context
         → Leads (CookieEchoed new cookie) (t1_if b t1 cookie x)
-    t1_goes true t1 x e n r h = t1_expires (is_running (expire x.context.now t1)) (ap is_running n) x.tcb x.context h
+    t1_goes true t1 x e n r h =
+        let y : Ticking P = t3_with_cookie x.context.options.avoid_stalls x in
+        t1_expires (is_running (expire x.context.now t1)) (ap is_running n) y.tcb y.context (with_cookie x.context.options.avoid_stalls x h)
     t1_goes false t1 x e n r h = waited x.has_expired x.tcb x.context (subst Runs (sym (n ∙ not_yet x.context.now t1 e)) r) h
 
   -- ---- T1-init

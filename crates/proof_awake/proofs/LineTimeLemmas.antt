@@ -22,7 +22,7 @@ use Rattle.proof_awake.specs.Line.{PhaseHasNoLine}
 use Rattle.sctp_tx_outstanding.specs.Item.{Item}
 use Rattle.sctp_tx_outstanding.specs.Losses.{nack_all}
 use Rattle.sctp_tx_queue.specs.SendQueue.{Queue}
-use Rattle.spec_endpoint.specs.Timers.{Ticking, tick_ack, t3_if, tick_t3, tick_interval, tick_timeout, request_again, errs_if, requests_if, ticking, tick_timers, after_timers, abort_if, abort_or_send_if, after_ticks_if, after_ticks, t2_expired, t2_if, waits_unless, t1_expired, t1_if, after_init_timer, init_expired, init_if, tick_open, tick_in, advance_unless, is_owed}
+use Rattle.spec_endpoint.specs.Timers.{Ticking, tick_ack, t3_if, tick_t3, tick_interval, tick_timeout, request_again, errs_if, requests_if, ticking, tick_timers, after_timers, abort_if, abort_or_send_if, after_ticks_if, after_ticks, t2_expired, t2_if, waits_unless, t1_expired, t1_if, after_init_timer, init_expired, init_if, tick_open, tick_in, advance_unless, is_owed, t3_with_cookie}
 use Rattle.spec_endpoint.specs.Opening.{cookie_ack, connect_in, on_init_open, on_init_in, queue_anew, agreed_by, maker, echo_or_abort, cookie_in, on_init_ack_in, enter_connected, on_cookie_ack, CookieResolution, EstablishNew, RestartDetected, SimultaneousInit, MaintainExisting, Discard, InvalidTag, resolve_cookie, tcb_by, queue_for, identity_of, anew, maintain_existing, maintain_existing_in, restarts_in, on_resolution, on_read_cookie, on_cookie_echo, restarted, on_cookie_unless, is_spent_at, tag_from, word, drew_word}
 use Rattle.proof_awake.specs.Invariant.{StateHolds, HasLimits, WindowsHaveRoom}
 use Rattle.proof_awake.proofs.ItemsLemmas.{none_lost}
@@ -144,14 +144,23 @@ module _ {P : Type 0} (avoids : Bool) where
   waits_lined new cookie true t c h = ended_lined new cookie (is_exhausted c.errors) t c h
   waits_lined new cookie false t c h = (h, tt)
 
-  t1_lined : (new : Timer) (cookie : List ℕ) (b running : Bool) (t1 : Timer) (x : Ticking P) → Big avoids x.context → EndLined avoids (after_timers (CookieEchoed new cookie) (t1_if b t1 cookie x))
-  t1_lined new cookie true running t1 x h = expired (is_running (expire x.context.now t1))
+  big_with_cookie : (b : Bool) (x : Ticking P) → Big avoids x.context → Big avoids (t3_with_cookie b x).context
+  big_with_cookie true x h = big_t3 (is_due x.context.now x.tcb.sender.t3) x h
     where
-      expired : (b : Bool) → EndLined avoids (after_timers (CookieEchoed new cookie) (t1_expired b cookie x.tcb x.context))
-      expired true =
-          let y : AfterSending P = send_cookie cookie x.tcb x.context in
-          ended_lined new cookie (is_exhausted y.context.errors) y.tcb y.context (big_cookie avoids cookie x.tcb x.context h)
-      expired false = (h, tt)
+      big_t3 : (b : Bool) (x : Ticking P) → Big avoids x.context → Big avoids (t3_if b x).context
+      big_t3 true x h = h
+      big_t3 false x h = h
+  big_with_cookie false x h = h
+
+  t1_lined : (new : Timer) (cookie : List ℕ) (b running : Bool) (t1 : Timer) (x : Ticking P) → Big avoids x.context → EndLined avoids (after_timers (CookieEchoed new cookie) (t1_if b t1 cookie x))
+  t1_lined new cookie true running t1 x h =
+      let z : Ticking P = t3_with_cookie x.context.options.avoid_stalls x in expired (is_running (expire x.context.now t1)) z (big_with_cookie x.context.options.avoid_stalls x h)
+    where
+      expired : (b : Bool) (z : Ticking P) → Big avoids z.context → EndLined avoids (after_timers (CookieEchoed new cookie) (t1_expired b cookie z.tcb z.context))
+      expired true z h =
+          let y : AfterSending P = send_cookie cookie z.tcb z.context in
+          ended_lined new cookie (is_exhausted y.context.errors) y.tcb y.context (big_cookie avoids cookie z.tcb z.context h)
+      expired false z h = (h, tt)
   t1_lined new cookie false running t1 x h = waits_lined new cookie x.has_expired x.tcb x.context h
 
   init_lined : (b : Bool) (tag first : ℕ) (t1 new : Timer) (c : Context P) → Big avoids c → EndLined avoids (after_init_timer tag first new (init_if b tag first t1 c))

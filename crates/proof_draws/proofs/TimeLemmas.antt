@@ -11,7 +11,7 @@ use Rattle.spec_endpoint.specs.ResetRequests.{Request, Requests, lasting, expire
 use Rattle.spec_endpoint.specs.Sending.{AfterSending, add_request, cookie_if, send_cookie}
 use Rattle.spec_endpoint.specs.Shutdown.{send_shutdown, send_shutdown_ack, too_many}
 use Rattle.spec_endpoint.specs.Heartbeats.{counted_on, heartbeat_chunk, send_heartbeat_if, heartbeat_timeout_if}
-use Rattle.spec_endpoint.specs.Timers.{Ticking, tick_ack, t3_if, tick_t3, tick_interval, tick_timeout, request_again, errs_if, requests_again, reconfig_timeout, requests_if, tick_requests, ticking, tick_timers, TimerOutcome, timer_outcome, closed_if, after_timers, abort_if, abort_if_exhausted, abort_or_send_if, abort_or_send, after_ticks_if, after_ticks, t2_expired, t2_if, tick_t2, waits_unless, echoed_again, t1_expired, t1_if, tick_cookie, InitOutcome, init_outcome, waiting_unless, after_init_timer, init_expired, init_if, tick_init, tick_open, tick_in, advance_unless, advance, is_owed}
+use Rattle.spec_endpoint.specs.Timers.{Ticking, tick_ack, t3_if, tick_t3, tick_interval, tick_timeout, request_again, errs_if, requests_again, reconfig_timeout, requests_if, tick_requests, ticking, tick_timers, TimerOutcome, timer_outcome, closed_if, after_timers, abort_if, abort_if_exhausted, abort_or_send_if, abort_or_send, after_ticks_if, after_ticks, t2_expired, t2_if, tick_t2, waits_unless, echoed_again, t1_expired, t1_if, tick_cookie, InitOutcome, init_outcome, waiting_unless, after_init_timer, init_expired, init_if, tick_init, tick_open, tick_in, advance_unless, advance, is_owed, t3_with_cookie}
 use Rattle.proof_draws.specs.NamedChunks.{Names, AreNames, move_by}
 use Rattle.proof_draws.specs.Names.{named_request, named_requests, named_phase, named_tcb, named_state, named_endpoint_state, plain}
 use Rattle.proof_draws.proofs.WritingLemmas.{Knows, named_emit, named_emit_chunk, emit_stays}
@@ -50,6 +50,10 @@ module _ {P : Type 0} where
   t3_stays : (b : Bool) (x : Ticking P) → (t3_if b x).context.pack ≡ x.context.pack
   t3_stays true x = refl
   t3_stays false x = refl
+
+  t3_with_stays : (b : Bool) (x : Ticking P) → (t3_with_cookie b x).context.pack ≡ x.context.pack
+  t3_with_stays true x = t3_stays (is_due x.context.now x.tcb.sender.t3) x
+  t3_with_stays false x = refl
 
   beat_stays : (b : Bool) (t : Tcb) (c : Context P) → (send_heartbeat_if b t c).pack ≡ c.pack
   beat_stays true t c = emit_stays (add (heartbeat_chunk (counted_on c).heartbeats.counter) (new_packet c.options t)) (counted_on c)
@@ -230,9 +234,17 @@ module _ {P : Type 0} (n : Names) (are : AreNames n) (pack : Packing P) where
       ap (λ (y : AfterSending P). echoed_again y) (send_cookie_named n are pack cookie t c k) ∙ abort_if_exhausted_named x.tcb x.context (send_cookie_stays cookie t c ∙ k)
   t1_expired_named false cookie t c k = refl
 
+  t3_with_named : (b : Bool) (x : Ticking P) → t3_with_cookie b (named_ticking n pack x) ≡ named_ticking n pack (t3_with_cookie b x)
+  t3_with_named true x = t3_named (is_due x.context.now x.tcb.sender.t3) x
+  t3_with_named false x = refl
+
   t1_if_named : (b : Bool) (t1 : Timer) (cookie : List ℕ) (x : Ticking P) → Knows n pack x.context
       → t1_if b t1 (n.cookie cookie) (named_ticking n pack x) ≡ named_left n pack (t1_if b t1 cookie x)
-  t1_if_named true t1 cookie x k = t1_expired_named (is_running (expire x.context.now t1)) cookie x.tcb x.context k
+  t1_if_named true t1 cookie x k =
+      let y : Ticking P = t3_with_cookie x.context.options.avoid_stalls x in
+      let is_on : Bool = is_running (expire x.context.now t1) in
+      ap (λ (z : Ticking P). t1_expired is_on (n.cookie cookie) z.tcb z.context) (t3_with_named x.context.options.avoid_stalls x)
+      ∙ t1_expired_named is_on cookie y.tcb y.context (t3_with_stays x.context.options.avoid_stalls x ∙ k)
   t1_if_named false t1 cookie x k = waits_unless_named x.has_expired x.tcb x.context k
 
   cookie_named : (t1 : Timer) (cookie : List ℕ) (t : Tcb) (c : Context P) → Knows n pack c

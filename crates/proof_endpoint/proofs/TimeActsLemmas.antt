@@ -12,7 +12,7 @@ use Rattle.spec_endpoint.specs.ResetRequests.{lasting, expire_reconfig_timer, cl
 use Rattle.spec_endpoint.specs.Sending.{AfterSending, add_request, send_cookie}
 use Rattle.spec_endpoint.specs.Shutdown.{send_shutdown, send_shutdown_ack}
 use Rattle.spec_endpoint.specs.Heartbeats.{counted_on, heartbeat_chunk, send_heartbeat_if, heartbeat_timeout_if}
-use Rattle.spec_endpoint.specs.Timers.{Ticking, tick_ack, t3_if, tick_t3, tick_interval, tick_timeout, request_again, errs_if, reconfig_timeout, requests_if, ticking, tick_timers, TimerOutcome, after_timers, abort_if, abort_if_exhausted, abort_or_send_if, abort_or_send, after_ticks_if, after_ticks, t2_expired, t2_if, tick_t2, waits_unless, t1_expired, t1_if, after_init_timer, init_expired, init_if, tick_open, tick_in, advance_unless, advance, is_owed}
+use Rattle.spec_endpoint.specs.Timers.{Ticking, tick_ack, t3_if, tick_t3, tick_interval, tick_timeout, request_again, errs_if, reconfig_timeout, requests_if, ticking, tick_timers, TimerOutcome, after_timers, abort_if, abort_if_exhausted, abort_or_send_if, abort_or_send, after_ticks_if, after_ticks, t2_expired, t2_if, tick_t2, waits_unless, t1_expired, t1_if, after_init_timer, init_expired, init_if, tick_open, tick_in, advance_unless, advance, is_owed, t3_with_cookie}
 use Rattle.spec_endpoint.specs.Laws.{Call, Advance}
 use Rattle.proof_endpoint.specs.Acts.{all_along, EndWithPacket, idle, advances, delay_ends, times_out, beats, times_init, times_cookie, times_request, wakes_request, counts_errors, Preserves}
 use Rattle.proof_endpoint.proofs.BundledLemmas.{request_more}
@@ -153,9 +153,15 @@ module _ {P : Type 0} {call : Call} {R : EndWithPacket P → EndWithPacket P →
     does_t1_expired false t c =
         does_closed k w (OnAborted TooManyRetries (codes "No COOKIE_ACK received")) (Open (CookieEchoed new cookie) t) c refl refl
 
+    does_t3_with : (b : Bool) (x : Ticking P) → Ticks (CookieEchoed new cookie) x (t3_with_cookie b x)
+    does_t3_with true x = does_t3_if (CookieEchoed new cookie) (is_due x.context.now x.tcb.sender.t3) x refl
+    does_t3_with false x = k.same (idle (Open (CookieEchoed new cookie) x.tcb) x.context w)
+
     does_t1_if : (b : Bool) (t1 : Timer) (x : Ticking P)
         → Leaves (CookieEchoed new cookie) (idle (Open (CookieEchoed new cookie) x.tcb) x.context w) (t1_if b t1 cookie x)
-    does_t1_if true t1 x = does_t1_expired (is_running (expire x.context.now t1)) x.tcb x.context
+    does_t1_if true t1 x =
+        let y : Ticking P = t3_with_cookie x.context.options.avoid_stalls x in
+        k.through (does_t3_with x.context.options.avoid_stalls x) (does_t1_expired (is_running (expire x.context.now t1)) y.tcb y.context)
     does_t1_if false t1 x = does_waits_unless x.has_expired x.tcb x.context
 
   -- ---- T1-init

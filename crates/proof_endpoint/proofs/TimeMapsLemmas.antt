@@ -13,7 +13,7 @@ use Rattle.spec_endpoint.specs.Sending.{AfterSending, add_request, send_cookie}
 use Rattle.spec_endpoint.specs.Shutdown.{over, send_shutdown, send_shutdown_ack, too_many}
 use Rattle.spec_endpoint.specs.Opening.{send_init}
 use Rattle.spec_endpoint.specs.Heartbeats.{counted_on, heartbeat_chunk, send_heartbeat_if, heartbeat_timeout_if}
-use Rattle.spec_endpoint.specs.Timers.{Ticking, tick_ack, timed_out, t3_if, tick_t3, tick_interval, tick_timeout, request_again, errs_if, requests_again, reconfig_timeout, requests_if, tick_requests, ticking, tick_timers, TimerOutcome, timer_outcome, closed_if, after_timers, abort_if, abort_if_exhausted, abort_or_send_if, abort_or_send, after_ticks_if, after_ticks, t2_expired, t2_if, tick_t2, waits_unless, echoed_again, t1_expired, t1_if, tick_cookie, InitOutcome, init_outcome, waiting_unless, after_init_timer, init_expired, init_if, tick_init, tick_open, tick_in, advance_unless, advance, is_owed}
+use Rattle.spec_endpoint.specs.Timers.{Ticking, tick_ack, timed_out, t3_if, tick_t3, tick_interval, tick_timeout, request_again, errs_if, requests_again, reconfig_timeout, requests_if, tick_requests, ticking, tick_timers, TimerOutcome, timer_outcome, closed_if, after_timers, abort_if, abort_if_exhausted, abort_or_send_if, abort_or_send, after_ticks_if, after_ticks, t2_expired, t2_if, tick_t2, waits_unless, echoed_again, t1_expired, t1_if, tick_cookie, InitOutcome, init_outcome, waiting_unless, after_init_timer, init_expired, init_if, tick_init, tick_open, tick_in, advance_unless, advance, is_owed, t3_with_cookie}
 use Rattle.proof_endpoint.specs.Mapped.{Mapping, map_context, map_endpoint_state}
 use Rattle.proof_endpoint.proofs.EmittedMapsLemmas.{maps_nack_all}
 use Rattle.proof_endpoint.proofs.SendingMapsLemmas.{maps_emit, maps_emit_chunk, maps_send_buffered, maps_send_cookie}
@@ -161,8 +161,15 @@ module _ {P Q : Type 0} (f : Mapping P Q) where
       let e : Event P = OnAborted TooManyRetries (codes "No COOKIE_ACK received") in
       maps_left t true (over e c) _ (maps_over f e c)
 
+  maps_t3_with : (b : Bool) (x : Ticking P) → t3_with_cookie b (map_ticking f x) ≡ map_ticking f (t3_with_cookie b x)
+  maps_t3_with true x = maps_t3_if (is_due x.context.now x.tcb.sender.t3) x
+  maps_t3_with false x = refl
+
   maps_t1_if : (b : Bool) (t1 : Timer) (cookie : List ℕ) (x : Ticking P) → t1_if b t1 cookie (map_ticking f x) ≡ map_left f (t1_if b t1 cookie x)
-  maps_t1_if true t1 cookie x = maps_t1_expired (is_running (expire x.context.now t1)) cookie x.tcb x.context
+  maps_t1_if true t1 cookie x =
+      let y : Ticking P = t3_with_cookie x.context.options.avoid_stalls x in
+      let is_on : Bool = is_running (expire x.context.now t1) in
+      ap (λ (z : Ticking Q). t1_expired is_on cookie z.tcb z.context) (maps_t3_with x.context.options.avoid_stalls x) ∙ maps_t1_expired is_on cookie y.tcb y.context
   maps_t1_if false t1 cookie x = maps_waits_unless x.has_expired x.tcb x.context
 
   maps_cookie : (t1 : Timer) (cookie : List ℕ) (t : Tcb) (c : Context P)

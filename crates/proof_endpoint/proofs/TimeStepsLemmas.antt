@@ -11,7 +11,7 @@ use Rattle.spec_endpoint.specs.ResetRequests.{lasting, expire_reconfig_timer, cl
 use Rattle.spec_endpoint.specs.Sending.{AfterSending, add_request, send_cookie}
 use Rattle.spec_endpoint.specs.Shutdown.{send_shutdown, send_shutdown_ack}
 use Rattle.spec_endpoint.specs.Heartbeats.{counted_on, heartbeat_chunk, send_heartbeat_if, heartbeat_timeout_if}
-use Rattle.spec_endpoint.specs.Timers.{Ticking, tick_ack, t3_if, tick_t3, tick_interval, tick_timeout, request_again, errs_if, requests_again, reconfig_timeout, requests_if, ticking, tick_timers, TimerOutcome, closed_if, after_timers, abort_if, abort_if_exhausted, abort_or_send_if, abort_or_send, after_ticks_if, after_ticks, t2_expired, t2_if, tick_t2, waits_unless, echoed_again, t1_expired, t1_if, tick_cookie, InitOutcome, waiting_unless, init_expired, init_if, tick_init, tick_open, tick_in, advance_unless, advance, is_owed}
+use Rattle.spec_endpoint.specs.Timers.{Ticking, tick_ack, t3_if, tick_t3, tick_interval, tick_timeout, request_again, errs_if, requests_again, reconfig_timeout, requests_if, ticking, tick_timers, TimerOutcome, closed_if, after_timers, abort_if, abort_if_exhausted, abort_or_send_if, abort_or_send, after_ticks_if, after_ticks, t2_expired, t2_if, tick_t2, waits_unless, echoed_again, t1_expired, t1_if, tick_cookie, InitOutcome, waiting_unless, init_expired, init_if, tick_init, tick_open, tick_in, advance_unless, advance, is_owed, t3_with_cookie}
 use Rattle.spec_endpoint.specs.Laws.{ends}
 use Rattle.proof_endpoint.proofs.StepsLemmas.{most_bytes, Goes, Steps}
 use Rattle.proof_endpoint.proofs.EmitsLemmas.{emits_nack_all}
@@ -149,8 +149,15 @@ module _ {P : Type 0} where
   leaves_t1_expired false cookie t c =
       goes_closed (OnAborted TooManyRetries (codes "No COOKIE_ACK received")) c tt refl
 
+  goes_t3_with : (b : Bool) (x : Ticking P) → Goes 0 x.context (t3_with_cookie b x).context
+  goes_t3_with true x = goes_t3_if (is_due x.context.now x.tcb.sender.t3) x
+  goes_t3_with false x = goes_same x.context
+
   leaves_t1_if : (b : Bool) (t1 : Timer) (cookie : List ℕ) (x : Ticking P) → Leaves x.context (t1_if b t1 cookie x)
-  leaves_t1_if true t1 cookie x = leaves_t1_expired (is_running (expire x.context.now t1)) cookie x.tcb x.context
+  leaves_t1_if true t1 cookie x =
+      let y : Ticking P = t3_with_cookie x.context.options.avoid_stalls x in
+      let is_on : Bool = is_running (expire x.context.now t1) in
+      leaves_then x.context y.context (t1_expired is_on cookie y.tcb y.context) (goes_t3_with x.context.options.avoid_stalls x) (leaves_t1_expired is_on cookie y.tcb y.context)
   leaves_t1_if false t1 cookie x = leaves_waits_unless x.has_expired x.tcb x.context
 
   leaves_cookie : (t1 : Timer) (cookie : List ℕ) (t : Tcb) (c : Context P) → Leaves c (tick_cookie t1 cookie (tick_ack (ticking t c)))

@@ -232,7 +232,8 @@ fn tick_established<C: Checksum>(
     after_ticks(context, tcb, has_expired)
 }
 
-/// Before the COOKIE ACK: the COOKIE ECHO goes out again (RFC 9260 section 5.1).
+/// Before the COOKIE ACK: the COOKIE ECHO goes out again (RFC 9260 section 5.1); with stalls avoided what went with it, and is overdue, goes
+/// with it again.
 #[tactic(auto, using(sctp_endpoint::proofs::GoesOnLemmas::goes_on_same, sctp_endpoint::proofs::GoesOnLemmas::goes_on_through))]
 fn tick_cookie_echoed<C: Checksum>(
     context: &mut Context<C>,
@@ -250,6 +251,9 @@ fn tick_cookie_echoed<C: Checksum>(
     let has_expired = tick_ack(context, tcb);
     if !echoed.t1_cookie.expire(context.clock) {
         return end_if_expired(context, tcb, has_expired);
+    }
+    if context.options.avoid_stalls {
+        tick_t3(context, tcb, has_expired)?;
     }
     if !echoed.t1_cookie.is_running() {
         context.emit_no_answer("No COOKIE_ACK received")?;

@@ -180,8 +180,15 @@ abbrev pub t1_expired : {P : Type 0} → (is_running : Bool) → List ℕ → Tc
 t1_expired true cookie t c = echoed_again (send_cookie cookie t c)
 t1_expired false cookie t c = timer_outcome t (over (OnAborted TooManyRetries (codes "No COOKIE_ACK received")) c) true
 
+-- With stalls avoided what went with it, and is overdue, goes with it again: T3-rtx, which has no moment of its own then, expires with T1-cookie. Else
+-- the COOKIE ACK has all its expiries made up at once.
+abbrev pub t3_with_cookie : {P : Type 0} → (avoids_stalls : Bool) → Ticking P → Ticking P
+t3_with_cookie true x = tick_t3 x
+t3_with_cookie false x = x
+
 abbrev pub t1_if : {P : Type 0} → (is_due : Bool) → Timer → List ℕ → Ticking P → TimerOutcome P
-t1_if true t1 cookie x = t1_expired (is_running (expire x.context.now t1)) cookie x.tcb x.context
+t1_if true t1 cookie x =
+    let y = t3_with_cookie x.context.options.avoid_stalls x in t1_expired (is_running (expire x.context.now t1)) cookie y.tcb y.context
 t1_if false t1 cookie x = waits_unless x.has_expired x.tcb x.context
 
 abbrev pub tick_cookie : {P : Type 0} → Timer → List ℕ → Ticking P → TimerOutcome P
