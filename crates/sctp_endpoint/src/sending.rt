@@ -414,11 +414,7 @@ impl<C: Checksum> Context<C> {
 }
 
 /// The COOKIE ECHO of this cookie, where it fits. The answer is whether it did.
-fn add_cookie(
-    alloc: Global,
-    packet: &mut OutgoingPacket,
-    cookie: &[u8],
-) -> Result<bool, AllocError>
+fn add_cookie(alloc: Global, packet: &mut OutgoingPacket, cookie: &[u8]) -> Result<bool, AllocError>
     ensures test { IfOk result (λ has_fit. has_fit ≡ fits packet.old (cookie_echo_chunk cookie.now)) }
     ensures added { IfOk result (λ has_fit. packet.new ≡ added_if has_fit (cookie_echo_chunk cookie.now) packet.old) }
 {
