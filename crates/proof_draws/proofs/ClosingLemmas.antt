@@ -170,7 +170,7 @@ module _ {P : Type 0} (n : Names) (are : AreNames n) (pack : Packing P) where
       let p : PacketDraft = answer_packet phase c.options t in
       let u : Tcb = named_tcb n (without_duplicates t) in
       ap (λ (q : PacketDraft). open_with (named_phase n phase) (send_with (is_before_cookie_ack (named_phase n phase)) (add (selective_ack (named_tcb n t)) q) u (plain n pack c)))
-      (answer_packet_named n are phase c.options t)
+      (answer_packet_named n are pack phase c.options t)
       ∙ (ap (λ (b : Bool). open_with (named_phase n phase) (send_with b (add (selective_ack (named_tcb n t)) (named_packet n p)) u (plain n pack c))) (alone_named n phase)
       ∙ (ap (λ (chunk : ChunkTree). open_with (named_phase n phase) (send_with (is_before_cookie_ack phase) (add chunk (named_packet n p)) u (plain n pack c))) (ack_named n t)
       ∙ (ap (λ (q : PacketDraft). open_with (named_phase n phase) (send_with (is_before_cookie_ack phase) q u (plain n pack c))) (named_add n are (selective_ack t) p)

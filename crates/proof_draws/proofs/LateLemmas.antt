@@ -8,8 +8,8 @@ use Rattle.sctp_packet.specs.Grammar.{carried}
 use Rattle.sctp_capabilities.specs.StateCookie.{Cookie, CookieFits, cookie_bytes}
 use Rattle.spec_endpoint.specs.Association.{Tcb, Phase, CookieEchoed, Established, ShutdownPending, ShutdownSent, ShutdownReceived, ShutdownAckSent, State, Open, Context, Endpoint}
 use Rattle.sctp_rx.specs.DataTracker.{is_ack_due}
-use Rattle.spec_endpoint.specs.Packets.{add, new_packet}
-use Rattle.spec_endpoint.specs.Sending.{AfterSending, is_before_cookie_ack, selective_ack, take_due_ack, without_duplicates, send_with}
+use Rattle.spec_endpoint.specs.Packets.{add}
+use Rattle.spec_endpoint.specs.Sending.{AfterSending, is_before_cookie_ack, selective_ack, take_due_ack, without_duplicates, send_with, answer_packet}
 use Rattle.spec_endpoint.specs.Shutdown.{pending_next, received_next, maybe_send_shutdown_or_ack, is_quiet}
 use Rattle.spec_endpoint.specs.Opening.{tag_from, word, next_first, cookie_for}
 use Rattle.spec_endpoint.specs.Input.{my_tag, packet_refusal, count_packet_at, packet_unless, on_accepted_packet, in_endpoint_state, repeats_if, has_data_chunk, ack_if_due, at_end, shut_if, on_packet_end}
@@ -81,7 +81,7 @@ goes_past (ShutdownAckSent t2) t c = refl
 
 ended_by : (avoids b : Bool) (phase : Phase) (t : Tcb) (c : Context Carried) → is_past (shut_if avoids (ack_if_due b phase t c)).state ≡ not (is_before_cookie_ack phase)
 ended_by true true phase t c =
-    let x : AfterSending Carried = send_with (is_before_cookie_ack phase) (add (selective_ack t) (new_packet c.options t)) (without_duplicates t) c in
+    let x : AfterSending Carried = send_with (is_before_cookie_ack phase) (add (selective_ack t) (answer_packet phase c.options t)) (without_duplicates t) c in
     goes_past phase x.tcb x.context
 ended_by true false phase t c = goes_past phase t c
 ended_by false true phase t c = refl

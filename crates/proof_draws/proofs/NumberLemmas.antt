@@ -22,7 +22,7 @@ use Rattle.sctp_tx.specs.ForwardPoints.{forward_chunk}
 use Rattle.spec_endpoint.specs.Association.{Tcb, Phase, CookieEchoed, Established, ShutdownPending, ShutdownSent, ShutdownReceived, ShutdownAckSent, State, Closed, CookieWait, Open, Context, EndpointState, Endpoint, where_open}
 use Rattle.spec_endpoint.specs.Packets.{PacketDraft, fits, add, has_chunks, packet_to, new_packet}
 use Rattle.spec_endpoint.specs.ResetRequests.{Request, Requests, is_final, is_last_request, is_next_request, is_known_request, end_or_defer, response_if, handle_response_in}
-use Rattle.spec_endpoint.specs.Sending.{Filling, take_due_ack, ack_if, has_data_to_send, with_ack, forward_added_if, forward_if, with_expired_abandoned, forward_if_time, with_forward, most_streams, request_of, request_unless, filled_as, BurstStep, burst_step_if, next_packet, continue_burst, burst, is_before_cookie_ack, send_with, fast_if, send_lost}
+use Rattle.spec_endpoint.specs.Sending.{Filling, take_due_ack, ack_if, has_data_to_send, with_ack, forward_added_if, forward_if, with_expired_abandoned, forward_if_time, with_forward, most_streams, request_of, request_unless, filled_as, BurstStep, burst_step_if, next_packet, continue_burst, burst, is_before_cookie_ack, send_with, fast_if, send_lost, answer_packet}
 use Rattle.spec_endpoint.specs.Shutdown.{on_shutdown, on_shutdown_ack_in, on_shutdown_complete, abort_for_violation, on_error, refused_if, aborted_in}
 use Rattle.spec_endpoint.specs.Shutdown as closing
 use Rattle.spec_endpoint.specs.Data.{on_data_in, on_data_if, on_data, accepts_fragment, fragment_if, accepts_point, handle_forward_tsn_if, handle_forward_tsn_in, has_room, told_of_drop}
@@ -177,7 +177,7 @@ module _ {P : Type 0} where
       let v : Tcb = sample_rtt rtt t in
       let o = closing.maybe_send_shutdown_or_ack phase v (acks.clear_errors_if progress c) in
       let x = send_lost v o.context in
-      send_with_fits (is_before_cookie_ack o.phase) (new_packet x.context.options x.tcb) x.tcb x.context (lost_fits v o.context (sampled_fits rtt t h))
+      send_with_fits (is_before_cookie_ack o.phase) (answer_packet o.phase x.context.options x.tcb) x.tcb x.context (lost_fits v o.context (sampled_fits rtt t h))
 
   sack_in_fits : (st : State) (k : SackTree) (c : Context P) → NumbersFitIn st → NumbersFitIn (on_sack_in st k c).state
   sack_in_fits Closed k c h = tt

@@ -14,7 +14,7 @@ use Rattle.sctp_tx.specs.RetransmissionQueue.{SackAnswer, Invalid, Valid, sender
 use Rattle.spec_endpoint.specs.Association.{Tcb, Phase, CookieEchoed, Established, ShutdownPending, ShutdownSent, ShutdownReceived, ShutdownAckSent, State, Closed, CookieWait, Open, Context, EndpointState, Endpoint, in_context, where_open, Packing}
 use Rattle.spec_endpoint.specs.Heartbeats.{info_in, is_last_info, clear_if_last, ack_by_length, on_heartbeat_info, on_heartbeat_ack}
 use Rattle.spec_endpoint.specs.Packets.{add, packet_to, new_packet}
-use Rattle.spec_endpoint.specs.Sending.{is_before_cookie_ack, send_lost}
+use Rattle.spec_endpoint.specs.Sending.{is_before_cookie_ack, send_lost, answer_packet}
 use Rattle.spec_endpoint.specs.Shutdown.{on_shutdown, out_of_the_blue, on_shutdown_ack_open, on_shutdown_ack_in, on_shutdown_ack, on_shutdown_complete, abort_for_violation, on_error, maybe_send_shutdown_or_ack, refused_if, aborted_in, aborted}
 use Rattle.spec_endpoint.specs.Data.{on_no_data, no_data, on_data_in, on_data_if, on_data, on_forward}
 use Rattle.spec_endpoint.specs.Sack.{clean_blocks, sample_rtt, after_sack, on_sack_in, on_sack, is_late, sampled_unless}
@@ -72,7 +72,7 @@ module _ {P : Type 0} where
       let d : Context P = acks.clear_errors_if progress c in
       let o = maybe_send_shutdown_or_ack phase v d in
       let x = send_lost v o.context in
-      send_with_stays (is_before_cookie_ack o.phase) (new_packet x.context.options x.tcb) x.tcb x.context ∙ (send_lost_stays v o.context ∙ go_on_stays phase v d)
+      send_with_stays (is_before_cookie_ack o.phase) (answer_packet o.phase x.context.options x.tcb) x.tcb x.context ∙ (send_lost_stays v o.context ∙ go_on_stays phase v d)
 
   sack_in_stays : (st : State) (k : SackTree) (c : Context P) → (on_sack_in st k c).context.pack ≡ c.pack
   sack_in_stays Closed k c = refl
