@@ -147,7 +147,7 @@ module _ {P : Type 0} (avoids : Bool) where
   due_lined true phase t c h l =
       let q : PacketDraft = answer_packet phase c.options t in
       let p : PacketDraft = add (selective_ack t) q in
-      let k : 44 ≤ p.limit = subst (λ (n : ℕ). 44 ≤ n) (sym (limit_added (selective_ack t) q)) (answer_limit avoids phase c.options t h.0.options.mtu_least) in
+      let k : 44 ≤ p.limit = subst (λ (n : ℕ). 44 ≤ n) (sym (limit_added (selective_ack t) q)) (answer_limit phase c.options t h.0.options.mtu_least) in
       sent_lined avoids phase p (without_duplicates t) c l.0 k h.1.1.sender.windows
   due_lined false phase t c h l = l
 

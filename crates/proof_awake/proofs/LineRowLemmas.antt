@@ -28,6 +28,19 @@ use Rattle.proof_awake.proofs.RowLemmas.{Going, EndHolds, Steps, shutdown_goes_o
 use Rattle.proof_awake.proofs.LineLemmas.{none_in_line, limit_added}
 use Rattle.sctp_state.specs.Options.{Options}
 
+-- a packet in which something is answered is long enough
+cookie_limit : (b : Bool) (cookie : List ℕ) (o : Options) (t : Tcb) → 44 ≤ round_down_to_4 o.mtu → 44 ≤ o.mtu → 44 ≤ (cookie_packet_if b cookie o t).limit
+cookie_limit true cookie o t l m = subst (λ (n : ℕ). 44 ≤ n) (sym (limit_added (cookie_echo_chunk cookie) (packet_to t.identity.peer_tag o.mtu))) m
+cookie_limit false cookie o t l m = l
+
+pub answer_limit : (phase : Phase) (o : Options) (t : Tcb) → 256 ≤ o.mtu → 44 ≤ (answer_packet phase o t).limit
+answer_limit (CookieEchoed t1 cookie) o t m = let k : 44 ≤ o.mtu = omega (arith, m) in cookie_limit o.avoid_stalls cookie o t (omega (arith, m)) k
+answer_limit Established o t m = omega (arith, m)
+answer_limit ShutdownPending o t m = omega (arith, m)
+answer_limit (ShutdownSent t2) o t m = omega (arith, m)
+answer_limit ShutdownReceived o t m = omega (arith, m)
+answer_limit (ShutdownAckSent t2) o t m = omega (arith, m)
+
 module _ {P : Type 0} (avoids : Bool) where
   -- bursts are of two packets or more
   abbrev pub Big : Context P → Type 0
@@ -140,18 +153,6 @@ module _ {P : Type 0} (avoids : Bool) where
   pub sent_lined : (phase : Phase) (p : PacketDraft) (t : Tcb) (c : Context P) → Big c → 44 ≤ p.limit → WindowsHaveRoom t.sender.windows
       → EndLined (open_with phase (send_with (is_before_cookie_ack phase) p t c))
   sent_lined phase p t c b l w = (big_sent (is_before_cookie_ack phase) p t c b, no_line_by phase p t c b l w)
-
-  cookie_limit : (b : Bool) (cookie : List ℕ) (o : Options) (t : Tcb) → 44 ≤ round_down_to_4 o.mtu → 44 ≤ o.mtu → 44 ≤ (cookie_packet_if b cookie o t).limit
-  cookie_limit true cookie o t l m = subst (λ (n : ℕ). 44 ≤ n) (sym (limit_added (cookie_echo_chunk cookie) (packet_to t.identity.peer_tag o.mtu))) m
-  cookie_limit false cookie o t l m = l
-
-  pub answer_limit : (phase : Phase) (o : Options) (t : Tcb) → 256 ≤ o.mtu → 44 ≤ (answer_packet phase o t).limit
-  answer_limit (CookieEchoed t1 cookie) o t m = let k : 44 ≤ o.mtu = omega (arith, m) in cookie_limit o.avoid_stalls cookie o t (omega (arith, m)) k
-  answer_limit Established o t m = omega (arith, m)
-  answer_limit ShutdownPending o t m = omega (arith, m)
-  answer_limit (ShutdownSent t2) o t m = omega (arith, m)
-  answer_limit ShutdownReceived o t m = omega (arith, m)
-  answer_limit (ShutdownAckSent t2) o t m = omega (arith, m)
 
   pub buffered_lined : (phase : Phase) (t : Tcb) (c : Context P) → Big c → Going avoids phase t c → EndLined (open_with phase (send_buffered (is_before_cookie_ack phase) t c))
   buffered_lined phase t c b h =
