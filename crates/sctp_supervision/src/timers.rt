@@ -232,8 +232,27 @@ fn tick_established<C: Checksum>(
     after_ticks(context, tcb, has_expired)
 }
 
-/// Before the COOKIE ACK: the COOKIE ECHO goes out again (RFC 9260 section 5.1); with stalls avoided what went with it, and is overdue, goes
-/// with it again.
+/// With stalls avoided what went with the COOKIE ECHO, and is overdue, goes with it again: T3-rtx expires with T1-cookie.
+#[tactic(auto, using(sctp_endpoint::proofs::GoesOnLemmas::goes_on_same, sctp_endpoint::proofs::GoesOnLemmas::goes_on_through))]
+fn tick_t3_with_cookie<C: Checksum>(
+    context: &mut Context<C>,
+    tcb: &mut TransmissionControlBlock,
+    has_expired: bool,
+) -> Result<bool, AllocError>
+    ensures ok { IfOk result (λ any. ticking_of C.word_of tcb.new context.new any
+        ≡ table.t3_with_cookie context.old.options.avoid_stalls (ticking_of C.word_of tcb.old context.old has_expired)) }
+    ensures goes_on { GoesOn context.old context.new }
+    ensures received { tcb.new.reassembly_queue ≡ tcb.old.reassembly_queue }
+    ensures identity { tcb.new.identity ≡ tcb.old.identity }
+{
+    if context.options.avoid_stalls {
+        tick_t3(context, tcb, has_expired)
+    } else {
+        Ok(has_expired)
+    }
+}
+
+/// Before the COOKIE ACK: the COOKIE ECHO goes out again (RFC 9260 section 5.1).
 #[tactic(auto, using(sctp_endpoint::proofs::GoesOnLemmas::goes_on_same, sctp_endpoint::proofs::GoesOnLemmas::goes_on_through))]
 fn tick_cookie_echoed<C: Checksum>(
     context: &mut Context<C>,
@@ -252,9 +271,7 @@ fn tick_cookie_echoed<C: Checksum>(
     if !echoed.t1_cookie.expire(context.clock) {
         return end_if_expired(context, tcb, has_expired);
     }
-    if context.options.avoid_stalls {
-        tick_t3(context, tcb, has_expired)?;
-    }
+    tick_t3_with_cookie(context, tcb, has_expired)?;
     if !echoed.t1_cookie.is_running() {
         context.emit_no_answer("No COOKIE_ACK received")?;
         return Ok(true);
