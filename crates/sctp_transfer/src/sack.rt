@@ -3,14 +3,14 @@
 ghost use Rattle.std.specs.Prelude.{◌≡◌, OnOk};
 ghost use Rattle.std.specs.Option.{option_map};
 ghost use Rattle.std.specs.Duration.{as_nanos};
-ghost use Rattle.spec_endpoint.specs.Sack.{clean_blocks, after_sack, on_sack, on_sack_open, sample_rtt, is_late, sampled_unless};
+ghost use Rattle.spec_endpoint.specs.Sack.{clean_blocks, send_after, after_sack, on_sack, on_sack_open, sample_rtt, is_late, sampled_unless};
 ghost use Rattle.sctp_state.specs.Options.{options_of};
 ghost use Rattle.sctp_tx_outstanding.specs.OutstandingData.{number_of};
 ghost use Rattle.sctp_tx.specs.RetransmissionQueue.{answer_of};
 ghost use Rattle.spec_endpoint.specs.Calls.{ready_in};
 ghost use Rattle.spec_endpoint.specs.Shown.{association_in};
 ghost use Rattle.sctp_endpoint.specs.GoesOn.{GoesOn};
-ghost use Rattle.sctp_endpoint.specs.Views.{context_of, opened_of, phase_of, sack_of, endpoint_state_of, state_of, tcb_of};
+ghost use Rattle.sctp_endpoint.specs.Views.{after_sending_of, context_of, opened_of, phase_of, sack_of, endpoint_state_of, state_of, tcb_of};
 
 use sctp_endpoint::{Context, Phase, State, TransmissionControlBlock};
 use sctp_packet::{SackChunk, clean_sack};
@@ -113,8 +113,25 @@ fn sack_open<C: Checksum>(
     after_sack(phase, tcb, context, sampled_unless(is_late, answer))
 }
 
+/// What is to be sent again at once goes out (RFC 9260 section 7.2.4), and what there is room for.
+#[tactic(auto, using(sctp_endpoint::proofs::GoesOnLemmas::goes_on_same, sctp_endpoint::proofs::GoesOnLemmas::goes_on_through, sctp_endpoint::proofs::GoesOnLemmas::goes_on_as))]
+fn send_after<C: Checksum>(
+    context: &mut Context<C>,
+    phase: &Phase,
+    tcb: &mut TransmissionControlBlock,
+) -> Result<(), AllocError>
+    ensures ok { OnOk result (after_sending_of C.word_of tcb.new context.new ≡ send_after (phase_of phase.now) (tcb_of tcb.old) (context_of C.word_of context.old)) }
+    ensures goes_on { GoesOn context.old context.new }
+    ensures received { tcb.new.reassembly_queue ≡ tcb.old.reassembly_queue }
+    ensures identity { tcb.new.identity ≡ tcb.old.identity }
+{
+    context.send_fast_retransmit(tcb)?;
+    let packet = context.answer_packet(phase, tcb)?;
+    context.send_buffered_packets_with(tcb, phase.is_before_cookie_ack(), packet)
+}
+
 /// What was acknowledged shows that the peer is there, so its errors are forgotten (RFC 9260 section 8.1). Then goes out what waited for
-/// it: a shutdown (section 9.2), what is to be sent again at once (section 7.2.4), and what there is room for.
+/// it: a shutdown (section 9.2), what is to be sent again, and what there is room for.
 #[tactic(auto, using(sctp_endpoint::proofs::GoesOnLemmas::goes_on_same, sctp_endpoint::proofs::GoesOnLemmas::goes_on_through, sctp_endpoint::proofs::GoesOnLemmas::goes_on_as))]
 fn after_sack<C: Checksum>(
     phase: &mut Phase,
@@ -140,7 +157,5 @@ fn after_sack<C: Checksum>(
         context.tx_error_counter.reset();
     }
     context.maybe_send_shutdown_or_ack(phase, tcb)?;
-    context.send_fast_retransmit(tcb)?;
-    let packet = context.answer_packet(phase, tcb)?;
-    context.send_buffered_packets_with(tcb, phase.is_before_cookie_ack(), packet)
+    send_after(context, phase, tcb)
 }
